@@ -1,8 +1,8 @@
 -- What the first bytes of a region say of it, and what closing its flag, a cut and a torn write make of it.
 use Rattle.std.proofs.Common.{◌≡◌, inl, inr, ℕ, zero, suc, ◌≤◌, false, ltb, List, [], ◌∷◌, length, take, drop, refl, sym, subst, arith, length-take, le-ltb}
-use Rattle.berth_face.specs.Berth.{Torn, Cut}
+use Rattle.berth_face.specs.Berth.{IsClosed, Torn, Cut}
 use Rattle.region_layout.specs.declared.head.Head.TheVariants.{Closed, Version}
-use Rattle.region_layout.specs.Head.{IsClosed, head_of}
+use Rattle.region_layout.specs.Head.{head_of}
 use Rattle.region_layout.proofs.Heads.{closed_head}
 use Rattle.region_reading.proofs.Directories.{head_long}
 use Rattle.adopt.specs.Adopting.{IsBroken, IsLeftBehind}

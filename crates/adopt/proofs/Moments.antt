@@ -1,37 +1,26 @@
--- What a crash may leave at each moment while a region is read, its flag is closed and it is cut.
+-- What a crash may leave, and what may stand, at each moment while a region is read, its flag is closed and it is cut.
 use Rattle.std.proofs.Common.{◌≡◌, ◌⊎◌, inl, inr, ℕ, ◌≤◌, List, [], ◌∷◌, length, take, Ok, Err, refl, sym, ap, subst, ◌∙◌, arith, length-take}
 use Rattle.std.specs.Prelude.{Result, OnOk, OnErr}
-use Rattle.berth_face.specs.Berth.{Pair, Meaning, Passes, Stays, Cut, Torn, RegionWritten, RegionCut}
-use Rattle.berth_face.specs.Moments.{EachNow, Throughout}
-use Rattle.berth_face.proofs.Moments.{started, goes_on, now_of, throughout_map, throughout_join}
+use Rattle.berth_face.specs.Berth.{Pair, Meaning, IsClosed, Passes, Stays, Cut, Torn, RegionWritten, RegionCut}
+use Rattle.berth_face.specs.Moments.{EachNow, KeepsRegion, Meanwhile, StandsHeld, Throughout}
+use Rattle.berth_face.proofs.Moments.{started, goes_on, now_of, throughout_map, throughout_join, through_stay, meanwhile_call, meanwhile_here, meanwhile_join, meanwhile_map, meanwhile_stay}
 use Rattle.region_layout.specs.declared.head.Head.TheVariants.{Version}
-use Rattle.region_layout.specs.Head.{IsClosed, head_of, version_of}
+use Rattle.region_layout.specs.Head.{head_of, version_of}
 use Rattle.region_layout.proofs.Heads.{open_head}
-use Rattle.adopt.specs.Adopting.{AdoptsFrom, ClosedFrom, IsBroken, IsInImage, IsInRoom, IsNoLonger}
+use Rattle.adopt.specs.Adopting.{AdoptsFrom, ClosedFrom, IsBroken, IsInImage, IsNoLonger}
 use Rattle.adopt.specs.Finding.{IsOpenRegion, closed_flag}
 use Rattle.adopt.specs.Taken.{AdoptState}
 use Rattle.adopt.proofs.Heads.{closed_breaks, cut_closed, flag_closed, torn_breaks, torn_cut, untouched}
 
--- a crash now leaves the region that is read, or none
-abbrev pub KeepsRegion : Meaning → Type 0
-KeepsRegion m = EachNow (λ p. (p.region ≡ m.held.region) ⊎ (p.region ≡ [])) m
-
-left_by : (old now region : List ℕ) → IsBroken old now → (region ≡ now) ⊎ (region ≡ []) → (region ≡ []) ⊎ IsBroken old region
+left_by : (old now region : List ℕ) → IsBroken old now → (region ≡ now) ⊎ IsClosed region → IsClosed region ⊎ IsBroken old region
 left_by old now region broken keeps = elim keeps [
   | inl same ↦ inr (subst (IsBroken old) (sym same) broken)
-  | inr lost ↦ inl lost
+  | inr shut ↦ inl shut
 ]
 
 -- a pair comes from itself
 pub from_itself : (a : Meaning) → KeepsRegion a → EachNow (AdoptsFrom a) a
 from_itself a keeps = λ p left. record { from = p; was = left; disk = refl; region = left_by a.held.region a.held.region p.region (untouched a.held.region) (keeps p left) }
-
--- what holds at each moment goes on through a call that changes nothing
-pub through_stay : (a b c : Meaning) (P : Pair → Type 0) → Throughout P a b → Passes b c → Stays b c → Throughout P a c
-through_stay a b c P so_far time stays =
-    goes_on a b c P so_far time
-    (λ t p from to left. now_of a b P so_far p ((stays.leaves t p (omega (arith, from)) (omega (arith, to))).0 left))
-    (λ p left. now_of a b P so_far p ((stays.leaves c.clock p time.later (omega arith)).0 left))
 
 -- a call that changes nothing
 pub adopts_stay : (a b : Meaning) → KeepsRegion a → Passes a b → Stays a b → Throughout (AdoptsFrom a) a b
@@ -45,7 +34,7 @@ adopts_after a b c keeps time stays all =
       from = came.from;
       was = (stays.leaves b.clock came.from time.later (omega arith)).0 came.was;
       disk = came.disk;
-      region = subst (λ (h : Pair). (p.region ≡ []) ⊎ IsBroken h.region p.region) stays.held came.region;
+      region = subst (λ (h : Pair). IsClosed p.region ⊎ IsBroken h.region p.region) stays.held came.region;
     }) all)
 
 -- what reads give behind the write that closes an open flag
@@ -68,21 +57,18 @@ flag_closes result a b open_flag before after time wrote =
     head : head_of a.held.region ≡ Version (version_of a.held.region)
     head = open_head a.held.region open_flag
 
-    inside : (region : List ℕ) → Torn 0 1 a.held.region region ⊎ (region ≡ []) → (region ≡ []) ⊎ IsBroken a.held.region region
+    inside : (region : List ℕ) → Torn 0 1 a.held.region region ⊎ IsClosed region → IsClosed region ⊎ IsBroken a.held.region region
     inside region made = elim made [
       | inl torn ↦ inr (torn_breaks a.held.region region (version_of a.held.region) head torn)
-      | inr lost ↦ inl lost
+      | inr shut ↦ inl shut
     ]
 
 -- ---- once the flag is closed
 
-pub no_region : (region : List ℕ) → region ≡ [] → IsClosed region
-no_region region e = subst IsClosed (sym e) (inl (omega arith))
-
-closed_by : (now region : List ℕ) → IsClosed now → (region ≡ now) ⊎ (region ≡ []) → IsClosed region
+closed_by : (now region : List ℕ) → IsClosed now → (region ≡ now) ⊎ IsClosed region → IsClosed region
 closed_by now region is keeps = elim keeps [
   | inl same ↦ subst IsClosed (sym same) is
-  | inr lost ↦ no_region region lost
+  | inr shut ↦ shut
 ]
 
 pub closed_itself : (a : Meaning) → IsClosed a.held.region → KeepsRegion a → EachNow (ClosedFrom a) a
@@ -131,10 +117,10 @@ region_cut result n a b is before after time made =
       region = closed_by b.held.region p.region (cut_by result n a.held.region b.held.region is made.ok made.err) (after p left);
     })
   where
-    inside : (region : List ℕ) → Cut n a.held.region region ⊎ (region ≡ []) → IsClosed region
+    inside : (region : List ℕ) → Cut n a.held.region region ⊎ IsClosed region → IsClosed region
     inside region cut = elim cut [
       | inl torn ↦ torn_cut n a.held.region region is torn
-      | inr lost ↦ no_region region lost
+      | inr shut ↦ shut
     ]
 
 -- the flag is closed, and then the region stays closed
@@ -152,33 +138,26 @@ adopts_closed a b c open_flag first all =
 
 -- ---- how long the region is meanwhile
 
-kept_short : (now region : List ℕ) (n : ℕ) → length now ≤ n → (region ≡ now) ⊎ (region ≡ []) → length region ≤ n
-kept_short now region n short keeps = elim keeps [
-  | inl same ↦ subst (λ (l : List ℕ). length l ≤ n) (sym same) short
-  | inr lost ↦ subst (λ (l : List ℕ). length l ≤ n) (sym lost) (omega arith)
-]
-
 -- no call at all
-pub short_start : (a : Meaning) → KeepsRegion a → Throughout (IsNoLonger a) a a
-short_start a keeps = started a (IsNoLonger a) (λ p left. kept_short a.held.region p.region (length a.held.region) (omega arith) (keeps p left))
+pub short_start : (a : Meaning) → StandsHeld a → Meanwhile (IsNoLonger a.held.region) a a
+short_start a stands = meanwhile_here a (IsNoLonger a.held.region) stands (omega arith)
 
 -- a call that changes nothing
-pub short_stay : (a b : Meaning) → KeepsRegion a → Passes a b → Stays a b → Throughout (IsNoLonger a) a b
-short_stay a b keeps time stays = through_stay a a b (IsNoLonger a) (short_start a keeps) time stays
+pub short_stay : (a b : Meaning) → StandsHeld a → Passes a b → Stays a b → Meanwhile (IsNoLonger a.held.region) a b
+short_stay a b stands time stays = meanwhile_stay a a b (IsNoLonger a.held.region) (short_start a stands) time stays
 
 -- such a call before
-pub short_after : (a b c : Meaning) → KeepsRegion a → Passes a b → Stays a b → Throughout (IsNoLonger b) b c → Throughout (IsNoLonger a) a c
-short_after a b c keeps time stays all =
-    throughout_join a b c (IsNoLonger a) (short_stay a b keeps time stays)
-    (subst (λ (h : Pair). Throughout (λ p. length p.region ≤ length h.region) b c) stays.held all)
+pub short_after : (a b c : Meaning) → StandsHeld a → Passes a b → Stays a b → Meanwhile (IsNoLonger b.held.region) b c → Meanwhile (IsNoLonger a.held.region) a c
+short_after a b c stands time stays all =
+    meanwhile_join a b c (IsNoLonger a.held.region) (short_stay a b stands time stays) (subst (λ (h : Pair). Meanwhile (IsNoLonger h.region) b c) stays.held all)
 
-cut_short : (n : ℕ) (old new : List ℕ) → Cut n old new → length new ≤ length old
+cut_short : (n : ℕ) (old new : List ℕ) → Cut n old new → IsNoLonger old new
 cut_short n old new cut =
     let same : length new ≡ length (take (length new) old) = ap (λ (l : List ℕ). length l) cut.front in
     let size = length-take (length new) old in
     omega (arith, same, size)
 
-short_by : {T E : Type 0} (result : Result T E) (n : ℕ) (old new : List ℕ) → OnOk result (new ≡ take n old) → OnErr result (Cut n old new) → length new ≤ length old
+short_by : {T E : Type 0} (result : Result T E) (n : ℕ) (old new : List ℕ) → OnOk result (new ≡ take n old) → OnErr result (Cut n old new) → IsNoLonger old new
 short_by (Ok x) n old new ok err =
     let same : length new ≡ length (take n old) = ap (λ (l : List ℕ). length l) ok in
     let size = length-take n old in
@@ -186,18 +165,14 @@ short_by (Ok x) n old new ok err =
 short_by (Err e) n old new ok err = cut_short n old new err
 
 -- a cut
-pub short_cut : {T E : Type 0} (result : Result T E) (n : ℕ) (a b : Meaning) → KeepsRegion a → KeepsRegion b → Passes a b → RegionCut n result a b → Throughout (IsNoLonger a) a b
+pub short_cut : {T E : Type 0} (result : Result T E) (n : ℕ) (a b : Meaning) → StandsHeld a → StandsHeld b → Passes a b → RegionCut n result a b → Meanwhile (IsNoLonger a.held.region) a b
 short_cut result n a b before after time made =
-    goes_on a a b (IsNoLonger a) (short_start a before) time
-    (λ t p from to left. inside p.region (made.inside t p from to left).2.0)
-    (λ p left. kept_short b.held.region p.region (length a.held.region) (short_by result n a.held.region b.held.region made.ok made.err) (after p left))
-  where
-    inside : (region : List ℕ) → Cut n a.held.region region ⊎ (region ≡ []) → length region ≤ length a.held.region
-    inside region cut = elim cut [
-      | inl torn ↦ cut_short n a.held.region region torn
-      | inr lost ↦ subst (λ (l : List ℕ). length l ≤ length a.held.region) (sym lost) (omega arith)
-    ]
+    meanwhile_call a a b (IsNoLonger a.held.region) (Cut n a.held.region) (short_start a before) time made.meanwhile (λ region cut. cut_short n a.held.region region cut)
+    after (short_by result n a.held.region b.held.region made.ok made.err)
 
 -- so what is held and the region stay within the image
-pub in_room : (s : AdoptState) (a b : Meaning) → IsInImage s a.held.region → Throughout (IsNoLonger a) a b → Throughout (IsInRoom s) a b
-in_room s a b fits all = throughout_map a b (IsNoLonger a) (IsInRoom s) (λ p short. omega (arith, fits, short)) all
+pub in_room : (s : AdoptState) (a b : Meaning) → IsInImage s a.held.region → Meanwhile (IsNoLonger a.held.region) a b → Meanwhile (IsInImage s) a b
+in_room s a b fits all = meanwhile_map a b (IsNoLonger a.held.region) (IsInImage s) fitting all
+  where
+    fitting : (region : List ℕ) → IsNoLonger a.held.region region → IsInImage s region
+    fitting region short = omega (arith, fits, short)

@@ -1,11 +1,10 @@
 -- What an adoption of all columns takes, and what it leaves of a region.
 use Rattle.std.proofs.Common.{◌≡◌, ℕ, ◌<◌, ◌^◌, List, length, map, Option, Some, None, Ok, Err, IsTrue, refl, sym, ap, subst, ◌∙◌}
 use Rattle.std.specs.List.{AllByRecursion}
-use Rattle.berth_face.specs.Berth.{Meaning, Passes, Ended, SameDisk}
-use Rattle.berth_face.specs.Moments.{Throughout}
+use Rattle.berth_face.specs.Berth.{Meaning, IsClosed, Passes, Ended, SameDisk}
+use Rattle.berth_face.specs.Moments.{KeepsRegion, Throughout}
 use Rattle.berth_face.proofs.Moments.{passes_none, passes_on}
 use Rattle.table_state.specs.Tables.{HeldTables, Table}
-use Rattle.region_layout.specs.Head.{IsClosed}
 use Rattle.region_layout.proofs.Heads.{closed_head}
 use Rattle.region_layout.specs.Region.{IsAdoptable}
 use Rattle.region_layout.specs.Drained.{images_of}
@@ -28,7 +27,7 @@ use Rattle.adopt.specs.Taken.{AdoptState}
 use Rattle.adopt.proofs.Arranging.{all_known, each_adopted, tables_size}
 use Rattle.adopt.proofs.Ending.{ended_on}
 use Rattle.adopt.proofs.Heads.{closed_breaks, cut_closed, flag_closed}
-use Rattle.adopt.proofs.Moments.{KeepsRegion, adopts_closed, closed_on, closed_start}
+use Rattle.adopt.proofs.Moments.{adopts_closed, closed_on, closed_start}
 
 -- ---- column after column
 

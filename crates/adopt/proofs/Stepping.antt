@@ -1,7 +1,7 @@
 -- What a step answers that takes a column.
 use Rattle.std.proofs.Common.{◌≡◌, true, ℕ, suc, ◌+◌, ◌<◌, ◌≤◌, ◌^◌, List, [], ◌∷◌, ◌++◌, length, take, reverse, Some, None, Result, Ok, Err, sym, ap, subst, ◌∙◌, arith}
 use Rattle.column_bytes.specs.Column.{kind_in}
-use Rattle.region_layout.specs.Head.{IsClosed}
+use Rattle.berth_face.specs.Berth.{IsClosed}
 use Rattle.region_layout.specs.declared.directory.Directory.{Directory}
 use Rattle.region_layout.specs.Region.{allows}
 use Rattle.adopt.specs.declared.spans.Span.{Span}

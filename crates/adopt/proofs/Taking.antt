@@ -3,7 +3,7 @@ use Rattle.std.proofs.Common.{◌≡◌, true, ℕ, suc, ◌+◌, ◌-◌, ◌�
 use Rattle.std.proofs.lemmas.List.{drop-take, take-take}
 use Rattle.column_bytes.specs.Coding.{joined}
 use Rattle.column_bytes.specs.Column.{kind_in}
-use Rattle.region_layout.specs.Head.{IsClosed}
+use Rattle.berth_face.specs.Berth.{IsClosed}
 use Rattle.region_layout.specs.declared.directory.Place.{Place}
 use Rattle.region_layout.specs.Directory.{columns_of}
 use Rattle.region_layout.specs.Region.{MeanIn, allows, column_in, directory_from}

@@ -1,12 +1,12 @@
 -- What a look finds, and what is left in the region between the steps of an adoption.
 use Rattle.std.specs.Prelude.{◌≡◌, ◌⊎◌, ℕ, suc, ◌+◌, ◌-◌, ◌<◌, ◌≤◌, ◌^◌, true, false, not, List, [], ◌∷◌, length, map, take, drop, get_or, slice_get, IfSome, Option, Some, None, Result, Ok, Err, ⊤, Contains, bytes_eq}
 use Rattle.std.specs.List.{AllByRecursion, find, list_any}
-use Rattle.berth_face.specs.Berth.{Pair, Meaning}
+use Rattle.berth_face.specs.Berth.{Pair, Meaning, IsClosed}
 use Rattle.column_bytes.specs.Coding.{joined}
 use Rattle.column_bytes.specs.Column.{kind_in}
 use Rattle.region_layout.specs.declared.head.Head.TheVariants as head
 use Rattle.region_layout.specs.Images.{TableImage}
-use Rattle.region_layout.specs.Head.{IsClosed, head_of}
+use Rattle.region_layout.specs.Head.{head_of}
 use Rattle.leaf_model.specs.Names.{AreDistinct}
 use Rattle.leaf_words.specs.declared.ways.WhyDisk.{WhyDisk}
 use Rattle.leaf_words.specs.declared.ways.WhyDisk.TheVariants as why
@@ -78,7 +78,7 @@ pub record AdoptsFrom (old : Meaning) (p : Pair) : Type 0 where
   pub from : Pair
   pub was : old.leaves old.clock from
   pub disk : p.disk ≡ from.disk
-  pub region : (p.region ≡ []) ⊎ IsBroken old.held.region p.region
+  pub region : IsClosed p.region ⊎ IsBroken old.held.region p.region
 
 -- once the flag was closed every region that a crash leaves is closed, and the disk is as it was
 pub record ClosedFrom (old : Meaning) (p : Pair) : Type 0 where
@@ -108,13 +108,9 @@ pub record Adopting (region : List ℕ) (a : AdoptState) (now : List ℕ) : Type
 abbrev pub IsInImage : AdoptState → List ℕ → Type 0
 IsInImage a region = length (joined a.heap) + length region ≤ a.image_len
 
--- with what was held before the step: no longer than the image, at any moment of it; the one column that the step reads comes on top
-abbrev pub IsInRoom : AdoptState → Pair → Type 0
-IsInRoom a p = length (joined a.heap) + length p.region ≤ a.image_len
-
 -- a region no longer than it was
-abbrev pub IsNoLonger : Meaning → Pair → Type 0
-IsNoLonger old p = length p.region ≤ length old.held.region
+abbrev pub IsNoLonger : List ℕ → List ℕ → Type 0
+IsNoLonger was region = length region ≤ length was
 
 -- What a look finds, and the region that it leaves.
 abbrev pub Finds : List (List ℕ) → List ℕ → List ℕ → Result Found AdoptFault → Type 0

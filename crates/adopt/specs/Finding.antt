@@ -1,7 +1,7 @@
 -- A region whose flag is closed, and how a column is taken off it.
 use Rattle.std.specs.Prelude.{◌≡◌, Bool, not, List, ℕ, ◌∷◌, take, drop, Option, Some, None, Result, Ok, Err, bytes_eq}
 use Rattle.std.specs.List.{list_any}
-use Rattle.region_layout.specs.Head.{IsClosed}
+use Rattle.berth_face.specs.Berth.{IsClosed}
 use Rattle.region_layout.specs.declared.directory.TablePlaces.{TablePlaces}
 use Rattle.region_layout.specs.Region.{MeanIn}
 use Rattle.adopt.specs.declared.spans.Span.{Span}

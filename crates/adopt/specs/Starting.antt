@@ -1,11 +1,11 @@
 -- What an adoption of all columns comes to, and what it leaves of a region.
 use Rattle.std.specs.Prelude.{◌≡◌, ℕ, ◌<◌, ◌^◌, List, length, Option, Some, None, Result, Ok, Err, IsTrue, ⊤}
 use Rattle.std.specs.List.{AllByRecursion}
-use Rattle.berth_face.specs.Berth.{Meaning, Passes, Ended, SameDisk}
+use Rattle.berth_face.specs.Berth.{Meaning, IsClosed, Passes, Ended, SameDisk}
 use Rattle.berth_face.specs.Moments.{Throughout}
 use Rattle.table_state.specs.Tables.{Table}
 use Rattle.region_layout.specs.Images.{TableImage}
-use Rattle.region_layout.specs.Head.{IsClosed, image_names}
+use Rattle.region_layout.specs.Head.{image_names}
 use Rattle.region_layout.specs.Images.{held_of}
 use Rattle.region_layout.specs.Region.{IsAdoptable}
 use Rattle.region_layout.specs.Drained.{images_of}

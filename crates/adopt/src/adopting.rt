@@ -1,13 +1,13 @@
 // An adoption, one column a step.
 ghost use Rattle.std.specs.Prelude.{◌≡◌, ◌≢◌, ◌<◌, ◌≤◌, ℕ, List, length, take, IsTrue, IfOk, IfSome, Ok, Err};
-ghost use Rattle.berth_face.specs.Berth.{Meaning, Passes, Ended, SameDisk};
-ghost use Rattle.berth_face.specs.Moments.{Throughout};
+ghost use Rattle.berth_face.specs.Berth.{Meaning, IsClosed, Passes, Ended, SameDisk};
+ghost use Rattle.berth_face.specs.Moments.{Meanwhile, Throughout};
 ghost use Rattle.berth_face.specs.Causes.{Rose};
 ghost use Rattle.region_layout.specs.Names.{AreNames};
 ghost use Rattle.adopt.specs.declared.found.AdoptFault.TheVariants as fault;
 ghost use Rattle.region_layout.specs.declared.head.Head.TheVariants.{Version};
-ghost use Rattle.region_layout.specs.Head.{IsClosed, head_of};
-ghost use Rattle.adopt.specs.Adopting.{Adopting, AdoptsFrom, AdoptsOn, AreAdopted, ClosedFrom, Finds, IsInRoom, IsNoLonger, KeepsNames, KeepsOn};
+ghost use Rattle.region_layout.specs.Head.{head_of};
+ghost use Rattle.adopt.specs.Adopting.{Adopting, AdoptsFrom, AdoptsOn, AreAdopted, ClosedFrom, Finds, IsInImage, IsNoLonger, KeepsNames, KeepsOn};
 ghost use Rattle.adopt.specs.Finding.{IsOpenRegion, TakesSpan};
 
 use crate::cells::mean_cells;
@@ -79,7 +79,7 @@ impl Adopt {
         ensures moments { IsTrue (B.meaning berth.old).tells → IsClosed (B.meaning berth.old).held.region
             → Throughout (ClosedFrom (B.meaning berth.old)) (B.meaning berth.old) (B.meaning berth.new) }
         ensures inside { (region : List ℕ) → IsTrue (B.meaning berth.old).tells → Adopting region self (B.meaning berth.old).held.region
-            → Throughout (IsInRoom self) (B.meaning berth.old) (B.meaning berth.new) }
+            → Meanwhile (IsInImage self) (B.meaning berth.old) (B.meaning berth.new) }
         ensures time { Passes (B.meaning berth.old) (B.meaning berth.new) }
         ensures cause { result ≡ Err fault.RegionFault → Rose (B.meaning berth.old).region_faults (B.meaning berth.new).region_faults }
         ensures reads { (B.meaning berth.new).disk_reads ≡ (B.meaning berth.old).disk_reads }
@@ -115,7 +115,7 @@ impl Adopt {
         ensures moments { IsTrue (B.meaning berth.old).tells → IsClosed (B.meaning berth.old).held.region
             → Throughout (ClosedFrom (B.meaning berth.old)) (B.meaning berth.old) (B.meaning berth.new) }
         ensures inside { (region : List ℕ) → IsTrue (B.meaning berth.old).tells → Adopting region self (B.meaning berth.old).held.region
-            → Throughout (IsInRoom self) (B.meaning berth.old) (B.meaning berth.new) }
+            → Meanwhile (IsInImage self) (B.meaning berth.old) (B.meaning berth.new) }
         ensures time { Passes (B.meaning berth.old) (B.meaning berth.new) }
         ensures cause { result ≡ Err fault.RegionFault → Rose (B.meaning berth.old).region_faults (B.meaning berth.new).region_faults }
         ensures reads { (B.meaning berth.new).disk_reads ≡ (B.meaning berth.old).disk_reads }
@@ -166,7 +166,7 @@ fn take_span<B: Berth>(
     ensures disks { IsTrue (B.meaning berth.old).tells → Ended SameDisk (B.meaning berth.old) (B.meaning berth.new) }
     ensures moments { IsTrue (B.meaning berth.old).tells → IsClosed (B.meaning berth.old).held.region
         → Throughout (ClosedFrom (B.meaning berth.old)) (B.meaning berth.old) (B.meaning berth.new) }
-    ensures inside { IsTrue (B.meaning berth.old).tells → Throughout (IsNoLonger (B.meaning berth.old)) (B.meaning berth.old) (B.meaning berth.new) }
+    ensures inside { IsTrue (B.meaning berth.old).tells → Meanwhile (IsNoLonger (B.meaning berth.old).held.region) (B.meaning berth.old) (B.meaning berth.new) }
     ensures time { Passes (B.meaning berth.old) (B.meaning berth.new) }
     ensures cause { result ≡ Err fault.RegionFault → Rose (B.meaning berth.old).region_faults (B.meaning berth.new).region_faults }
     ensures reads { (B.meaning berth.new).disk_reads ≡ (B.meaning berth.old).disk_reads }

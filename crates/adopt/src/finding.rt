@@ -1,10 +1,10 @@
 // What stands in a region whose flag was closed.
 ghost use Rattle.std.specs.Prelude.{◌≡◌, ℕ, List, length, map, take, [], true, None, Some, IsTrue, IfOk, Err};
 ghost use Rattle.berth_face.specs.Causes.{Rose};
-ghost use Rattle.berth_face.specs.Berth.{Passes, Ended, SameDisk};
+ghost use Rattle.berth_face.specs.Berth.{IsClosed, Passes, Ended, SameDisk};
 ghost use Rattle.berth_face.specs.Moments.{Throughout};
 ghost use Rattle.region_layout.specs.declared.head.Head.TheVariants.{Version};
-ghost use Rattle.region_layout.specs.Head.{IsClosed, head_of};
+ghost use Rattle.region_layout.specs.Head.{head_of};
 ghost use Rattle.region_layout.specs.declared.directory.TablePlaces.{TablePlaces};
 ghost use Rattle.region_layout.specs.Region.{reads};
 ghost use Rattle.region_reading.specs.Reading.{IsRead, LooksAt};

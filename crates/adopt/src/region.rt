@@ -1,9 +1,8 @@
 // The calls that change a region.
 ghost use Rattle.std.specs.Prelude.{◌≡◌, take, OnOk, OnErr, IsTrue};
 ghost use Rattle.berth_face.specs.Causes.{HasCause};
-ghost use Rattle.berth_face.specs.Berth.{Passes, Ended, SameDisk, Torn};
-ghost use Rattle.berth_face.specs.Moments.{Throughout};
-ghost use Rattle.region_layout.specs.Head.{IsClosed};
+ghost use Rattle.berth_face.specs.Berth.{IsClosed, Passes, Ended, SameDisk, Torn};
+ghost use Rattle.berth_face.specs.Moments.{Meanwhile, Throughout};
 ghost use Rattle.adopt.specs.Adopting.{AdoptsFrom, ClosedFrom, IsNoLonger};
 ghost use Rattle.adopt.specs.Finding.{IsOpenRegion, closed_flag};
 
@@ -30,7 +29,7 @@ pub fn cut<B: Berth>(at: u64, berth: &mut B) -> Result<(), Failed>
     ensures disk { IsTrue (B.meaning berth.old).tells → (B.meaning berth.new).held.disk ≡ (B.meaning berth.old).held.disk }
     ensures disks { IsTrue (B.meaning berth.old).tells → Ended SameDisk (B.meaning berth.old) (B.meaning berth.new) }
     ensures moments { IsTrue (B.meaning berth.old).tells → IsClosed (B.meaning berth.old).held.region → Throughout (ClosedFrom (B.meaning berth.old)) (B.meaning berth.old) (B.meaning berth.new) }
-    ensures inside { IsTrue (B.meaning berth.old).tells → Throughout (IsNoLonger (B.meaning berth.old)) (B.meaning berth.old) (B.meaning berth.new) }
+    ensures inside { IsTrue (B.meaning berth.old).tells → Meanwhile (IsNoLonger (B.meaning berth.old).held.region) (B.meaning berth.old) (B.meaning berth.new) }
     ensures time { Passes (B.meaning berth.old) (B.meaning berth.new) }
     ensures cause { HasCause (B.meaning berth.old).region_faults (B.meaning berth.new).region_faults result }
     ensures reads { (B.meaning berth.new).disk_reads ≡ (B.meaning berth.old).disk_reads }

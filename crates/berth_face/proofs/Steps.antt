@@ -1,14 +1,14 @@
 -- A write and a sync on the disk, for any shape of bytes that a cut write keeps.
-use Rattle.std.proofs.Common.{◌≡◌, ◌⊎◌, ℕ, List, [], sym, subst}
+use Rattle.std.proofs.Common.{◌≡◌, ◌⊎◌, ℕ, List, sym, subst}
 use Rattle.std.specs.Prelude.{length, Result}
-use Rattle.berth_face.specs.Berth.{Pair, Meaning, Passes, Torn, DiskStep, DiskWritten, DiskSynced}
+use Rattle.berth_face.specs.Berth.{Pair, Meaning, IsClosed, Passes, Torn, DiskStep, DiskWritten, DiskSynced}
 use Rattle.berth_face.specs.Moments.{EachNow, Throughout, WithRegion}
 use Rattle.berth_face.proofs.Moments.{started, goes_on}
 
 module _ (at : ℕ) (bytes region : List ℕ) (P : List ℕ → Type 0) (keeps : (old new : List ℕ) → P old → Torn at (length bytes) old new → P new) where
   step : (q p : Pair) → WithRegion region P q → DiskStep (Torn at (length bytes)) q p → WithRegion region P p
   step q p had made = record {
-    region_is = subst (λ (r : List ℕ). (r ≡ region) ⊎ (r ≡ [])) (sym made.0) had.region_is;
+    region_is = subst (λ (r : List ℕ). (r ≡ region) ⊎ IsClosed r) (sym made.0) had.region_is;
     disk_has = keeps q.disk p.disk had.disk_has made.1;
   }
 

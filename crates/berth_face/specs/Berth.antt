@@ -1,5 +1,5 @@
 -- What the calls of a berth do, and what a crash may leave at each moment.
-use Rattle.std.specs.Prelude.{◌≡◌, ◌⊎◌, ◌↔◌, ℕ, ◌+◌, ◌-◌, ◌^◌, ◌<◌, ◌≤◌, min, max, Bool, true, false, List, [], ◌++◌, length, take, drop, replicate, Result, OnOk, OnErr, IfOk}
+use Rattle.std.specs.Prelude.{◌≡◌, ◌≢◌, ◌⊎◌, ◌↔◌, ℕ, ◌+◌, ◌-◌, ◌^◌, ◌<◌, ◌≤◌, min, max, Bool, true, false, List, [], ◌++◌, length, take, drop, replicate, slice_index, Result, OnOk, OnErr, IfOk}
 
 -- the contents of region and disk
 pub record Pair : Type 0 where
@@ -8,7 +8,7 @@ pub record Pair : Type 0 where
 
 -- all that a berth means
 pub record Meaning : Type 1 where
-  -- whether it tells its contents; where it does not, `held` and `leaves` say nothing
+  -- whether it tells its contents; where it does not, `held`, `leaves` and `regions` say nothing
   pub tells : Bool
   -- what reads give
   pub held : Pair
@@ -16,9 +16,15 @@ pub record Meaning : Type 1 where
   pub clock : ℕ
   -- the pairs that a crash at a moment may leave
   pub leaves : ℕ → Pair → Type 0
+  -- the regions that may stand at a moment: the one that reads give, and inside a call what it may have made by then
+  pub regions : ℕ → List ℕ → Type 0
   pub region_faults : ℕ
   pub disk_faults : ℕ
   pub disk_reads : ℕ
+
+-- a region of which nothing is used: shorter than 16 bytes, or its first byte, the flag, is not 1
+abbrev pub IsClosed : List ℕ → Type 0
+IsClosed region = (length region < 16) ⊎ (slice_index region 0 ≢ 1)
 
 -- old with these bytes at this place, and a gap before it filled with zeros
 abbrev pub written : ℕ → List ℕ → List ℕ → List ℕ
@@ -41,6 +47,7 @@ pub record Passes (old new : Meaning) : Type 0 where
   pub tells : new.tells ≡ old.tells
   pub later : old.clock ≤ new.clock
   pub past : (t : ℕ) (p : Pair) → t ≤ old.clock → new.leaves t p ↔ old.leaves t p
+  pub past_regions : (t : ℕ) (region : List ℕ) → t ≤ old.clock → new.regions t region ↔ old.regions t region
   pub region_faults : old.region_faults ≤ new.region_faults
   pub disk_faults : old.disk_faults ≤ new.disk_faults
 
@@ -48,6 +55,7 @@ pub record Passes (old new : Meaning) : Type 0 where
 pub record Stays (old new : Meaning) : Type 0 where
   pub held : new.held ≡ old.held
   pub leaves : (t : ℕ) (p : Pair) → old.clock ≤ t → t ≤ new.clock → new.leaves t p ↔ old.leaves old.clock p
+  pub regions : (t : ℕ) (region : List ℕ) → old.clock ≤ t → t ≤ new.clock → new.regions t region ↔ old.regions old.clock region
 
 -- a call that changes something takes two moments at least; one that fails and changes nothing need not
 abbrev pub Ticks : {T E : Type 0} → Result T E → Meaning → Meaning → Type 0
@@ -61,13 +69,17 @@ Inside step old new = (t : ℕ) (p : Pair) → old.clock < t → t < new.clock �
 abbrev pub Ended : (Pair → Pair → Type 0) → Meaning → Meaning → Type 0
 Ended step old new = (p : Pair) → new.leaves new.clock p → (q : Pair) × old.leaves old.clock q × step q p
 
+-- each region that may stand at a moment inside the call is one that it makes
+abbrev pub Making : (List ℕ → Type 0) → Meaning → Meaning → Type 0
+Making makes old new = (t : ℕ) (region : List ℕ) → old.clock < t → t < new.clock → new.regions t region → makes region
+
 -- a read gives what is there, and fewer bytes than asked where the content ends
 abbrev pub Gives : {E : Type 0} → ℕ → List ℕ → Result ℕ E → List ℕ → Type 0
 Gives at content result buf = IfOk result (λ n. (n ≡ min (length buf) (length content - at)) × (take n buf ≡ take n (drop at content)))
 
--- of an unfinished call on the region: the region is as the call makes it, or is lost; the disk is as it was
+-- Of an unfinished call on the region: the region is one that the call makes, or, where the machine went down, any that is closed. The disk is as it was.
 abbrev pub RegionStep : (List ℕ → Type 0) → Pair → Pair → Type 0
-RegionStep makes q p = (makes p.region ⊎ (p.region ≡ [])) × (p.disk ≡ q.disk)
+RegionStep makes q p = (makes p.region ⊎ IsClosed p.region) × (p.disk ≡ q.disk)
 
 -- the disk is as it was
 abbrev pub SameDisk : Pair → Pair → Type 0
@@ -85,6 +97,7 @@ pub record RegionWritten {T E : Type 0} (at : ℕ) (bytes : List ℕ) (result : 
   pub ticks : Ticks result old new
   pub inside : Inside (RegionStep (Torn at (length bytes) old.held.region)) old new
   pub ended : Ended SameDisk old new
+  pub meanwhile : Making (Torn at (length bytes) old.held.region) old new
 
 pub record RegionCut {T E : Type 0} (len : ℕ) (result : Result T E) (old new : Meaning) : Type 0 where
   pub disk : new.held.disk ≡ old.held.disk
@@ -93,6 +106,7 @@ pub record RegionCut {T E : Type 0} (len : ℕ) (result : Result T E) (old new :
   pub ticks : Ticks result old new
   pub inside : Inside (RegionStep (Cut len old.held.region)) old new
   pub ended : Ended SameDisk old new
+  pub meanwhile : Making (Cut len old.held.region) old new
 
 pub record DiskWritten {T E : Type 0} (at : ℕ) (bytes : List ℕ) (result : Result T E) (old new : Meaning) : Type 0 where
   pub region : new.held.region ≡ old.held.region
@@ -102,6 +116,7 @@ pub record DiskWritten {T E : Type 0} (at : ℕ) (bytes : List ℕ) (result : Re
   pub ticks : Ticks result old new
   pub inside : Inside (DiskStep (Torn at (length bytes))) old new
   pub ended : Ended (DiskStep (Torn at (length bytes))) old new
+  pub meanwhile : Making (λ region. region ≡ old.held.region) old new
 
 pub record DiskSynced {T E : Type 0} (result : Result T E) (old new : Meaning) : Type 0 where
   pub held : new.held ≡ old.held
@@ -109,6 +124,7 @@ pub record DiskSynced {T E : Type 0} (result : Result T E) (old new : Meaning) :
   pub inside : (t : ℕ) (p : Pair) → old.clock < t → t < new.clock → new.leaves t p → old.leaves old.clock p
   pub ended : (p : Pair) → new.leaves new.clock p → old.leaves old.clock p
   pub durable : OnOk result ((p : Pair) → new.leaves new.clock p → p.disk ≡ old.held.disk)
+  pub meanwhile : Making (λ region. region ≡ old.held.region) old new
 
 -- what a berth means that tells nothing of its contents
 abbrev pub untold : ℕ → ℕ → ℕ → Meaning
@@ -117,6 +133,7 @@ untold region_faults disk_faults disk_reads = record {
   held = record { region = []; disk = [] };
   clock = 0;
   leaves = λ t p. ⊥;
+  regions = λ t region. ⊥;
   region_faults = region_faults;
   disk_faults = disk_faults;
   disk_reads = disk_reads;
@@ -126,4 +143,4 @@ untold region_faults disk_faults disk_reads = record {
 pub record OpenedOn (region disk : List ℕ) (m : Meaning) : Type 0 where
   pub tells : m.tells ≡ true
   pub held : m.held ≡ record { region = region; disk = disk }
-  pub pairs : (p : Pair) → m.leaves m.clock p → ((p.region ≡ region) ⊎ (p.region ≡ [])) × (p.disk ≡ disk)
+  pub pairs : (p : Pair) → m.leaves m.clock p → ((p.region ≡ region) ⊎ IsClosed p.region) × (p.disk ≡ disk)

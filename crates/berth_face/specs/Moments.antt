@@ -1,6 +1,6 @@
--- What holds of every pair that a crash may leave, now or at each moment of a run of calls.
-use Rattle.std.specs.Prelude.{◌≡◌, ◌⊎◌, ℕ, ◌≤◌, List, []}
-use Rattle.berth_face.specs.Berth.{Pair, Meaning, Passes}
+-- What holds of every pair that a crash may leave, and of every region that may stand, now or at each moment of a run of calls.
+use Rattle.std.specs.Prelude.{◌≡◌, ◌⊎◌, ℕ, ◌≤◌, List}
+use Rattle.berth_face.specs.Berth.{Pair, Meaning, IsClosed, Passes}
 
 -- of each pair of the present moment
 abbrev pub EachNow : (Pair → Type 0) → Meaning → Type 0
@@ -11,7 +11,20 @@ pub record Throughout (P : Pair → Type 0) (old new : Meaning) : Type 0 where
   pub passes : Passes old new
   pub each : (t : ℕ) (p : Pair) → old.clock ≤ t → t ≤ new.clock → new.leaves t p → P p
 
--- this region or none, and a disk that has P
+-- a crash now leaves the region that reads give, or one that is closed
+abbrev pub KeepsRegion : Meaning → Type 0
+KeepsRegion m = EachNow (λ p. (p.region ≡ m.held.region) ⊎ IsClosed p.region) m
+
+-- what stands now is the region that reads give
+abbrev pub StandsHeld : Meaning → Type 0
+StandsHeld m = (region : List ℕ) → m.regions m.clock region → region ≡ m.held.region
+
+-- of each region that may stand at a moment from old's to new's
+pub record Meanwhile (P : List ℕ → Type 0) (old new : Meaning) : Type 0 where
+  pub passes : Passes old new
+  pub each : (t : ℕ) (region : List ℕ) → old.clock ≤ t → t ≤ new.clock → new.regions t region → P region
+
+-- this region or one that is closed, and a disk that has P
 pub record WithRegion (region : List ℕ) (P : List ℕ → Type 0) (p : Pair) : Type 0 where
-  pub region_is : (p.region ≡ region) ⊎ (p.region ≡ [])
+  pub region_is : (p.region ≡ region) ⊎ IsClosed p.region
   pub disk_has : P p.disk

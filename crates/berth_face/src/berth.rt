@@ -1,8 +1,8 @@
 // A leaf's region of shared memory and its disk.
-ghost use Rattle.std.specs.Prelude.{◌≡◌, ◌⊎◌, ◌+◌, ◌^◌, ◌<◌, ◌≤◌, ℕ, [], length, IfOk, IsErr, IsTrue};
+ghost use Rattle.std.specs.Prelude.{◌≡◌, ◌⊎◌, ◌↔◌, ◌+◌, ◌^◌, ◌<◌, ◌≤◌, ℕ, List, length, IfOk, IsErr, IsTrue};
 ghost use Rattle.std.specs.Io.{ReadsAtMost};
 ghost use Rattle.berth_face.specs.Causes.{Rose, HasCause};
-ghost use Rattle.berth_face.specs.Berth.{Pair, Meaning, Passes, Stays, Gives, RegionWritten, RegionCut, DiskWritten, DiskSynced};
+ghost use Rattle.berth_face.specs.Berth.{Pair, Meaning, IsClosed, Passes, Stays, Gives, RegionWritten, RegionCut, DiskWritten, DiskSynced};
 
 use crate::Failed;
 
@@ -73,8 +73,11 @@ pub trait Berth: Send {
     /// A crash now may leave what reads give.
     ghost stands: { (b : Self) → IsTrue (meaning b).tells → (meaning b).leaves (meaning b).clock (meaning b).held };
 
-    /// A crash now leaves the region that reads give, or with the machine loses it.
-    ghost keeps_region: { (b : Self) (p : Pair) → IsTrue (meaning b).tells → (meaning b).leaves (meaning b).clock p → (p.region ≡ (meaning b).held.region) ⊎ (p.region ≡ []) };
+    /// A crash now leaves the region that reads give. If the machine goes down, it may leave any region that is closed instead, of which nothing is used.
+    ghost keeps_region: { (b : Self) (p : Pair) → IsTrue (meaning b).tells → (meaning b).leaves (meaning b).clock p → (p.region ≡ (meaning b).held.region) ⊎ IsClosed p.region };
+
+    /// What stands now is the region that reads give.
+    ghost region_now: { (b : Self) (region : List ℕ) → IsTrue (meaning b).tells → (meaning b).regions (meaning b).clock region ↔ (region ≡ (meaning b).held.region) };
 
     /// Contents are shorter than 2^63 bytes.
     ghost short: { (b : Self) → IsTrue (meaning b).tells → (length (meaning b).held.region < 2 ^ 63) × (length (meaning b).held.disk < 2 ^ 63) };

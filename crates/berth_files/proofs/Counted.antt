@@ -1,9 +1,9 @@
 -- What a berth over files says of its calls, by what the files say of theirs.
 use Rattle.std.proofs.Common.{◌≡◌, inl, inr, ℕ, ◌≤◌, List, [], ◌∷◌, length, Ok, Err, refl, subst, sym, arith}
 use Rattle.std.specs.Prelude.{◌⊎◌, Result}
-use Rattle.std.proofs.lemmas.Bool.{cases_lt}
 use Rattle.std.proofs.lemmas.List.{take_min}
-use Rattle.berth_face.specs.Berth.{Pair, Meaning, Torn, Passes, Stays, Ticks, RegionWritten, RegionCut, DiskWritten, DiskSynced}
+use Rattle.berth_face.specs.Berth.{Meaning, Torn, Passes, Stays, Ticks, RegionWritten, RegionCut, DiskWritten, DiskSynced}
+use Rattle.berth_face.proofs.Moments as moments
 use Rattle.berth_files.specs.declared.leaf_file.LeafFile.{LeafFile}
 use Rattle.berth_files.specs.declared.leaf_file.LeafFile.TheVariants.{Region, Disk}
 use Rattle.berth_files.specs.Files.{FileWritten, GoesOn, counting}
@@ -11,38 +11,24 @@ use Rattle.berth_files.specs.Files.{FileWritten, GoesOn, counting}
 -- ---- no call, and two calls
 
 pub time_none : (m : Meaning) → GoesOn m m
-time_none m = record { tells = refl; later = omega arith; past = λ t p le. (λ x. x, λ x. x) }
+time_none m = record { tells = refl; later = omega arith; past = λ t p le. (λ x. x, λ x. x); past_regions = λ t r le. (λ x. x, λ x. x) }
 
 pub time_on : (a b c : Meaning) → GoesOn a b → GoesOn b c → GoesOn a c
 time_on a b c ab bc = record {
   tells = subst (λ x. x ≡ a.tells) (sym bc.tells) ab.tells;
   later = omega (arith, ab.later, bc.later);
   past = λ t p le. (λ x. (ab.past t p le).0 ((bc.past t p (omega (arith, le, ab.later))).0 x), λ x. (bc.past t p (omega (arith, le, ab.later))).1 ((ab.past t p le).1 x));
+  past_regions = λ t r le. (
+    λ x. (ab.past_regions t r le).0 ((bc.past_regions t r (omega (arith, le, ab.later))).0 x),
+    λ x. (bc.past_regions t r (omega (arith, le, ab.later))).1 ((ab.past_regions t r le).1 x),
+  );
 }
-
-same_moment : (m : Meaning) (t : ℕ) → m.clock ≤ t → t ≤ m.clock → t ≡ m.clock
-same_moment m t from to = omega arith
 
 pub stays_none : (m : Meaning) → Stays m m
-stays_none m = record {
-  held = refl;
-  leaves = λ t p from to. let is = same_moment m t from to in (λ x. subst (λ (u : ℕ). m.leaves u p) is x, λ x. subst (λ (u : ℕ). m.leaves u p) (sym is) x);
-}
+stays_none m = moments.stays_none m
 
 pub stays_on : (a b c : Meaning) → GoesOn a b → Stays a b → GoesOn b c → Stays b c → Stays a c
-stays_on a b c ga ab gb bc = record { held = subst (λ h. h ≡ a.held) (sym bc.held) ab.held; leaves = leaves }
-  where
-    leaves : (t : ℕ) (p : Pair) → a.clock ≤ t → t ≤ c.clock → (c.leaves t p → a.leaves a.clock p) × (a.leaves a.clock p → c.leaves t p)
-    leaves t p from to = elim (cases_lt b.clock t) [
-      | inl after ↦
-          let at_end = ab.leaves b.clock p ga.later (omega arith) in
-          let on = bc.leaves t p (omega arith) to in
-          (λ x. at_end.0 (on.0 x), λ x. on.1 (at_end.1 x))
-      | inr before ↦
-          let here = ab.leaves t p from before in
-          let on = gb.past t p before in
-          (λ x. here.0 (on.0 x), λ x. on.1 (here.1 x))
-    ]
+stays_on a b c ga ab gb bc = moments.stays_over a b c ga.later gb.past gb.past_regions ab bc
 
 -- ---- a write that is not made
 
@@ -58,6 +44,7 @@ unwritten T E Region at bytes e m = record {
   ticks = (tt, inr (stays_none m));
   inside = λ t p after before left. absurd (omega (arith, after, before));
   ended = λ p left. (p, left, refl);
+  meanwhile = λ t r after before stands. absurd (omega (arith, after, before));
 }
 unwritten T E Disk at bytes e m = record {
   region = refl;
@@ -67,6 +54,7 @@ unwritten T E Disk at bytes e m = record {
   ticks = (tt, inr (stays_none m));
   inside = λ t p after before left. absurd (omega (arith, after, before));
   ended = λ p left. (p, left, (refl, torn_same at (length bytes) p.disk));
+  meanwhile = λ t r after before stands. absurd (omega (arith, after, before));
 }
 
 -- a write of no bytes
@@ -84,10 +72,10 @@ module _ (old new : Meaning) (rf df dr rf' df' dr' : ℕ) where
   after = counting new rf' df' dr'
 
   pub passes_counting : GoesOn old new → rf ≤ rf' → df ≤ df' → Passes before after
-  passes_counting time region disk = record { tells = time.tells; later = time.later; past = time.past; region_faults = region; disk_faults = disk }
+  passes_counting time region disk = record { tells = time.tells; later = time.later; past = time.past; past_regions = time.past_regions; region_faults = region; disk_faults = disk }
 
   pub stays_counting : Stays old new → Stays before after
-  stays_counting same = record { held = same.held; leaves = same.leaves }
+  stays_counting same = record { held = same.held; leaves = same.leaves; regions = same.regions }
 
   stays_or : {X : Type 0} → X ⊎ Stays old new → X ⊎ Stays before after
   stays_or (inl x) = inl x
@@ -106,6 +94,7 @@ module _ (old new : Meaning) (rf df dr rf' df' dr' : ℕ) where
     ticks = ticks_counting result wrote.ticks;
     inside = wrote.inside;
     ended = wrote.ended;
+    meanwhile = wrote.meanwhile;
   }
 
   pub region_cut : {T E : Type 0} (len : ℕ) (result : Result T E) → RegionCut len result old new → RegionCut len result before after
@@ -116,6 +105,7 @@ module _ (old new : Meaning) (rf df dr rf' df' dr' : ℕ) where
     ticks = ticks_counting result made.ticks;
     inside = made.inside;
     ended = made.ended;
+    meanwhile = made.meanwhile;
   }
 
   pub disk_written : {T E : Type 0} (at : ℕ) (bytes : List ℕ) (result : Result T E) → DiskWritten at bytes result old new → DiskWritten at bytes result before after
@@ -127,6 +117,7 @@ module _ (old new : Meaning) (rf df dr rf' df' dr' : ℕ) where
     ticks = ticks_counting result wrote.ticks;
     inside = wrote.inside;
     ended = wrote.ended;
+    meanwhile = wrote.meanwhile;
   }
 
   pub disk_synced : {T E : Type 0} (result : Result T E) → DiskSynced result old new → DiskSynced result before after
@@ -136,4 +127,5 @@ module _ (old new : Meaning) (rf df dr rf' df' dr' : ℕ) where
     inside = made.inside;
     ended = made.ended;
     durable = made.durable;
+    meanwhile = made.meanwhile;
   }

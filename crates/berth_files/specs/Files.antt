@@ -25,6 +25,7 @@ pub record GoesOn (old new : Meaning) : Type 0 where
   pub tells : new.tells ≡ old.tells
   pub later : old.clock ≤ new.clock
   pub past : (t : ℕ) (p : Pair) → t ≤ old.clock → new.leaves t p ↔ old.leaves t p
+  pub past_regions : (t : ℕ) (region : List ℕ) → t ≤ old.clock → new.regions t region ↔ old.regions t region
 
 -- what files mean, with these counts in place of theirs
 abbrev pub counting : Meaning → ℕ → ℕ → ℕ → Meaning
@@ -33,6 +34,7 @@ counting m region_faults disk_faults disk_reads = record {
   held = m.held;
   clock = m.clock;
   leaves = m.leaves;
+  regions = m.regions;
   region_faults = region_faults;
   disk_faults = disk_faults;
   disk_reads = disk_reads;
@@ -44,3 +46,4 @@ pub record MeansFiles (files berth : Meaning) : Type 0 where
   pub held : berth.held ≡ files.held
   pub clock : berth.clock ≡ files.clock
   pub leaves : (t : ℕ) (p : Pair) → berth.leaves t p ↔ files.leaves t p
+  pub regions : (t : ℕ) (region : List ℕ) → berth.regions t region ↔ files.regions t region

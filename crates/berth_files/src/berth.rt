@@ -62,6 +62,8 @@ impl<F: FileCalls + Send + Drop> Berth for FileBerth<F> {
 
     ghost keeps_region = { λ b p told left. F.keeps_region b.files p told left };
 
+    ghost region_now = { λ b region told. F.region_now b.files region told };
+
     ghost short = { λ b told. F.short b.files told };
 
     fn region_len(&mut self) -> Result<u64, Failed> {

@@ -1,7 +1,7 @@
 // The six calls on the two files of a leaf, and what each keeps.
-ghost use Rattle.std.specs.Prelude.{◌≡◌, ◌⊎◌, ◌+◌, ◌^◌, ◌<◌, [], length, IfOk, IsTrue};
+ghost use Rattle.std.specs.Prelude.{◌≡◌, ◌⊎◌, ◌↔◌, ◌+◌, ◌^◌, ◌<◌, ℕ, List, [], length, IfOk, IsTrue};
 ghost use Rattle.std.specs.Io.{ReadsAtMost};
-ghost use Rattle.berth_face.specs.Berth.{Pair, Meaning, Stays, RegionCut, DiskSynced};
+ghost use Rattle.berth_face.specs.Berth.{Pair, Meaning, IsClosed, Stays, RegionCut, DiskSynced};
 ghost use Rattle.berth_files.specs.Files.{GivesSome, FileWritten, GoesOn, content};
 
 use crate::leaf_file::LeafFile;
@@ -12,8 +12,13 @@ use berth_face::Failed;
 /// said of a `FileBerth` is proved over every pair of files that keep them.
 ///
 /// Linux keeps them if the program ends, however it ends. If the machine goes down, it keeps them of
-/// a region in memory beside a disk on a device. A region on a device keeps all but `keeps_region`,
-/// which tells what it keeps instead. A disk in memory does not keep `sync_disk` then.
+/// a disk on a device, whether the region is on a device too or in memory, where it is lost. A disk
+/// in memory does not keep `sync_disk` then.
+///
+/// Asked of a device is that it has what it said is synced, and that a write changes no byte beside
+/// its own. Left out is a sync that fails while a flag is closed: if the machine goes down before a
+/// later call on the region succeeds, the device may have that flag open. Nothing was written to
+/// the disk meanwhile, since the leaf did not come up.
 pub trait FileCalls {
     /// What the files hold, and what a crash at each moment may leave of them. Its counts of faults and of reads say nothing.
     ghost holds: { Self → Meaning };
@@ -58,11 +63,12 @@ pub trait FileCalls {
     /// A crash now may leave what reads give.
     ghost stands: { (f : Self) → IsTrue (holds f).tells → (holds f).leaves (holds f).clock (holds f).held };
 
-    /// A crash now leaves the region that reads give, or with the machine loses it.
-    ///
-    /// If the machine goes down, a region on a device holds what reads give, or any bytes behind a
-    /// closed flag, which a start uses no more than a region that is lost. That is tried, and not proved.
-    ghost keeps_region: { (f : Self) (p : Pair) → IsTrue (holds f).tells → (holds f).leaves (holds f).clock p → (p.region ≡ (holds f).held.region) ⊎ (p.region ≡ []) };
+    /// A crash now leaves the region that reads give. If the machine goes down, it may leave any region that is closed instead: none, where it was in
+    /// memory, and on a device any bytes behind a closed flag.
+    ghost keeps_region: { (f : Self) (p : Pair) → IsTrue (holds f).tells → (holds f).leaves (holds f).clock p → (p.region ≡ (holds f).held.region) ⊎ IsClosed p.region };
+
+    /// What stands now is the region that reads give.
+    ghost region_now: { (f : Self) (region : List ℕ) → IsTrue (holds f).tells → (holds f).regions (holds f).clock region ↔ (region ≡ (holds f).held.region) };
 
     /// A file is shorter than 2^63 bytes.
     ghost short: { (f : Self) → IsTrue (holds f).tells → (length (holds f).held.region < 2 ^ 63) × (length (holds f).held.disk < 2 ^ 63) };

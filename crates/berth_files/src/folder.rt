@@ -11,6 +11,9 @@ use crate::leaf_file::LeafFile;
 use berth_face::Failed;
 use std::alloc::AllocError;
 
+/// The first byte of a region whose flag is open.
+const OPEN: u8 = 1;
+
 /// Two files of one folder, `leaf-L.region` and `leaf-L.disk`, each made at its first write. They tell nothing of what they hold.
 ///
 /// Each file is opened when it is first found, and stays open. While it is open it is locked, so the
@@ -18,13 +21,15 @@ use std::alloc::AllocError;
 /// at each call, as is one that may not be both read and written. On a file system without locks
 /// nothing keeps two programs apart.
 ///
-/// A write at place 0 of the region stands between two syncs of its file, since the flag is written
-/// there. So if the machine goes down, a region on a disk has an open flag only over bytes that were
-/// synced. A flag that was closed is closed on the disk before anything else is written.
+/// The region is changed without syncs only behind a flag that these calls have closed. Each other
+/// change is synced before its call ends, and a write, as of the flag, stands between two syncs. So
+/// if the machine goes down, a region on a disk is what reads give, or its flag is closed.
 #[derive(Drop)]
 pub struct FolderFiles {
     region: Kept,
     disk: Kept,
+    /// Whether a call closed the region's flag, and none wrote it since.
+    is_shut: bool,
 }
 
 impl FolderFiles {
@@ -40,7 +45,28 @@ impl FolderFiles {
         Ok(FolderFiles {
             region: Kept::new(rt, folder, region, access)?,
             disk: Kept::new(rt, folder, disk, access)?,
+            is_shut: false,
         })
+    }
+
+    fn write_region(&mut self, at: u64, bytes: &[u8]) -> Result<(), Failed>
+        requires { at + length bytes.now < 2 ^ 63 }
+    {
+        if at > 0 && self.is_shut {
+            return self.region.write_all(at, bytes);
+        }
+        self.is_shut = false;
+        self.region.write_synced(at, bytes)?;
+        self.is_shut = at == 0 && !matches!(bytes.first(), Some(&OPEN));
+        Ok(())
+    }
+
+    /// Syncs a change that no closed flag hides.
+    fn settle_region(&mut self) -> Result<(), Failed> {
+        if self.is_shut {
+            return Ok(());
+        }
+        self.region.sync()
     }
 }
 
@@ -50,6 +76,8 @@ impl FileCalls for FolderFiles {
     ghost stands = { λ files told. absurd (false≢true told) };
 
     ghost keeps_region = { λ files p told left. absurd left };
+
+    ghost region_now = { λ files region told. absurd (false≢true told) };
 
     ghost short = { λ files told. absurd (false≢true told) };
 
@@ -69,22 +97,24 @@ impl FileCalls for FolderFiles {
 
     fn write_all(&mut self, file: LeafFile, at: u64, bytes: &[u8]) -> Result<(), Failed> {
         match file {
-            // The region's flag stands there.
-            LeafFile::Region if at == 0 => self.region.write_synced(at, bytes),
-            LeafFile::Region => self.region.write_all(at, bytes),
+            LeafFile::Region => self.write_region(at, bytes),
             LeafFile::Disk => self.disk.write_all(at, bytes),
         }
     }
 
     fn lengthen(&mut self, file: LeafFile, len: u64) -> Result<(), Failed> {
         match file {
-            LeafFile::Region => self.region.lengthen(len),
+            LeafFile::Region => {
+                self.region.lengthen(len)?;
+                self.settle_region()
+            }
             LeafFile::Disk => self.disk.lengthen(len),
         }
     }
 
     fn shorten_region(&mut self, len: u64) -> Result<(), Failed> {
-        self.region.shorten(len)
+        self.region.shorten(len)?;
+        self.settle_region()
     }
 
     fn sync_disk(&mut self) -> Result<(), Failed> {

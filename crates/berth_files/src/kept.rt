@@ -155,15 +155,16 @@ impl Kept {
         self.file.as_mut().ok_or(Failed)
     }
 
-    /// Opens the file, and locks it where it is to be written. None is a file that is not there.
+    /// Opens the file, and where it is to be written locks and syncs it. None is a file that is not there.
     ///
-    /// One that was told as missing has no bytes: else another program has made it meanwhile.
+    /// One that was told as missing has no bytes: else another program has made it meanwhile. The sync
+    /// gives the device what a program wrote that ended before its own sync.
     fn open(&mut self, create: bool) -> Result<Option<File>, Failed> {
         let was_missing = mem::replace(&mut self.is_missing, false);
         if matches!(self.access, Access::Look) {
             return look_at(&self.rt, self.path.as_str());
         }
-        let Some(file) = find(&self.rt, self.path.as_str(), create)? else {
+        let Some(mut file) = find(&self.rt, self.path.as_str(), create)? else {
             self.is_missing = true;
             return Ok(None);
         };
@@ -171,6 +172,7 @@ impl Kept {
         if was_missing && len_of(&file)? > 0 {
             return Err(Failed);
         }
+        self.is_doubted = sync(&mut file).is_err();
         Ok(Some(file))
     }
 

@@ -5,10 +5,10 @@ use Rattle.berth_mem.specs.declared.record.Wrote.{Wrote}
 use Rattle.berth_mem.specs.declared.record.CutOff.{CutOff}
 use Rattle.berth_mem.specs.declared.record.Call.{Call}
 use Rattle.berth_mem.specs.declared.record.Call.TheVariants.{WroteRegion, CutRegion, WroteDisk, SyncedDisk}
-use Rattle.berth_mem.specs.Record.{Describes, undone, region_undone, disk_undone, disk_before, disks_after, resting, during, moments, leaves_at, meaning_of}
-use Rattle.berth_mem.specs.Laws.{disks_at, at_end, disk_stands}
+use Rattle.berth_mem.specs.Record.{Describes, undone, region_undone, disk_undone, disk_before, disks_after, resting, during, made_of, moments, leaves_at, meaning_of}
+use Rattle.berth_mem.specs.Laws.{disks_at, at_end, disk_stands, lost_closed}
 use Rattle.berth_mem.proofs.Contents.{torn_written, undone_written}
-use Rattle.berth_mem.proofs.Moments.{Pred, moments_push, disk_push, past_push, inside_push, after_push}
+use Rattle.berth_mem.proofs.Moments.{Pred, moments_push, disk_push, past_push, inside_push, after_push, past_regions_push, making_push}
 
 -- the disks that a crash may leave now
 abbrev pub disks_now : List Call → List ℕ → Pred
@@ -39,6 +39,7 @@ module _ (region disk region' disk' : List ℕ) (calls : List Call) (c : Call) (
     tells = refl;
     later = omega (arith, moments_push calls c);
     past = λ t p le. let e = shift t p ∙ past_push c region disk region' disk' region_is disk_is calls (λ d. d ≡ disk_before calls disk) t p le in (λ left. to e left, λ left. from e left);
+    past_regions = λ t now le. let e = past_regions_push c region disk region' disk' region_is disk_is calls t now le in (λ stands. to e stands, λ stands. from e stands);
     region_faults = omega arith;
     disk_faults = omega arith;
   }
@@ -50,6 +51,11 @@ module _ (region disk region' disk' : List ℕ) (calls : List Call) (c : Call) (
   inside t p after before left =
       let is : t ≡ suc (moments calls) = omega (arith, moments_push calls c) in
       to (inside_push c region disk region' disk' region_is disk_is calls (λ d. d ≡ disk_before calls disk) p) (to (shift (suc (moments calls)) p) (subst (λ (u : ℕ). new.leaves u p) is left))
+
+  pub meanwhile : (t : ℕ) (now : List ℕ) → old.clock < t → t < new.clock → new.regions t now → made_of c region now
+  meanwhile t now after before stands =
+      let is : t ≡ suc (moments calls) = omega (arith, moments_push calls c) in
+      to (making_push c region disk region' disk' region_is disk_is calls now) (subst (λ (u : ℕ). new.regions u now) is stands)
 
   pub ended : (p : Pair) → new.leaves new.clock p → resting region' (disks_after c disk' (disks_now calls disk)) p
   ended p left = to (shift new.clock p ∙ after_push c region disk region' disk' region_is disk_is calls (λ d. d ≡ disk_before calls disk) p) left
@@ -92,11 +98,14 @@ module _ {T E : Type 0} (region disk : List ℕ) (calls : List Call) (rf df dr :
               let d = inside region disk (written at bytes region) disk calls c rf df dr back refl t p after before left in (
                 record { region = region; disk = p.disk },
                 now_back region disk calls rf df dr (record { region = region; disk = p.disk }) (inl refl, d.1),
-                (⊎_elim (λ torn. inl (subst (λ (n : ℕ). Torn at n region p.region) len_is (subst (λ (a : ℕ). Torn a w.len region p.region) at_is torn))) (λ lost. inr lost) d.0, refl),
+                (⊎_elim (λ torn. inl (subst (λ (n : ℕ). Torn at n region p.region) len_is (subst (λ (a : ℕ). Torn a w.len region p.region) at_is torn))) (λ lost. inr (lost_closed p.region lost)) d.0, refl),
               );
           ended = λ p left.
               let d = ended region disk (written at bytes region) disk calls c rf df dr back refl p left in
               (record { region = region; disk = p.disk }, now_back region disk calls rf df dr (record { region = region; disk = p.disk }) (inl refl, d.1), refl);
+          meanwhile = λ t now after before stands.
+              let torn = meanwhile region disk (written at bytes region) disk calls c rf df dr back refl t now after before stands in
+              subst (λ (n : ℕ). Torn at n region now) len_is (subst (λ (a : ℕ). Torn a w.len region now) at_is torn);
         },
       )
 
@@ -115,11 +124,13 @@ module _ {T E : Type 0} (region disk : List ℕ) (calls : List Call) (rf df dr :
               let d = inside region disk (take len region) disk calls c rf df dr back refl t p after before left in (
                 record { region = region; disk = p.disk },
                 now_back region disk calls rf df dr (record { region = region; disk = p.disk }) (inl refl, d.1),
-                (⊎_elim (λ torn. inl (subst (λ (n : ℕ). Cut n region p.region) len_is torn)) (λ lost. inr lost) d.0, refl),
+                (⊎_elim (λ torn. inl (subst (λ (n : ℕ). Cut n region p.region) len_is torn)) (λ lost. inr (lost_closed p.region lost)) d.0, refl),
               );
           ended = λ p left.
               let d = ended region disk (take len region) disk calls c rf df dr back refl p left in
               (record { region = region; disk = p.disk }, now_back region disk calls rf df dr (record { region = region; disk = p.disk }) (inl refl, d.1), refl);
+          meanwhile = λ t now after before stands.
+              subst (λ (n : ℕ). Cut n region now) len_is (meanwhile region disk (take len region) disk calls c rf df dr back refl t now after before stands);
         },
       )
 
@@ -151,6 +162,7 @@ module _ {T E : Type 0} (region disk : List ℕ) (calls : List Call) (rf df dr :
                 (refl, subst (λ (l : List ℕ). Torn at (length bytes) disk l) (sym is) (torn_written at bytes disk)),
               ))
               d.1;
+          meanwhile = λ t now after before stands. meanwhile region disk region (written at bytes disk) calls c rf df dr refl back t now after before stands;
         },
       )
     where
@@ -169,6 +181,7 @@ module _ {T E : Type 0} (region disk : List ℕ) (calls : List Call) (rf df dr :
               let d = ended region disk region disk calls c rf df dr refl refl p left in
               now_back region disk calls rf df dr p (d.0, subst (λ (l : List ℕ). disks_now calls disk l) (sym d.1) (disk_stands calls disk (λ e. e ≡ disk_before calls disk) refl));
           durable = λ p left. (ended region disk region disk calls c rf df dr refl refl p left).1;
+          meanwhile = λ t now after before stands. meanwhile region disk region disk calls c rf df dr refl refl t now after before stands;
         },
       )
 

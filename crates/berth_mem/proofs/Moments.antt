@@ -3,7 +3,7 @@ use Rattle.std.proofs.Common.{◌≡◌, ℕ, zero, suc, ◌≤◌, List, [], �
 use Rattle.berth_face.specs.Berth.{Pair}
 use Rattle.berth_mem.specs.declared.record.Call.{Call}
 use Rattle.berth_mem.specs.Laws.{disks_at, at_end}
-use Rattle.berth_mem.specs.Record.{region_undone, disk_undone, region_before, disk_before, disks_after, resting, during, moments, leaves_at}
+use Rattle.berth_mem.specs.Record.{region_undone, disk_undone, region_before, disk_before, disks_after, resting, during, made_of, moments, leaves_at, regions_at}
 
 abbrev pub Pred : Type 1
 Pred = List ℕ → Type 0
@@ -44,3 +44,16 @@ module _ (c : Call) (region disk region' disk' : List ℕ) (region_is : region_u
   -- the moment after it
   pub after_push : (calls : List Call) (disks : Pred) (p : Pair) → leaves_at (calls ++ c ∷ []) region' disk' disks (moments (calls ++ c ∷ [])) p ≡ resting region' (disks_after c disk' (disks_at calls disk disks)) p
   after_push calls disks p = at_end (calls ++ c ∷ []) region' disk' disks p ∙ ap (λ (ds : Pred). resting region' ds p) (disks_push calls disks)
+
+  -- ---- the regions that may stand
+
+  pub past_regions_push : (calls : List Call) (t : ℕ) (now : List ℕ) → t ≤ moments calls → regions_at (calls ++ c ∷ []) region' t now ≡ regions_at calls region t now
+  past_regions_push [] zero now le = ap (λ (l : List ℕ). now ≡ l) region_is
+  past_regions_push [] (suc t) now le = absurd (omega arith)
+  past_regions_push (x ∷ calls) zero now le = ap (λ (l : List ℕ). now ≡ l) (region_push (x ∷ calls))
+  past_regions_push (x ∷ calls) (suc zero) now le = ap (λ (l : List ℕ). made_of x l now) (region_push (x ∷ calls))
+  past_regions_push (x ∷ calls) (suc (suc t)) now le = past_regions_push calls t now (omega arith)
+
+  pub making_push : (calls : List Call) (now : List ℕ) → regions_at (calls ++ c ∷ []) region' (suc (moments calls)) now ≡ made_of c region now
+  making_push [] now = ap (λ (l : List ℕ). made_of c l now) region_is
+  making_push (x ∷ calls) now = making_push calls now

@@ -1,6 +1,6 @@
 -- What the memory forms do besides what each source, sink and berth does.
-use Rattle.std.specs.Prelude.{◌≡◌, ℕ, List, Result, OnErr, IsErr, IsTrue}
-use Rattle.berth_face.specs.Berth.{Meaning, Stays, OpenedOn}
+use Rattle.std.specs.Prelude.{◌≡◌, ◌⊎◌, ℕ, List, [], Result, OnErr, IsErr, IsTrue}
+use Rattle.berth_face.specs.Berth.{Pair, Meaning, Stays, OpenedOn}
 use Rattle.berth_mem.specs.declared.faults.Method.{Method}
 use Rattle.berth_mem.specs.declared.faults.Plan.{Plan}
 use Rattle.berth_mem.specs.declared.stream.MemSource.{MemSource}
@@ -42,9 +42,10 @@ pub record DiskCalled {T E : Type 0} (method : Method) (result : Result T E) (ol
   pub region_faults : (meaning new).region_faults ≡ (meaning old).region_faults
   pub refused : OnErr result (Stays (meaning old) (meaning new))
 
--- a berth that was just made on these contents: at moment 0, and all counts at 0
+-- a berth that was just made on these contents: at moment 0, and all counts at 0; in memory a region that is not kept is lost
 pub record FreshOn (region disk : List ℕ) (berth : MemBerth) : Type 0 where
   pub opened : OpenedOn region disk (meaning berth)
+  pub loses : (p : Pair) → (meaning berth).leaves (meaning berth).clock p → (p.region ≡ region) ⊎ (p.region ≡ [])
   pub clock : (meaning berth).clock ≡ 0
   pub region_faults : (meaning berth).region_faults ≡ 0
   pub disk_faults : (meaning berth).disk_faults ≡ 0

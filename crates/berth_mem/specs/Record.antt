@@ -55,6 +55,13 @@ during (CutRegion c) region disks p = (Cut c.len region p.region ⊎ (p.region �
 during (WroteDisk w) region disks p = ((p.region ≡ region) ⊎ (p.region ≡ [])) × ((d : List ℕ) × disks d × Torn w.at w.len d p.disk)
 during SyncedDisk region disks p = resting region disks p
 
+-- inside a call on this region: what it may have made of it by then
+abbrev pub made_of : Call → List ℕ → List ℕ → Type 0
+made_of (WroteRegion w) region now = Torn w.at w.len region now
+made_of (CutRegion c) region now = Cut c.len region now
+made_of (WroteDisk w) region now = now ≡ region
+made_of SyncedDisk region now = now ≡ region
+
 -- the last moment of these calls: two for each
 abbrev pub moments : List Call → ℕ
 moments [] = zero
@@ -67,6 +74,13 @@ leaves_at [] region disk disks (suc t) p = ⊥
 leaves_at (c ∷ calls) region disk disks (suc zero) p = during c (region_before (c ∷ calls) region) disks p
 leaves_at (c ∷ calls) region disk disks (suc (suc t)) p = leaves_at calls region disk (disks_after c (disk_before calls disk) disks) t p
 
+-- the regions that may stand at a moment, of calls that led to `region`
+abbrev pub regions_at : List Call → List ℕ → ℕ → List ℕ → Type 0
+regions_at calls region zero now = now ≡ region_before calls region
+regions_at [] region (suc t) now = ⊥
+regions_at (c ∷ calls) region (suc zero) now = made_of c (region_before (c ∷ calls) region) now
+regions_at (c ∷ calls) region (suc (suc t)) now = regions_at calls region t now
+
 -- all that a berth in memory means
 abbrev pub meaning_of : List ℕ → List ℕ → List Call → ℕ → ℕ → ℕ → Meaning
 meaning_of region disk calls region_faults disk_faults disk_reads = record {
@@ -74,6 +88,7 @@ meaning_of region disk calls region_faults disk_faults disk_reads = record {
   held = record { region = region; disk = disk };
   clock = moments calls;
   leaves = leaves_at calls region disk (λ d. d ≡ disk_before calls disk);
+  regions = regions_at calls region;
   region_faults = region_faults;
   disk_faults = disk_faults;
   disk_reads = disk_reads;

@@ -7,7 +7,7 @@ ghost use Rattle.berth_mem.specs.Counts.{one_more};
 ghost use Rattle.berth_mem.specs.Plans.{listed, fails_next};
 ghost use Rattle.berth_mem.specs.Forms.{meaning, berth_plan, RegionCalled, DiskCalled, FreshOn};
 ghost use Rattle.berth_mem.specs.Picked.{images_at};
-ghost use Rattle.berth_mem.specs.Laws.{stands, keeps_region, vec_short};
+ghost use Rattle.berth_mem.specs.Laws.{stands, keeps_or_closed, region_now, vec_short};
 ghost use Rattle.berth_mem.specs.declared.faults.Method.TheVariants as method;
 ghost use Rattle.berth_mem.specs.declared.faults.Plan.TheVariants.{Plain, Fused};
 
@@ -129,7 +129,9 @@ impl Berth for MemBerth {
 
     ghost stands = { λ b told. stands b.region.items b.disk.items b.calls.items b.region_faults b.disk_faults b.disk_reads };
 
-    ghost keeps_region = { λ b p told left. keeps_region b.region.items b.disk.items b.calls.items b.region_faults b.disk_faults b.disk_reads p left };
+    ghost keeps_region = { λ b p told left. keeps_or_closed b.region.items b.disk.items b.calls.items b.region_faults b.disk_faults b.disk_reads p left };
+
+    ghost region_now = { λ b region told. region_now b.region.items b.disk.items b.calls.items b.region_faults b.disk_faults b.disk_reads region };
 
     ghost short = { λ b told. (vec_short b.region, vec_short b.disk) };
 

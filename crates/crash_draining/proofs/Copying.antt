@@ -1,9 +1,8 @@
 -- What happens to a leaf that copies its tables into its region.
 use Rattle.std.proofs.Common.{◌≡◌, ◌≢◌, ◌⊎◌, inl, inr, ◌∙◌, ℕ, List, None, map, sym, subst, arith}
 use Rattle.leaf_model.specs.declared.writes.Write.{Write}
-use Rattle.berth_face.specs.Berth.{Meaning}
+use Rattle.berth_face.specs.Berth.{Meaning, IsClosed}
 use Rattle.table_state.specs.Tables.{Table}
-use Rattle.region_layout.specs.Head.{IsClosed}
 use Rattle.region_layout.specs.Region.{IsAdoptable}
 use Rattle.region_layout.specs.Images.{images_of}
 use Rattle.disk_backup.specs.State.{LogState}

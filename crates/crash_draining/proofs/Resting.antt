@@ -4,10 +4,9 @@ use Rattle.std.specs.Prelude.{slice_get}
 use Rattle.std.proofs.lemmas.List.{take_all}
 use Rattle.leaf_model.specs.declared.writes.Write.{Write}
 use Rattle.leaf_history.specs.History.{HistoryState, no_base}
-use Rattle.berth_face.specs.Berth.{Meaning}
+use Rattle.berth_face.specs.Berth.{Meaning, IsClosed}
 use Rattle.berth_face.specs.Moments.{EachNow}
 use Rattle.region_layout.specs.Images.{TableImage}
-use Rattle.region_layout.specs.Head.{IsClosed}
 use Rattle.region_layout.specs.Region.{IsAdoptable}
 use Rattle.disk_backup.specs.Logs.{open_records}
 use Rattle.disk_backup.specs.Settling.{HasLog}

@@ -2,9 +2,8 @@
 use Rattle.std.proofs.Common.{◌≡◌, ◌≢◌, ◌⊎◌, inl, inr, ℕ, ◌≤◌, true, List, [], ◌∷◌, refl, sym, subst, arith}
 use Rattle.std.specs.List.{AllByRecursion}
 use Rattle.leaf_model.specs.declared.writes.Write.{Write}
-use Rattle.berth_face.specs.Berth.{Pair, Meaning}
+use Rattle.berth_face.specs.Berth.{Pair, Meaning, IsClosed}
 use Rattle.berth_face.specs.Moments.{EachNow}
-use Rattle.region_layout.specs.Head.{IsClosed}
 use Rattle.region_layout.specs.Region.{reads}
 use Rattle.disk_backup.specs.Settling.{HasLog}
 use Rattle.drain_copy.specs.declared.step.Next.TheVariants as next
@@ -36,13 +35,13 @@ all_made clock (w ∷ ws) each = (each.0.made, all_made clock ws each.1)
 
 -- a berth that holds this pair, of which a crash leaves just this
 abbrev just : ℕ → Pair → Meaning
-just clock p = record { tells = true; held = p; clock = clock; leaves = λ t q. q ≡ p; region_faults = 0; disk_faults = 0; disk_reads = 0 }
+just clock p = record { tells = true; held = p; clock = clock; leaves = λ t q. q ≡ p; regions = λ t region. region ≡ p.region; region_faults = 0; disk_faults = 0; disk_reads = 0 }
 
 just_each : (P : Pair → Type 0) (clock : ℕ) (p : Pair) → P p → EachNow P (just clock p)
 just_each P clock p has q same = subst P (sym same) has
 
 just_stands : (clock : ℕ) (p : Pair) → StandsNow (just clock p)
-just_stands clock p = record { reads = refl; regions = just_each (λ q. (q.region ≡ p.region) ⊎ (q.region ≡ [])) clock p (inl refl) }
+just_stands clock p = record { reads = refl; regions = just_each (λ q. (q.region ≡ p.region) ⊎ IsClosed q.region) clock p (inl refl) }
 
 module _ (ws : List Watched) (others : NamedStates) (drain : DrainState) (writes : List ℕ → List Write) (a : Meaning) (copies : Copies ws drain writes a) (p : Pair) (log : HasLog writes copies.log_end p.disk) where
   -- a pair with the log and a closed region is of a copy that was not begun

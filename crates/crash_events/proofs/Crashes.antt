@@ -7,7 +7,7 @@ use Rattle.crash_moments.specs.Left.{NamedStates}
 use Rattle.crash_events.specs.Machine.{Machine, Tracked, Down, RegionIs, Closed, Whole, Either, Other}
 use Rattle.crash_events.specs.Events.{Resettled, AfterCrash, Step, crash}
 use Rattle.crash_events.specs.Kept.{AllPlaces}
-use Rattle.crash_events.specs.Fits.{FitsPair, RegionFits, shows_lost, shows_closed, shows_whole, shows_either, shows_other, state_of, IsElsewhere}
+use Rattle.crash_events.specs.Fits.{FitsPair, RegionFits, shows_closed, shows_whole, shows_either, shows_other, state_of, IsElsewhere}
 use Rattle.crash_events.proofs.Places.{no}
 use Rattle.crash_events.proofs.Fresh.{MayHave}
 use Rattle.crash_events.proofs.Ready.{image_of}
@@ -44,11 +44,9 @@ closes Other = tt
 
 region_after : (reads : ℕ → Bool) (base tables : NamedStates) (pair : Pair) (r : RegionIs) → ((name : List ℕ) → tables name ≡ base name) → RegionFits reads base pair r
     → (r' : RegionIs) × AfterCrash r r' × RegionFits reads tables pair r'
-region_after reads base tables pair r same (shows_lost none) = (Closed, closes r, shows_lost none)
-region_after reads base tables pair r same (shows_closed may shut) = (Closed, closes r, shows_closed refl shut)
+region_after reads base tables pair r same (shows_closed shut) = (Closed, closes r, shows_closed shut)
 region_after reads base tables pair Whole same (shows_whole v images records end may is of shut) = (Whole, tt, shows_whole v images records end may is (image_of base tables images same of) shut)
-region_after reads base tables pair Either same (shows_either (shows_lost none)) = (Closed, tt, shows_lost none)
-region_after reads base tables pair Either same (shows_either (shows_closed may shut)) = no (sym may)
+region_after reads base tables pair Either same (shows_either (shows_closed shut)) = (Closed, tt, shows_closed shut)
 region_after reads base tables pair Either same (shows_either (shows_whole v images records end may is of shut)) = (Whole, tt, shows_whole v images records end may is (image_of base tables images same of) shut)
 region_after reads base tables pair Other same (shows_other v head not) = (Other, tt, shows_other v head not)
 

@@ -17,7 +17,7 @@ empty = record { region = []; disk = [] }
 
 -- nothing was written, and every crash leaves nothing
 abbrev pub empty_berth : Meaning
-empty_berth = record { tells = true; held = empty; clock = 0; leaves = λ t p. p ≡ empty; region_faults = 0; disk_faults = 0; disk_reads = 0 }
+empty_berth = record { tells = true; held = empty; clock = 0; leaves = λ t p. p ≡ empty; regions = λ t region. region ≡ []; region_faults = 0; disk_faults = 0; disk_reads = 0 }
 
 abbrev pub no_tables : NamedStates
 no_tables name = no_base

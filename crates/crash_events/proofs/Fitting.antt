@@ -3,17 +3,16 @@ use Rattle.std.proofs.Common.{◌≡◌, ℕ, ◌+◌, ◌≤◌, Bool, true, fa
 use Rattle.std.specs.Prelude.{if◌then◌else◌, bytes_eq}
 use Rattle.std.proofs.lemmas.Slice.Eq.{bytes_eq-Decides}
 use Rattle.std.proofs.Math.Seq.{take-length}
-use Rattle.berth_face.specs.Berth.{Pair}
+use Rattle.berth_face.specs.Berth.{Pair, IsClosed}
 use Rattle.leaf_history.specs.History.{HistoryState}
 use Rattle.row_records.specs.Records.{LogRecord}
 use Rattle.disk_backup.specs.Logs.{IsLog, writes_of}
 use Rattle.disk_backup.proofs.Logs.{one_log, closed_is_log}
 use Rattle.crash_moments.specs.Left.{NamedStates, Left, RegionLeft, closed, other_version, image}
-use Rattle.region_layout.specs.Head.{IsClosed}
 use Rattle.crash_events.specs.Machine.{Machine, Tracked, Hand, Mode, Down, Finding, Scanning, Adopting, Opening, Up, Preparing, Copying, RegionIs, Closed, Whole, Either, Other}
 use Rattle.crash_events.specs.Events.{IsSettled, MayBe}
 use Rattle.crash_events.specs.Kept.{KeptTable, KeptLeaf, Kept, AllPlaces, in_hand, holds_image, is_frozen, may_be_live, stays}
-use Rattle.crash_events.specs.Fits.{RegionFits, shows_lost, shows_closed, shows_whole, shows_either, shows_other, FitsPair, state_of, IsElsewhere}
+use Rattle.crash_events.specs.Fits.{RegionFits, shows_closed, shows_whole, shows_either, shows_other, FitsPair, state_of, IsElsewhere}
 use Rattle.crash_events.specs.Laws.{IsPlain}
 use Rattle.crash_events.proofs.Leaving.{may_be_between}
 use Rattle.crash_events.proofs.Modes.{or_left}
@@ -59,8 +58,7 @@ wholes m records name frozen b (x ∷ xs) k l plain others = by (bytes_eq name x
 regions : (reads : ℕ → Bool) (tables : NamedStates) (pair : Pair) (records : List LogRecord) (end : ℕ) (r : RegionIs) → IsLog pair.disk records end
     → (holds_image r ≡ true → (name : List ℕ) → writes_of name records ≡ (tables name).writes)
     → RegionFits reads tables pair r → RegionLeft reads tables pair
-regions reads tables pair records end r log whole (shows_lost none) = closed (inl (let short : length pair.region ≡ 0 = ap (λ (bytes : List ℕ). length bytes) none in omega (arith, short)))
-regions reads tables pair records end r log whole (shows_closed may shut) = closed shut
+regions reads tables pair records end r log whole (shows_closed shut) = closed shut
 regions reads tables pair records end Whole log whole (shows_whole version images those ends may is of shut) =
     let same : those ≡ records = (one_log pair.disk those records ends end (closed_is_log pair.disk those ends shut) log).0 in
     image version images ends may is of (those, shut, λ name. ap (λ rs. writes_of name rs) same ∙ whole refl name)
@@ -99,8 +97,7 @@ names_closed m name b (x ∷ xs) leaf k live = by (bytes_eq name x.name) (names_
     by false rest here = rest here
 
 closed_fits : (reads : ℕ → Bool) (tables : NamedStates) (pair : Pair) (r : RegionIs) → r ≡ Closed → RegionFits reads tables pair r → IsClosed pair.region
-closed_fits reads tables pair r is (shows_lost none) = inl (let short : length pair.region ≡ 0 = ap (λ (bytes : List ℕ). length bytes) none in omega (arith, short))
-closed_fits reads tables pair r is (shows_closed may shut) = shut
+closed_fits reads tables pair r is (shows_closed shut) = shut
 closed_fits reads tables pair Whole is (shows_whole version images those ends may are of shut) = absurd cc
 closed_fits reads tables pair Either is (shows_either f) = absurd cc
 closed_fits reads tables pair Other is (shows_other version head n) = absurd cc

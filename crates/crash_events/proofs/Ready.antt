@@ -22,7 +22,7 @@ use Rattle.crash_moments.specs.Left.{NamedStates, Left, RegionLeft, closed, othe
 use Rattle.crash_moments.specs.Base.{HasWritesOf, IsBaseOf, IsFixed, HasTwoLengths, PairsMayBegin, IsReady}
 use Rattle.crash_events.specs.Machine.{Machine, Tracked, Down, RegionIs, Closed, Whole, Either, Other}
 use Rattle.crash_events.specs.Kept.{is_frozen}
-use Rattle.crash_events.specs.Fits.{FitsPair, RegionFits, shows_lost, shows_closed, shows_whole, shows_other, state_of, IsElsewhere}
+use Rattle.crash_events.specs.Fits.{FitsPair, RegionFits, shows_closed, shows_whole, shows_other, state_of, IsElsewhere}
 use Rattle.crash_events.specs.Begins.{begun_tables, begun, RegionReads, reads_closed, reads_whole, reads_other, LeavesItself, HasNoOther, MachineBegins}
 use Rattle.crash_events.proofs.Places.{no}
 use Rattle.crash_moments.proofs.Alike.{images_alike}
@@ -108,7 +108,7 @@ no_other reads region v w images end may is head not =
 
 region_fits : (reads : ℕ → Bool) (base tables : NamedStates) (p : Pair) (r : RegionIs) → ((name : List ℕ) → tables name ≡ base name)
     → RegionReads reads p.region r → RegionLeft reads base p → RegionFits reads tables p r
-region_fits reads base tables p Closed same (reads_closed is) left = shows_closed refl is
+region_fits reads base tables p Closed same (reads_closed is) left = shows_closed is
 region_fits reads base tables p Other same (reads_other v head not) left = shows_other v head not
 region_fits reads base tables p Either same shows left = elim shows [ ]
 region_fits reads base tables p Whole same (reads_whole v images e may is) (closed shut) = absurd (closed_head p.region shut v is.has.head)
@@ -137,7 +137,7 @@ pair_fits reads berth base own others r p ready itself distinct none shows left 
       others = λ name far. (l.front name).3 ∙ none_longer (l.front name).0 (base name).writes (none name far);
       region = elim (itself.region p left) [
         | inl held ↦ region_fits reads base (state_of xs) p r same (subst (λ bytes. RegionReads reads bytes r) (sym held) shows) l.region
-        | inr lost ↦ shows_lost lost
+        | inr shut ↦ shows_closed shut
       ];
     }
 

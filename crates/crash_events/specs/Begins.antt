@@ -1,10 +1,11 @@
 -- The machine of a leaf that begins over a berth.
-use Rattle.std.specs.Prelude.{◌≡◌, ◌⊎◌, ℕ, ◌+◌, ◌-◌, ◌==◌, Bool, true, false, List, [], ◌∷◌, ◌++◌, length, map, Some, None, Option, if◌then◌else◌}
-use Rattle.berth_face.specs.Berth.{Pair, Meaning}
+use Rattle.std.specs.Prelude.{◌≡◌, ℕ, ◌+◌, ◌-◌, ◌==◌, Bool, true, false, List, [], ◌∷◌, ◌++◌, length, map, Some, None, Option, if◌then◌else◌}
+use Rattle.berth_face.specs.Berth.{Pair, Meaning, IsClosed}
+use Rattle.berth_face.specs.Moments.{KeepsRegion}
 use Rattle.region_layout.specs.declared.head.Head.TheVariants.{Version}
 use Rattle.region_layout.specs.Images.{TableImage}
 use Rattle.leaf_model.specs.Names.{AreDistinct}
-use Rattle.region_layout.specs.Head.{IsClosed, head_of}
+use Rattle.region_layout.specs.Head.{head_of}
 use Rattle.region_layout.specs.Region.{IsImage}
 use Rattle.crash_moments.specs.Left.{NamedStates}
 use Rattle.crash_moments.specs.Base.{IsReady}
@@ -41,10 +42,10 @@ pub data RegionReads (reads : ℕ → Bool) (region : List ℕ) : RegionIs → T
   reads_whole : (version : ℕ) (images : List TableImage) (end : ℕ) → reads version ≡ true → IsImage version region images end → RegionReads reads region Whole
   reads_other : (version : ℕ) → head_of region ≡ Version version → reads version ≡ false → RegionReads reads region Other
 
--- what every berth promises of the pairs that a crash may leave now: what reads give is one, and the region is that or lost
+-- what every berth promises of the pairs that a crash may leave now: what reads give is one, and the region is that or closed
 pub record LeavesItself (berth : Meaning) : Type 0 where
   pub stands : berth.leaves berth.clock berth.held
-  pub region : (pair : Pair) → berth.leaves berth.clock pair → (pair.region ≡ berth.held.region) ⊎ (pair.region ≡ [])
+  pub region : KeepsRegion berth
 
 -- no other name has writes
 abbrev pub HasNoOther : NamedStates → List Tracked → Type 0

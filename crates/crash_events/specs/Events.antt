@@ -55,7 +55,7 @@ Resettled m t [] (y ∷ ys) = ⊥
 Resettled m t (x ∷ xs) [] = ⊥
 Resettled m t (x ∷ xs) (y ∷ ys) = ((n : ℕ) × MayBe m t x n × (y ≡ record x { sure = n })) × Resettled m (t + 1) xs ys
 
--- what such a region may be after a crash: where the machine was lost it is empty, and so closed
+-- what such a region may be after a crash: where the machine went down it may be closed
 abbrev pub AfterCrash : RegionIs → RegionIs → Type 0
 AfterCrash Closed Closed = ⊤
 AfterCrash Whole Closed = ⊤

@@ -1,28 +1,27 @@
 -- Which regions and disks a crash may leave of a leaf's machine.
 use Rattle.std.specs.Prelude.{◌≡◌, ℕ, Bool, true, false, List, [], ◌∷◌, take, if◌then◌else◌, bytes_eq}
 use Rattle.std.specs.List.{AllByRecursion}
-use Rattle.berth_face.specs.Berth.{Pair}
+use Rattle.berth_face.specs.Berth.{Pair, IsClosed}
 use Rattle.leaf_history.specs.History.{no_base}
 use Rattle.region_layout.specs.declared.head.Head.TheVariants.{Version}
 use Rattle.region_layout.specs.Images.{TableImage}
 use Rattle.region_layout.specs.ImageWrites.{AreImagesOf}
-use Rattle.region_layout.specs.Head.{IsClosed, head_of}
+use Rattle.region_layout.specs.Head.{head_of}
 use Rattle.region_layout.specs.Region.{IsImage}
 use Rattle.row_records.specs.Records.{LogRecord}
 use Rattle.disk_backup.specs.Logs.{IsSound, ClosedLog, writes_of}
 use Rattle.crash_moments.specs.Left.{NamedStates}
 use Rattle.crash_events.specs.Machine.{Machine, Tracked, RegionIs, Whole, Either, Other}
-use Rattle.crash_events.specs.Events.{MayBe, is_whole}
+use Rattle.crash_events.specs.Events.{MayBe}
 use Rattle.crash_events.specs.Kept.{AllPlaces}
 
 -- the log has the sure writes of each table, and the hand's behind them where its gate was begun: all of its record or nothing
 abbrev pub LogFits : Machine → List LogRecord → Type 0
 LogFits m records = AllPlaces (λ t x. (n : ℕ) × MayBe m t x n × (writes_of x.name records ≡ take n x.state.writes)) 0 m.tables
 
--- the region is what the machine says, or empty where the machine was lost
+-- the region is what the machine says, or closed
 pub data RegionFits (reads : ℕ → Bool) (tables : NamedStates) (pair : Pair) : RegionIs → Type 0 where
-  shows_lost : {r : RegionIs} → pair.region ≡ [] → RegionFits reads tables pair r
-  shows_closed : {r : RegionIs} → is_whole r ≡ false → IsClosed pair.region → RegionFits reads tables pair r
+  shows_closed : {r : RegionIs} → IsClosed pair.region → RegionFits reads tables pair r
   shows_whole : (version : ℕ) (images : List TableImage) (records : List LogRecord) (end : ℕ) → reads version ≡ true → IsImage version pair.region images end
       → AreImagesOf (λ name. (tables name).writes) images → ClosedLog records end pair.disk → RegionFits reads tables pair Whole
   shows_either : RegionFits reads tables pair Whole → RegionFits reads tables pair Either

@@ -3,9 +3,8 @@ use Rattle.std.proofs.Common.{◌≡◌, ◌⊎◌, inl, inr, ◌∙◌, ℕ, tr
 use Rattle.std.specs.Prelude.{IfSome, Result, OnOk, OnErr}
 use Rattle.leaf_model.specs.declared.writes.Write.{Write}
 use Rattle.row_records.specs.Records.{LogRecord}
-use Rattle.berth_face.specs.Berth.{Pair, Meaning, Passes}
+use Rattle.berth_face.specs.Berth.{Pair, Meaning, IsClosed, Passes}
 use Rattle.berth_face.specs.Moments.{EachNow}
-use Rattle.region_layout.specs.Head.{IsClosed}
 use Rattle.region_layout.specs.Region.{reads}
 use Rattle.disk_backup.specs.Logs.{ClosedLog}
 use Rattle.disk_backup.specs.State.{LogState}
@@ -17,7 +16,7 @@ use Rattle.crash_moments.proofs.Telling.{between_wider, none_more, opened_more, 
 use Rattle.crash_states.specs.Standing.{IsLogged, IsOwned, Runs, StandsNow}
 use Rattle.crash_states.proofs.States.{with_owed, without_owed}
 use Rattle.crash_states.proofs.Disks.{short_without, sound_log}
-use Rattle.crash_states.proofs.Pairs.{left_by, lost_closed}
+use Rattle.crash_states.proofs.Pairs.{left_by}
 use Rattle.crash_states.proofs.Lefts.{runs_front, taken_short}
 use Rattle.crash_serving.specs.Laws.{Settles, settled_log, owing_log}
 use Rattle.crash_serving.proofs.Places.{each_more}
@@ -56,7 +55,7 @@ module _ (ws : List Watched) (owner : ℕ) (log log' : LogState) (writes : List 
   came_closed : (after : List LogRecord → List ℕ → Type 0) (p : Pair) → Comes log after a p → IsClosed p.region
   came_closed after p came = elim came.region [
     | inl same ↦ subst IsClosed (sym same) (runs.closed came.from came.before)
-    | inr lost ↦ lost_closed p lost
+    | inr shut ↦ shut
   ]
 
   settling_told : {T E : Type 0} (result : Result T E) → Settled log log' result a b → KeepsLog log log' writes result a b → (others : NamedStates) → Told others ws ws a b

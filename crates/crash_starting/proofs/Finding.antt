@@ -7,14 +7,14 @@ use Rattle.std.proofs.lemmas.Option.{same_Some, slice_get-map}
 use Rattle.leaf_model.specs.declared.writes.Write.{Write}
 use Rattle.leaf_model.specs.Content.{content}
 use Rattle.row_records.specs.Records.{LogRecord}
-use Rattle.berth_face.specs.Berth.{Pair, Meaning, Passes, Ended, SameDisk}
+use Rattle.berth_face.specs.Berth.{Pair, Meaning, IsClosed, Passes, Ended, SameDisk}
 use Rattle.berth_face.specs.Moments.{EachNow}
 use Rattle.table_state.specs.Tables.{HeldTables, Table, added_count}
 use Rattle.region_layout.specs.declared.head.Head.TheVariants.{Version}
 use Rattle.region_layout.specs.Images.{TableImage, table_of, table_named}
 use Rattle.region_layout.specs.Images as layout
 use Rattle.region_layout.specs.ImageWrites.{AreImagesOf}
-use Rattle.region_layout.specs.Head.{IsClosed, image_names}
+use Rattle.region_layout.specs.Head.{image_names}
 use Rattle.region_layout.specs.Region.{IsAdoptable, reads}
 use Rattle.region_layout.proofs.Images.{one_tables, one_log_end}
 use Rattle.leaf_words.specs.declared.ways.WhyDisk.{WhyDisk}
@@ -41,7 +41,6 @@ use Rattle.crash_moments.specs.Left.{NamedStates, RegionLeft, closed, other_vers
 use Rattle.crash_moments.specs.Watched.{Watched, is_watched, now_of, others_then, was_opened}
 use Rattle.crash_states.specs.Standing.{StandsNow, Rests, IsKept, MayHave, tables_of}
 use Rattle.crash_states.proofs.Names.{named_at}
-use Rattle.crash_states.proofs.Pairs.{lost_closed}
 use Rattle.crash_states.proofs.States.{with_more}
 use Rattle.crash_starting.specs.Laws.{Finds, HasContent, names_of}
 use Rattle.crash_starting.proofs.Watching.{watched_later, name_at, named_alike}
@@ -113,7 +112,7 @@ module _ (ws : List Watched) (others : NamedStates) (least : List ℕ → List W
   all_closed : EachNow (λ p. IsClosed p.region) b
   all_closed p left = elim (stands.regions p left) [
     | inl same ↦ subst IsClosed (sym same) (left_closed a.held.region b.held.region region)
-    | inr lost ↦ lost_closed p lost
+    | inr shut ↦ shut
   ]
 
   other_name : (name : List ℕ) → is_watched ws name ≡ false → is_one_of (names_of ws) name ≡ false

@@ -5,10 +5,9 @@ use Rattle.std.proofs.lemmas.Bool.{cases_eq, cases_lt}
 use Rattle.std.proofs.lemmas.List.{nil_from_length}
 use Rattle.leaf_model.specs.declared.writes.Write.{Write}
 use Rattle.row_records.specs.Records.{LogRecord}
-use Rattle.berth_face.specs.Berth.{Pair, Meaning, Ended, SameDisk}
+use Rattle.berth_face.specs.Berth.{Pair, Meaning, IsClosed, Ended, SameDisk}
 use Rattle.berth_face.specs.Moments.{EachNow}
 use Rattle.berth_face.proofs.Moments.{now_of}
-use Rattle.region_layout.specs.Head.{IsClosed}
 use Rattle.region_layout.specs.Region.{reads}
 use Rattle.disk_backup.specs.Scanning.{FirstByte, BeginsScan}
 use Rattle.disk_backup.specs.Settling.{with_writes}
@@ -22,7 +21,6 @@ use Rattle.leaf_opening.proofs.Regions.{left_closed, broken_same}
 use Rattle.crash_moments.specs.Left.{NamedStates, RegionLeft, closed}
 use Rattle.crash_moments.specs.Watched.{Watched}
 use Rattle.crash_states.specs.Standing.{StandsNow, Rests, RegionRests, IsKept, tables_of}
-use Rattle.crash_states.proofs.Pairs.{lost_closed}
 use Rattle.crash_starting.specs.Laws.{OpeningMade}
 use Rattle.crash_starting.proofs.Watching.{watched_later, tables_later}
 
@@ -58,6 +56,7 @@ alone t p = record {
   held = p;
   clock = t;
   leaves = λ u q. q ≡ p;
+  regions = λ u region. region ≡ p.region;
   region_faults = 0;
   disk_faults = 0;
   disk_reads = 0;
@@ -108,7 +107,7 @@ module _ (ws : List Watched) (others : NamedStates) (least : List ℕ → List W
   -- an open region is the one that it was, and beside it the disk is
   region_open : (p : Pair) → OpensFrom a p → (IsClosed p.region → ⊥) → p.region ≡ a.held.region
   region_open p came opened = elim came.region [
-    | inl lost ↦ absurd (opened (lost_closed p lost))
+    | inl shut ↦ absurd (opened shut)
     | inr broken ↦ broken_same a.held.region p.region broken opened
   ]
 

@@ -4,11 +4,10 @@ use Rattle.std.specs.Prelude.{slice_get}
 use Rattle.std.proofs.lemmas.List.{take_all}
 use Rattle.leaf_model.specs.declared.writes.Write.{Write}
 use Rattle.row_records.specs.Records.{LogRecord}
-use Rattle.berth_face.specs.Berth.{Pair, Meaning}
+use Rattle.berth_face.specs.Berth.{Pair, Meaning, IsClosed}
 use Rattle.berth_face.specs.Moments.{EachNow}
 use Rattle.berth_face.proofs.Moments.{passes_none}
 use Rattle.region_layout.specs.Images.{TableImage}
-use Rattle.region_layout.specs.Head.{IsClosed}
 use Rattle.region_layout.specs.Region.{reads, IsAdoptable}
 use Rattle.disk_backup.specs.State.{LogState}
 use Rattle.disk_backup.specs.Settling.{HasLog, with_writes}
@@ -27,7 +26,7 @@ use Rattle.crash_states.specs.Laws.{IsLeftNow}
 use Rattle.crash_states.proofs.Names.{IsOwn, IsForeign, find_name, same_by_name, others_at, no_others, each_at, named_at}
 use Rattle.crash_states.proofs.States.{IsFrontOf, IsBetween, front_short, no_front, front_before, shut_then, now_sound, then_sound, without_owed, with_owed, between_few, logged_front, kept_least, kept_most, treated_front, treated_none}
 use Rattle.crash_states.proofs.Disks.{sound_owing, sound_log}
-use Rattle.crash_states.proofs.Pairs.{left_by, image_left, lost_closed, not_open, rests_region}
+use Rattle.crash_states.proofs.Pairs.{left_by, image_left, not_open, rests_region}
 
 -- ---- a leaf that serves or shuts its tables
 
@@ -177,7 +176,7 @@ holds_left ws others image writes m holds p left =
     let had : HasLog writes holds.log_end p.disk = holds.logs p left in
     elim (holds.stands.regions p left) [
       | inl same ↦ treated_image ws writes m treated others p holds.images holds.log_end had (subst (λ (l : List ℕ). IsAdoptable l holds.images holds.log_end) (sym (same ∙ holds.region)) holds.is) holds.same
-      | inr none ↦ treated_closed ws writes m treated others p holds.log_end had (lost_closed p none)
+      | inr shut ↦ treated_closed ws writes m treated others p holds.log_end had shut
     ]
 
 -- ---- what is told

@@ -4,7 +4,7 @@ use Rattle.std.specs.Prelude.{◌⊎◌}
 use Rattle.std.proofs.lemmas.List.{length-take-le, take_all}
 use Rattle.leaf_model.specs.declared.writes.Write.{Write}
 use Rattle.row_records.specs.Records.{LogRecord}
-use Rattle.berth_face.specs.Berth.{Pair, Meaning, OpenedOn}
+use Rattle.berth_face.specs.Berth.{Pair, Meaning, IsClosed, OpenedOn}
 use Rattle.leaf_history.specs.History.{base_of}
 use Rattle.region_layout.specs.Images.{table_named}
 use Rattle.region_layout.specs.ImageWrites.{IsImageOf}
@@ -40,7 +40,7 @@ module _ (tables : NamedStates) (p : Pair) (m : Meaning) (left : Left reads tabl
   rests_on : Rests [] base_on logged None m
   rests_on = record {
     watched = record { each = tt; apart = tt };
-    stands = record { reads = there; regions = λ q at. subst (λ (r : List ℕ). (q.region ≡ r) ⊎ (q.region ≡ [])) (sym (ap (λ (h : Pair). h.region) o.held)) (o.pairs q at).0 };
+    stands = record { reads = there; regions = λ q at. subst (λ (r : List ℕ). (q.region ≡ r) ⊎ IsClosed q.region) (sym (ap (λ (h : Pair). h.region) o.held)) (o.pairs q at).0 };
     logs = λ q at. inl (subst (HasSoundLog logged) (sym (o.pairs q at).1) sound_log);
     each = λ name. record {
       shut = refl;

@@ -1,9 +1,8 @@
 -- A pair that a crash may leave, by its log and its region.
-use Rattle.std.proofs.Common.{◌≡◌, inl, inr, ℕ, true, false, List, [], length, sym, ap, subst, ◌∙◌, arith}
+use Rattle.std.proofs.Common.{◌≡◌, inl, inr, ℕ, true, false, List, length, sym, subst, ◌∙◌}
 use Rattle.leaf_model.specs.declared.writes.Write.{Write}
-use Rattle.berth_face.specs.Berth.{Pair, Meaning}
+use Rattle.berth_face.specs.Berth.{Pair, Meaning, IsClosed}
 use Rattle.region_layout.specs.Images.{TableImage}
-use Rattle.region_layout.specs.Head.{IsClosed}
 use Rattle.region_layout.specs.Region.{reads, IsAdoptable}
 use Rattle.disk_backup.specs.Settling.{HasLog}
 use Rattle.leaf_history.specs.History.{HistoryState}
@@ -36,13 +35,9 @@ image_left tables writes p images log_end same is are had =
     image is.version images log_end is.reads_it is.is (images_alike writes (λ name. (tables name).writes) images (λ name. sym (same name)) are)
     (log_alike writes (λ name. (tables name).writes) log_end p.disk (λ name. sym (same name)) had)
 
--- a region that was lost is closed
-pub lost_closed : (p : Pair) → p.region ≡ [] → IsClosed p.region
-lost_closed p none = inl (omega (arith, ap (λ (l : List ℕ). length l) none))
-
 -- what may be left of a region that rests
 pub rests_region : (tables : NamedStates) (m : Meaning) (p : Pair) → StandsNow m → RegionRests tables m → m.leaves m.clock p → RegionLeft reads tables p
 rests_region tables m p stands rests left = elim (stands.regions p left) [
   | inl same ↦ subst (λ (region : List ℕ). RegionLeft reads tables (record { region = region; disk = p.disk })) (sym same) (rests p left)
-  | inr none ↦ closed (lost_closed p none)
+  | inr shut ↦ closed shut
 ]

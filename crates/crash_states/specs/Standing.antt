@@ -6,7 +6,7 @@ use Rattle.row_records.specs.Records.{LogRecord}
 use Rattle.table_state.specs.Tables.{Table, added_count, columns_most}
 use Rattle.leaf_history.specs.History.{HistoryState}
 use Rattle.berth_face.specs.Berth.{Meaning}
-use Rattle.berth_face.specs.Moments.{EachNow}
+use Rattle.berth_face.specs.Moments.{EachNow, KeepsRegion}
 use Rattle.region_layout.specs.Images.{TableImage}
 use Rattle.region_layout.specs.Region.{IsAdoptable, reads}
 use Rattle.disk_backup.specs.State.{LogState}
@@ -17,10 +17,10 @@ use Rattle.disk_backup.specs.SoundLogs.{HasSoundLog}
 use Rattle.crash_moments.specs.Left.{NamedStates, RegionLeft}
 use Rattle.crash_moments.specs.Watched.{Watched, AreWatched, IsFoundation, by_name, is_watched, now_of, others_then, was_opened}
 
--- what every berth promises now: what reads give may be left, and the region is that or lost
+-- what every berth promises now: what reads give may be left, and the region is that or closed
 pub record StandsNow (m : Meaning) : Type 0 where
   pub reads : m.leaves m.clock m.held
-  pub regions : EachNow (λ p. (p.region ≡ m.held.region) ⊎ (p.region ≡ [])) m
+  pub regions : KeepsRegion m
 
 -- ---- a leaf that serves or shuts its tables
 

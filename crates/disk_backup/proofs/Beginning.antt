@@ -3,9 +3,8 @@ use Rattle.std.proofs.Common.{◌≡◌, inl, inr, ℕ, ◌≤◌, ◌<◌, List
 use Rattle.std.specs.Prelude.{Result}
 use Rattle.berth_face.specs.Berth.{Pair, Meaning, Passes, Stays, Torn, DiskWritten, written}
 use Rattle.berth_face.specs.Moments.{EachNow, Throughout}
-use Rattle.berth_face.proofs.Moments.{started, goes_on, throughout_join, throughout_map}
+use Rattle.berth_face.proofs.Moments.{started, goes_on, throughout_join, throughout_map, through_stay}
 use Rattle.disk_backup.specs.Scanning.{StepsFrom, BeginsScan, begun}
-use Rattle.disk_backup.proofs.Staying.{through_stay}
 
 -- a pair comes from itself
 pub from_itself : (n : ℕ) (a : Meaning) → EachNow (StepsFrom (BeginsScan n) a) a

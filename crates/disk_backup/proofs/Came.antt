@@ -1,7 +1,7 @@
 -- How pairs come from pairs, through a write and a sync.
-use Rattle.std.proofs.Common.{◌≡◌, ◌⊎◌, inl, inr, ℕ, ◌∙◌, List, [], length, Bool, true, false, refl, sym, ap, subst}
+use Rattle.std.proofs.Common.{◌≡◌, ◌⊎◌, inl, inr, ℕ, ◌∙◌, List, length, Bool, true, false, refl, sym, ap, subst}
 use Rattle.std.specs.Prelude.{Result}
-use Rattle.berth_face.specs.Berth.{Pair, Meaning, Passes, Torn, DiskStep, DiskWritten, DiskSynced}
+use Rattle.berth_face.specs.Berth.{Pair, Meaning, IsClosed, Passes, Torn, DiskStep, DiskWritten, DiskSynced}
 use Rattle.berth_face.specs.Moments.{EachNow, Throughout}
 use Rattle.berth_face.proofs.Moments.{started, goes_on, throughout_join, throughout_map}
 use Rattle.disk_backup.specs.Gates.{OwingAfter, EitherWay}
@@ -19,10 +19,10 @@ came_on end A B C a b p first second =
       from = came.from;
       was = came.was;
       region = elim second.region [
-        | inr none ↦ inr none
+        | inr shut ↦ inr shut
         | inl same ↦ elim came.region [
           | inl e ↦ inl (same ∙ e)
-          | inr e ↦ inr (same ∙ e)
+          | inr shut ↦ inr (subst IsClosed (sym same) shut)
         ]
       ];
       disk = λ front at had. second.disk front at (came.disk front at had);
@@ -37,7 +37,7 @@ module _ (end at n : ℕ) (P : List ℕ → List ℕ → Type 0) (keeps : (front
   step a q p came made = record {
     from = came.from;
     was = came.was;
-    region = subst (λ (r : List ℕ). (r ≡ came.from.region) ⊎ (r ≡ [])) (sym made.0) came.region;
+    region = subst (λ (r : List ℕ). (r ≡ came.from.region) ⊎ IsClosed r) (sym made.0) came.region;
     disk = λ front is had. keeps front q.disk p.disk is (came.disk front is had) made.1;
   }
 
@@ -49,14 +49,14 @@ module _ (end at n : ℕ) (P : List ℕ → List ℕ → Type 0) (keeps : (front
 
 -- once a sync has succeeded, each pair comes from what was read before the write
 pub synced_come : {T E U F : Type 0} (end : ℕ) (A B : List ℕ → List ℕ → Type 0) (at : ℕ) (bytes : List ℕ) (first : Result T E) (second : Result U F) (a b c : Meaning)
-    → a.leaves a.clock a.held → ((p : Pair) → c.leaves c.clock p → (p.region ≡ c.held.region) ⊎ (p.region ≡ [])) → DiskWritten at bytes first a b → DiskSynced second b c
+    → a.leaves a.clock a.held → ((p : Pair) → c.leaves c.clock p → (p.region ≡ c.held.region) ⊎ IsClosed p.region) → DiskWritten at bytes first a b → DiskSynced second b c
     → ((p : Pair) → c.leaves c.clock p → p.disk ≡ b.held.disk) → ((front : List ℕ) → end ≡ length front → A front a.held.disk → B front b.held.disk) → EachNow (Came end A B a) c
 synced_come end A B at bytes first second a b c stands keeps wrote synced durable makes = λ p left. record {
   from = a.held;
   was = stands;
   region = elim (keeps p left) [
     | inl same ↦ inl (same ∙ ap (λ (i : Pair). i.region) synced.held ∙ wrote.region)
-    | inr none ↦ inr none
+    | inr shut ↦ inr shut
   ];
   disk = λ front is had. subst (B front) (sym (durable p left)) (makes front is had);
 }

@@ -4,7 +4,6 @@ pub mod Came
 pub mod Logs
 pub mod Settled
 pub mod Kept
-pub mod Staying
 pub mod Beginning
 pub mod Scanned
 pub mod InOrder

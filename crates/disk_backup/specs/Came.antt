@@ -1,11 +1,11 @@
 -- Each pair of a later moment comes from one before, whatever bytes stand before its disk's gate.
-use Rattle.std.specs.Prelude.{◌≡◌, ◌⊎◌, ℕ, List, [], length}
-use Rattle.berth_face.specs.Berth.{Pair, Meaning}
+use Rattle.std.specs.Prelude.{◌≡◌, ◌⊎◌, ℕ, List, length}
+use Rattle.berth_face.specs.Berth.{Pair, Meaning, IsClosed}
 
--- From some pair before: the region is the same or lost. Where so many bytes stand before the gate of that one's disk,
+-- From some pair before: the region is the same or closed. Where so many bytes stand before the gate of that one's disk,
 -- and it is as `before` says, the disk has the same bytes and is as `after` says.
 pub record Came (end : ℕ) (before after : List ℕ → List ℕ → Type 0) (old : Meaning) (p : Pair) : Type 0 where
   pub from : Pair
   pub was : old.leaves old.clock from
-  pub region : (p.region ≡ from.region) ⊎ (p.region ≡ [])
+  pub region : (p.region ≡ from.region) ⊎ IsClosed p.region
   pub disk : (front : List ℕ) → end ≡ length front → before front from.disk → after front p.disk

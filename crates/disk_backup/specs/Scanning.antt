@@ -3,7 +3,7 @@ use Rattle.std.specs.Prelude.{◌≡◌, ◌⊎◌, ℕ, ◌+◌, ◌<◌, ◌�
 use Rattle.std.specs.List.{AllByRecursion}
 use Rattle.std.specs.Int.{w64, from_le_bytes}
 use Rattle.row_records.specs.Records.{LogRecord, IsRecord, record_bytes}
-use Rattle.berth_face.specs.Berth.{Pair, Meaning, Torn}
+use Rattle.berth_face.specs.Berth.{Pair, Meaning, IsClosed, Torn}
 use Rattle.disk_backup.specs.Logs.{IsLog, ClosedLog, open_records}
 use Rattle.disk_backup.specs.State.{ScanState}
 use Rattle.disk_backup.specs.declared.step.FlushRecord.{FlushRecord}
@@ -12,11 +12,11 @@ use Rattle.disk_backup.specs.declared.step.LogStep.TheVariants.{Record, Ended}
 
 -- ---- before the first read
 
--- the pair comes from one before: its region is the same or lost, and its disk comes from that one's by a step
+-- the pair comes from one before: its region is the same or closed, and its disk comes from that one's by a step
 pub record StepsFrom (step : List ℕ → List ℕ → Type 0) (old : Meaning) (p : Pair) : Type 0 where
   pub from : Pair
   pub was : old.leaves old.clock from
-  pub region : (p.region ≡ from.region) ⊎ (p.region ≡ [])
+  pub region : (p.region ≡ from.region) ⊎ IsClosed p.region
   pub disk : step from.disk p.disk
 
 -- while the first gate is written on a disk that read as `len` bytes: its first byte may be any, and where there was one byte,

@@ -4,7 +4,7 @@ use Rattle.std.specs.List.{AllByRecursion}
 use Rattle.leaf_model.specs.declared.writes.Write.{Write}
 use Rattle.row_records.specs.Records.{LogRecord, IsRecord}
 use Rattle.row_records.specs.Pending.{pending_bytes}
-use Rattle.berth_face.specs.Berth.{Pair, Meaning}
+use Rattle.berth_face.specs.Berth.{Pair, Meaning, IsClosed}
 use Rattle.berth_face.specs.Moments.{EachNow, Throughout}
 use Rattle.disk_backup.specs.Logs.{ClosedLog, open_records, writes_of}
 use Rattle.disk_backup.specs.State.{LogState}
@@ -45,12 +45,12 @@ WithOwed log records disk = ClosedLog (with_owed log.owed records) (end_with log
 abbrev pub WithOrWithout : LogState → List LogRecord → List ℕ → Type 0
 WithOrWithout log records disk = ClosedLog records log.end disk ⊎ WithOwed log records disk
 
--- The pair comes from one before: its region is the same or lost, and whichever records that one's disk held as the log had it,
+-- The pair comes from one before: its region is the same or closed, and whichever records that one's disk held as the log had it,
 -- of these its disk is as `after` says. Disks that a crash may leave may hold different records.
 pub record Comes (log : LogState) (after : List LogRecord → List ℕ → Type 0) (old : Meaning) (p : Pair) : Type 0 where
   pub from : Pair
   pub before : old.leaves old.clock from
-  pub region : (p.region ≡ from.region) ⊎ (p.region ≡ [])
+  pub region : (p.region ≡ from.region) ⊎ IsClosed p.region
   pub disk : (records : List LogRecord) → HoldsLog log records from.disk → after records p.disk
 
 -- what settling does where the berth tells

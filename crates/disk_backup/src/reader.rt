@@ -81,7 +81,7 @@ fn record_at<B: Berth>(
 }
 
 // How many bytes the record at a place has, its length included, where there is room for it and a gate.
-#[tactic(auto, using(crate::proofs::Staying::stays_none))]
+#[tactic(auto, using(berth_face::proofs::Moments::stays_none))]
 fn record_size<B: Berth>(at: u64, len: u64, berth: &mut B) -> Result<u64, LogFault>
     ensures stays { IsTrue (B.meaning berth.old).tells → Stays (B.meaning berth.old) (B.meaning berth.new) }
     ensures time { Passes (B.meaning berth.old) (B.meaning berth.new) }
@@ -105,7 +105,7 @@ fn record_size<B: Berth>(at: u64, len: u64, berth: &mut B) -> Result<u64, LogFau
 }
 
 // So many bytes of the disk.
-#[tactic(auto, using(crate::proofs::Staying::stays_none))]
+#[tactic(auto, using(berth_face::proofs::Moments::stays_none))]
 fn bytes_at<B: Berth>(alloc: Global, at: u64, size: u64, berth: &mut B) -> Result<Vec<u8>, LogFault>
     ensures stays { IsTrue (B.meaning berth.old).tells → Stays (B.meaning berth.old) (B.meaning berth.new) }
     ensures time { Passes (B.meaning berth.old) (B.meaning berth.new) }

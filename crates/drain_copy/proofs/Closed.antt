@@ -4,9 +4,8 @@ use Rattle.std.proofs.lemmas.List.{length-append, length-drop, length-replicate,
 use Rattle.std.proofs.Math.Seq.{take-append_seam}
 use Rattle.std.specs.Prelude.{replicate, ◌-◌}
 use Rattle.std.proofs.lemmas.Bool.{cases_eq}
-use Rattle.berth_face.specs.Berth.{Torn, Cut, written}
-use Rattle.region_layout.specs.Head.{IsClosed}
-use Rattle.drain_copy.specs.Regions.{ClosedOrOpened, ClosedWithin, EndsAt}
+use Rattle.berth_face.specs.Berth.{IsClosed, Torn, Cut, written}
+use Rattle.drain_copy.specs.Regions.{ClosedOrOpened, EndsAt}
 
 pub none_closed : IsClosed []
 none_closed = inl (omega arith)
@@ -58,21 +57,21 @@ head_kept : (m : ℕ) (xs new : List ℕ) → take (suc m) new ≡ take (suc m) 
 head_kept m xs [] e = none_closed
 head_kept m xs (y ∷ ys) e = inr (λ one. let first : y ≡ 0 = cc in omega (arith, first, one))
 
--- a write at the region's end that is cut short leaves it closed, and no longer than the whole write
-pub end_torn : (at n : ℕ) (old new : List ℕ) → 1 ≤ at → EndsAt at old → Torn at n old new → ClosedWithin (at + n) new
+-- a write at the region's end that is cut short leaves it closed
+pub end_torn : (at n : ℕ) (old new : List ℕ) → 1 ≤ at → EndsAt at old → Torn at n old new → IsClosed new
 end_torn zero n old new some ends torn = absurd (omega (arith, some))
 end_torn (suc m) n [] new some ends torn = absurd cc
 end_torn (suc m) n (x ∷ xs) new some ends torn =
     let first : x ≡ 0 = cc in
     let all : min (suc m) (length (x ∷ xs)) ≡ suc m = omega (arith, ends.0) in
     let kept : take (suc m) new ≡ take (suc m) (0 ∷ xs) = subst (λ (k : ℕ). take k new ≡ take (suc m) (0 ∷ xs)) all (torn.before ∙ ap (λ (a : ℕ). take (suc m) (a ∷ xs)) first) in
-    (head_kept m xs new kept, omega (arith, torn.no_longer, ends.0))
+    head_kept m xs new kept
 
-pub end_written : (at : ℕ) (bytes old : List ℕ) → 1 ≤ at → EndsAt at old → ClosedWithin (at + length bytes) (old ++ bytes)
+pub end_written : (at : ℕ) (bytes old : List ℕ) → 1 ≤ at → EndsAt at old → IsClosed (old ++ bytes)
 end_written at bytes [] some ends = absurd cc
 end_written at bytes (x ∷ xs) some ends =
     let first : x ≡ 0 = cc in
-    (inr (λ one. omega (arith, first, one)), omega (arith, ends.0, length-append (x ∷ xs) bytes))
+    inr (λ one. omega (arith, first, one))
 
 -- a write at the region's end
 pub end_whole : (at : ℕ) (bytes old : List ℕ) → EndsAt at old → written at bytes old ≡ old ++ bytes
@@ -83,11 +82,11 @@ end_whole at bytes old ends =
     ap₂ (λ (a b : List ℕ). a ++ bytes ++ b) front back ∙ append-nil (old ++ bytes)
 
 -- 15 bytes behind the flag, however they are cut short
-pub head_torn : (n k : ℕ) (old new : List ℕ) → 16 ≤ n → k ≤ 15 → EndsAt n old → Torn 1 k old new → ClosedWithin n new
-head_torn n k [] new big few ends torn = absurd cc
-head_torn n k (x ∷ xs) new big few ends torn =
+pub head_torn : (n k : ℕ) (old new : List ℕ) → EndsAt n old → Torn 1 k old new → IsClosed new
+head_torn n k [] new ends torn = absurd cc
+head_torn n k (x ∷ xs) new ends torn =
     let first : x ≡ 0 = cc in
-    (behind_torn k xs new (subst (λ (a : ℕ). Torn 1 k (a ∷ xs) new) first torn), omega (arith, torn.no_longer, ends.0, big, few))
+    behind_torn k xs new (subst (λ (a : ℕ). Torn 1 k (a ∷ xs) new) first torn)
 
 pub head_whole : (n : ℕ) (head old : List ℕ) → length head ≡ 15 → EndsAt n old → written 1 head old ≡ 0 ∷ (head ++ drop 16 old)
 head_whole n head [] all ends = absurd cc
@@ -95,10 +94,8 @@ head_whole n head (x ∷ xs) all ends =
     let first : x ≡ 0 = cc in
     ap₂ (λ (a k : ℕ). a ∷ (head ++ drop (1 + k) (x ∷ xs))) first all
 
-pub head_closed : (n : ℕ) (head old : List ℕ) → 16 ≤ n → length head ≡ 15 → EndsAt n old → ClosedWithin n (written 1 head old)
-head_closed n head old big all ends =
-    subst (ClosedWithin n) (sym (head_whole n head old all ends))
-    (inr (λ one. omega (arith, one)), omega (arith, all, big, ends.0, length-append head (drop 16 old), length-drop 16 old))
+pub head_closed : (n : ℕ) (head old : List ℕ) → length head ≡ 15 → EndsAt n old → IsClosed (written 1 head old)
+head_closed n head old all ends = subst IsClosed (sym (head_whole n head old all ends)) (inr (λ one. omega (arith, one)))
 
 pub ends_after : (at : ℕ) (bytes old : List ℕ) → 1 ≤ at → EndsAt at old → EndsAt (at + length bytes) (old ++ bytes)
 ends_after at bytes [] some ends = absurd cc

@@ -3,7 +3,8 @@ use Rattle.std.proofs.Common.{◌≡◌, ℕ, zero, suc, ◌+◌, ◌-◌, ◌^�
 use Rattle.std.proofs.lemmas.List.{length-replicate}
 use Rattle.std.specs.Prelude.{◌≢◌, replicate, fold, Result, OnErr}
 use Rattle.column_bytes.specs.Coding.{joined}
-use Rattle.region_layout.specs.Head.{IsClosed, head_bytes}
+use Rattle.berth_face.specs.Berth.{IsClosed}
+use Rattle.region_layout.specs.Head.{head_bytes}
 use Rattle.region_layout.specs.Region.{layout}
 use Rattle.drain_copy.specs.declared.step.Next.{Next}
 use Rattle.drain_copy.specs.declared.step.Next.TheVariants as next

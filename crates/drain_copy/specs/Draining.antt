@@ -1,9 +1,9 @@
 -- How far a drain has come.
 use Rattle.std.specs.Prelude.{◌≡◌, ◌⊎◌, ℕ, suc, ◌+◌, ◌≤◌, max, List, [], ◌∷◌, ◌++◌, length, map, drop, fold, replicate, ⊤}
-use Rattle.berth_face.specs.Berth.{Pair, Meaning}
+use Rattle.berth_face.specs.Berth.{Pair, Meaning, IsClosed}
 use Rattle.berth_face.specs.Moments.{EachNow}
 use Rattle.column_bytes.specs.Coding.{joined}
-use Rattle.region_layout.specs.Head.{IsClosed, head_bytes}
+use Rattle.region_layout.specs.Head.{head_bytes}
 use Rattle.drain_copy.specs.declared.step.Next.{Next}
 use Rattle.drain_copy.specs.declared.step.Next.TheVariants as next
 use Rattle.drain_copy.specs.declared.step.DrainStep.{DrainStep}
@@ -64,7 +64,7 @@ left_from next.Nothing heap = 0
 abbrev pub left : DrainState → ℕ
 left d = left_from d.next d.heap
 
--- ---- what a crash leaves at each moment of a step, and how long the region then is
+-- ---- what a crash leaves at each moment of a step, and how long the region is meanwhile
 
 -- A pair comes from one before: the disk is the same, and the region is closed, or in the last step it may be the image.
 pub record DrainsFrom (d : DrainState) (old : Meaning) (p : Pair) : Type 0 where
@@ -74,8 +74,8 @@ pub record DrainsFrom (d : DrainState) (old : Meaning) (p : Pair) : Type 0 where
   pub region : IsClosed p.region ⊎ ((d.next ≡ next.Flag) × (p.region ≡ d.image))
 
 -- with the heap as it was before the step: at most the longest column more than the image
-abbrev pub IsInRoom : DrainState → Pair → Type 0
-IsInRoom d p = length p.region + held d ≤ length d.image + longest d.heap
+abbrev pub IsInRoom : DrainState → List ℕ → Type 0
+IsInRoom d region = length region + held d ≤ length d.image + longest d.heap
 
 -- each region that a crash may leave now is closed
 abbrev pub AllClosed : Meaning → Type 0

@@ -1,7 +1,6 @@
 -- What a crash may leave of the region while a step calls on it.
 use Rattle.std.specs.Prelude.{◌≡◌, ◌⊎◌, ℕ, ◌≤◌, List, [], ◌∷◌, length, take}
-use Rattle.berth_face.specs.Berth.{Pair, Meaning}
-use Rattle.region_layout.specs.Head.{IsClosed}
+use Rattle.berth_face.specs.Berth.{Pair, Meaning, IsClosed}
 
 -- the pair comes from one before: the disk is the same, and the region has P
 pub record LeftFrom (P : List ℕ → Type 0) (old : Meaning) (p : Pair) : Type 0 where
@@ -13,10 +12,6 @@ pub record LeftFrom (P : List ℕ → Type 0) (old : Meaning) (p : Pair) : Type 
 -- the region is closed, or an open flag with these bytes behind it
 abbrev pub ClosedOrOpened : List ℕ → List ℕ → Type 0
 ClosedOrOpened behind region = IsClosed region ⊎ (region ≡ 1 ∷ behind)
-
--- the region is closed, and no longer than so many bytes
-abbrev pub ClosedWithin : ℕ → List ℕ → Type 0
-ClosedWithin n region = IsClosed region × (length region ≤ n)
 
 -- the region is no longer than so many bytes
 abbrev pub IsWithin : ℕ → List ℕ → Type 0

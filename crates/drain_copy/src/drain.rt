@@ -2,10 +2,9 @@
 ghost use Rattle.std.specs.Prelude.{◌≡◌, ◌≢◌, ◌⊎◌, ◌↔◌, false, ◌+◌, ◌<◌, ◌≤◌, ◌^◌, ◌++◌, length, map, take, drop, IsTrue, IfOk, IfErr, IfSome, IfNone, OnOk, OnErr, [], ◌∷◌};
 ghost use Rattle.std.specs.List.{AllByRecursion};
 ghost use Rattle.std.specs.VecDeque.{deque_capacity, deque_len};
-ghost use Rattle.berth_face.specs.Berth.{Passes, Ended, SameDisk};
-ghost use Rattle.berth_face.specs.Moments.{Throughout};
+ghost use Rattle.berth_face.specs.Berth.{IsClosed, Passes, Ended, SameDisk};
+ghost use Rattle.berth_face.specs.Moments.{Meanwhile, Throughout};
 ghost use Rattle.berth_face.specs.Causes.{HasCause};
-ghost use Rattle.region_layout.specs.Head.{IsClosed};
 ghost use Rattle.column_bytes.specs.Coding.{joined};
 ghost use Rattle.leaf_model.specs.Names.{AreDistinct};
 ghost use Rattle.region_layout.specs.Names.{IsName};
@@ -16,7 +15,7 @@ ghost use Rattle.region_layout.specs.Drained.{all_columns, has_no_room, images_o
 ghost use Rattle.drain_copy.specs.declared.step.Next.TheVariants as next;
 ghost use Rattle.drain_copy.specs.declared.step.PlanFault.TheVariants as plan_fault;
 ghost use Rattle.drain_copy.specs.Draining.{Draining, DrainsFrom, IsInRoom, AllClosed, IsStep, held, directory_of, image_bytes};
-ghost use Rattle.drain_copy.specs.Regions.{IsCutOrBegun, LeftFrom};
+ghost use Rattle.drain_copy.specs.Regions.{IsCutOrBegun};
 ghost use Rattle.drain_copy.specs.Planned.{NeedRoom, tables_count, tables_size};
 
 use crate::moving::move_tables;
@@ -137,10 +136,10 @@ impl Drain {
         ensures moments { IsTrue (B.meaning berth.old).tells → Draining self.old (B.meaning berth.old).held.region → AllClosed (B.meaning berth.old)
             → Throughout (DrainsFrom self.old (B.meaning berth.old)) (B.meaning berth.old) (B.meaning berth.new) }
         ensures inside { IsTrue (B.meaning berth.old).tells → Draining self.old (B.meaning berth.old).held.region → self.old.next ≢ next.Begin
-            → Throughout (IsInRoom self.old) (B.meaning berth.old) (B.meaning berth.new) }
+            → Meanwhile (IsInRoom self.old) (B.meaning berth.old) (B.meaning berth.new) }
         // At every moment of the first step the region is a front of what it was, as one that is being cut, or has at most 16 bytes.
         ensures begun { IsTrue (B.meaning berth.old).tells → self.old.next ≡ next.Begin
-            → Throughout (LeftFrom (IsCutOrBegun (B.meaning berth.old).held.region) (B.meaning berth.old)) (B.meaning berth.old) (B.meaning berth.new) }
+            → Meanwhile (IsCutOrBegun (B.meaning berth.old).held.region) (B.meaning berth.old) (B.meaning berth.new) }
         ensures time { Passes (B.meaning berth.old) (B.meaning berth.new) }
         ensures cause { HasCause (B.meaning berth.old).region_faults (B.meaning berth.new).region_faults result }
         ensures reads { (B.meaning berth.new).disk_reads ≡ (B.meaning berth.old).disk_reads }
@@ -179,7 +178,7 @@ impl Drain {
         ensures moments { IsTrue (B.meaning berth.old).tells → Draining self.old (B.meaning berth.old).held.region → AllClosed (B.meaning berth.old)
             → Throughout (DrainsFrom self.old (B.meaning berth.old)) (B.meaning berth.old) (B.meaning berth.new) }
         ensures inside { IsTrue (B.meaning berth.old).tells → Draining self.old (B.meaning berth.old).held.region → self.old.next ≢ next.Begin
-            → Throughout (IsInRoom self.old) (B.meaning berth.old) (B.meaning berth.new) }
+            → Meanwhile (IsInRoom self.old) (B.meaning berth.old) (B.meaning berth.new) }
         ensures time { Passes (B.meaning berth.old) (B.meaning berth.new) }
         ensures cause { HasCause (B.meaning berth.old).region_faults (B.meaning berth.new).region_faults result }
         ensures reads { (B.meaning berth.new).disk_reads ≡ (B.meaning berth.old).disk_reads }

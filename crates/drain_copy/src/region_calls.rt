@@ -1,11 +1,10 @@
 // What each step of a drain does to the region.
 ghost use Rattle.std.specs.Prelude.{◌≡◌, ◌⊎◌, ◌+◌, ◌<◌, ◌^◌, ◌≤◌, ◌∷◌, ◌++◌, length, drop, replicate, OnOk, OnErr, IsTrue};
 ghost use Rattle.berth_face.specs.Causes.{HasCause};
-ghost use Rattle.berth_face.specs.Berth.{Passes, Ended, SameDisk};
-ghost use Rattle.berth_face.specs.Moments.{Throughout};
-ghost use Rattle.region_layout.specs.Head.{IsClosed};
+ghost use Rattle.berth_face.specs.Berth.{IsClosed, Passes, Ended, SameDisk};
+ghost use Rattle.berth_face.specs.Moments.{Meanwhile, Throughout};
 ghost use Rattle.drain_copy.specs.Draining.{AllClosed};
-ghost use Rattle.drain_copy.specs.Regions.{LeftFrom, ClosedOrOpened, ClosedWithin, EndsAt, IsCutOrBegun, IsWithin};
+ghost use Rattle.drain_copy.specs.Regions.{LeftFrom, ClosedOrOpened, EndsAt, IsCutOrBegun, IsWithin};
 
 use berth_face::{Berth, Failed};
 
@@ -16,7 +15,7 @@ pub fn begin<B: Berth>(berth: &mut B) -> Result<(), Failed>
     ensures disk { IsTrue (B.meaning berth.old).tells → (B.meaning berth.new).held.disk ≡ (B.meaning berth.old).held.disk }
     ensures disks { IsTrue (B.meaning berth.old).tells → Ended SameDisk (B.meaning berth.old) (B.meaning berth.new) }
     ensures moments { IsTrue (B.meaning berth.old).tells → AllClosed (B.meaning berth.old) → Throughout (LeftFrom IsClosed (B.meaning berth.old)) (B.meaning berth.old) (B.meaning berth.new) }
-    ensures begun { IsTrue (B.meaning berth.old).tells → Throughout (LeftFrom (IsCutOrBegun (B.meaning berth.old).held.region) (B.meaning berth.old)) (B.meaning berth.old) (B.meaning berth.new) }
+    ensures begun { IsTrue (B.meaning berth.old).tells → Meanwhile (IsCutOrBegun (B.meaning berth.old).held.region) (B.meaning berth.old) (B.meaning berth.new) }
     ensures time { Passes (B.meaning berth.old) (B.meaning berth.new) }
     ensures cause { HasCause (B.meaning berth.old).region_faults (B.meaning berth.new).region_faults result }
     ensures reads { (B.meaning berth.new).disk_reads ≡ (B.meaning berth.old).disk_reads }
@@ -31,13 +30,13 @@ pub fn append<B: Berth>(bytes: &[u8], at: u64, berth: &mut B) -> Result<(), Fail
     requires { 1 ≤ at }
     ensures done { IsTrue (B.meaning berth.old).tells → EndsAt at (B.meaning berth.old).held.region
         → OnOk result ((B.meaning berth.new).held.region ≡ (B.meaning berth.old).held.region ++ bytes.now) }
-    ensures failed { IsTrue (B.meaning berth.old).tells → EndsAt at (B.meaning berth.old).held.region → OnErr result (ClosedWithin (at + length bytes.now) (B.meaning berth.new).held.region) }
+    ensures failed { IsTrue (B.meaning berth.old).tells → EndsAt at (B.meaning berth.old).held.region → OnErr result (IsClosed (B.meaning berth.new).held.region) }
     ensures disk { IsTrue (B.meaning berth.old).tells → (B.meaning berth.new).held.disk ≡ (B.meaning berth.old).held.disk }
     ensures disks { IsTrue (B.meaning berth.old).tells → Ended SameDisk (B.meaning berth.old) (B.meaning berth.new) }
     ensures moments { IsTrue (B.meaning berth.old).tells → EndsAt at (B.meaning berth.old).held.region → AllClosed (B.meaning berth.old)
-        → Throughout (LeftFrom (ClosedWithin (at + length bytes.now)) (B.meaning berth.old)) (B.meaning berth.old) (B.meaning berth.new) }
+        → Throughout (LeftFrom IsClosed (B.meaning berth.old)) (B.meaning berth.old) (B.meaning berth.new) }
     ensures inside { IsTrue (B.meaning berth.old).tells → EndsAt at (B.meaning berth.old).held.region
-        → Throughout (LeftFrom (IsWithin (at + length bytes.now)) (B.meaning berth.old)) (B.meaning berth.old) (B.meaning berth.new) }
+        → Meanwhile (IsWithin (at + length bytes.now)) (B.meaning berth.old) (B.meaning berth.new) }
     ensures time { Passes (B.meaning berth.old) (B.meaning berth.new) }
     ensures cause { HasCause (B.meaning berth.old).region_faults (B.meaning berth.new).region_faults result }
     ensures reads { (B.meaning berth.new).disk_reads ≡ (B.meaning berth.old).disk_reads }
@@ -56,9 +55,9 @@ pub fn finish<B: Berth>(directory: &[u8], head: &[u8], at: u64, berth: &mut B) -
     ensures disk { IsTrue (B.meaning berth.old).tells → (B.meaning berth.new).held.disk ≡ (B.meaning berth.old).held.disk }
     ensures disks { IsTrue (B.meaning berth.old).tells → Ended SameDisk (B.meaning berth.old) (B.meaning berth.new) }
     ensures moments { IsTrue (B.meaning berth.old).tells → EndsAt at (B.meaning berth.old).held.region → AllClosed (B.meaning berth.old)
-        → Throughout (LeftFrom (ClosedWithin (at + length directory.now)) (B.meaning berth.old)) (B.meaning berth.old) (B.meaning berth.new) }
+        → Throughout (LeftFrom IsClosed (B.meaning berth.old)) (B.meaning berth.old) (B.meaning berth.new) }
     ensures inside { IsTrue (B.meaning berth.old).tells → EndsAt at (B.meaning berth.old).held.region
-        → Throughout (LeftFrom (IsWithin (at + length directory.now)) (B.meaning berth.old)) (B.meaning berth.old) (B.meaning berth.new) }
+        → Meanwhile (IsWithin (at + length directory.now)) (B.meaning berth.old) (B.meaning berth.new) }
     ensures time { Passes (B.meaning berth.old) (B.meaning berth.new) }
     ensures cause { HasCause (B.meaning berth.old).region_faults (B.meaning berth.new).region_faults result }
     ensures reads { (B.meaning berth.new).disk_reads ≡ (B.meaning berth.old).disk_reads }
@@ -77,7 +76,7 @@ pub fn open<B: Berth>(berth: &mut B) -> Result<(), Failed>
     ensures moments { IsTrue (B.meaning berth.old).tells → AllClosed (B.meaning berth.old)
         → Throughout (LeftFrom (ClosedOrOpened (drop 1 (B.meaning berth.old).held.region)) (B.meaning berth.old)) (B.meaning berth.old) (B.meaning berth.new) }
     ensures inside { IsTrue (B.meaning berth.old).tells → 1 ≤ length (B.meaning berth.old).held.region
-        → Throughout (LeftFrom (IsWithin (length (B.meaning berth.old).held.region)) (B.meaning berth.old)) (B.meaning berth.old) (B.meaning berth.new) }
+        → Meanwhile (IsWithin (length (B.meaning berth.old).held.region)) (B.meaning berth.old) (B.meaning berth.new) }
     ensures time { Passes (B.meaning berth.old) (B.meaning berth.new) }
     ensures cause { HasCause (B.meaning berth.old).region_faults (B.meaning berth.new).region_faults result }
     ensures reads { (B.meaning berth.new).disk_reads ≡ (B.meaning berth.old).disk_reads }

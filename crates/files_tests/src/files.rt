@@ -3,7 +3,7 @@ ghost use Rattle.std.specs.Prelude.{◌≤◌, length, IfOk, IsTrue};
 ghost use Rattle.std.specs.Io.{ReadsAtMost};
 ghost use Rattle.berth_face.specs.Berth.{Gives, OpenedOn, Stays};
 ghost use Rattle.berth_files.specs.Files.{GoesOn, content};
-ghost use Rattle.files_tests.specs.Laws.{keeps_region, short, stands};
+ghost use Rattle.files_tests.specs.Laws.{keeps_region, region_now, short, stands};
 
 use berth_face::{Berth, Failed};
 use berth_files::{FileCalls, LeafFile};
@@ -35,6 +35,8 @@ impl FileCalls for MemFiles {
     ghost stands = { λ f told. stands f.kept };
 
     ghost keeps_region = { λ f p told left. keeps_region f.kept p left };
+
+    ghost region_now = { λ f region told. region_now f.kept region };
 
     ghost short = { λ f told. short f.kept };
 

@@ -7,7 +7,8 @@ use Rattle.std.proofs.lemmas.Slice.Eq.{bytes_eq-Decides}
 use Rattle.region_layout.specs.declared.drained.DrainTable.{DrainTable}
 use Rattle.region_layout.specs.Drained.{images_of}
 use Rattle.region_layout.specs.Images.{TableImage}
-use Rattle.region_layout.specs.Head.{IsClosed, image_names}
+use Rattle.berth_face.specs.Berth.{IsClosed}
+use Rattle.region_layout.specs.Head.{image_names}
 use Rattle.region_layout.proofs.Heads.{closed_head}
 use Rattle.region_layout.specs.declared.directory.TablePlaces.{TablePlaces}
 use Rattle.region_layout.specs.Region.{IsAdoptable, image_of_parts, parts_in}

@@ -2,9 +2,8 @@
 use Rattle.std.proofs.Common.{◌≡◌, ◌⊎◌, ◌∙◌, ℕ, suc, true, List, [], ◌∷◌, length, None, refl, sym, ap, subst, arith}
 use Rattle.std.specs.Prelude.{◌≢◌, IsTrue}
 use Rattle.leaf_model.specs.declared.writes.Write.{Write}
-use Rattle.berth_face.specs.Berth.{Meaning, Passes}
+use Rattle.berth_face.specs.Berth.{Meaning, IsClosed, Passes}
 use Rattle.berth_face.specs.Moments.{Throughout}
-use Rattle.region_layout.specs.Head.{IsClosed}
 use Rattle.region_layout.specs.Region.{IsAdoptable}
 use Rattle.drain_copy.specs.declared.step.Next.{Next}
 use Rattle.drain_copy.specs.declared.step.Next.TheVariants as next

@@ -3,10 +3,10 @@ ghost use Rattle.std.specs.Prelude.{◌≡◌, ◌≢◌, ℕ, List, IsTrue};
 ghost use Rattle.leaf_model.specs.declared.writes.Write.{Write};
 ghost use Rattle.berth_face.specs.Causes.{HasCause};
 ghost use Rattle.berth_face.specs.Berth.{Passes};
-ghost use Rattle.berth_face.specs.Moments.{Throughout};
+ghost use Rattle.berth_face.specs.Moments.{Meanwhile};
 ghost use Rattle.drain_copy.specs.declared.step.Next.TheVariants as next;
 ghost use Rattle.drain_copy.specs.Draining.{IsInRoom};
-ghost use Rattle.drain_copy.specs.Regions.{IsCutOrBegun, LeftFrom};
+ghost use Rattle.drain_copy.specs.Regions.{IsCutOrBegun};
 ghost use Rattle.crash_states.specs.Standing.{Copies};
 ghost use Rattle.leaf_steward.specs.Seated.{AreFounded, watched_by};
 ghost use Rattle.leaf_steward.specs.Making.{Makes};
@@ -66,10 +66,10 @@ impl<'t, B: Berth> Copying<'t, B> {
         // What is still held and the region together never are longer than the image, and while a column is written at most the longest column more.
         ensures room { IsTrue (B.meaning self.entry.1).tells → AreFounded self.entry.0.seated → IsInImage B.meaning self.entry.0 result }
         ensures inside { IsTrue (B.meaning self.entry.1).tells → AreFounded self.entry.0.seated → self.entry.0.drain.next ≢ next.Begin
-            → Throughout (IsInRoom self.entry.0.drain) (B.meaning self.entry.1) (B.meaning (berth_of_copy result)) }
+            → Meanwhile (IsInRoom self.entry.0.drain) (B.meaning self.entry.1) (B.meaning (berth_of_copy result)) }
         // At every moment of the first step the region is a front of what it was, as one that is being cut, or has at most 16 bytes.
         ensures begun { IsTrue (B.meaning self.entry.1).tells → self.entry.0.drain.next ≡ next.Begin
-            → Throughout (LeftFrom (IsCutOrBegun (B.meaning self.entry.1).held.region) (B.meaning self.entry.1)) (B.meaning self.entry.1) (B.meaning (berth_of_copy result)) }
+            → Meanwhile (IsCutOrBegun (B.meaning self.entry.1).held.region) (B.meaning self.entry.1) (B.meaning (berth_of_copy result)) }
         ensures time { Passes (B.meaning self.entry.1) (B.meaning (berth_of_copy result)) }
         ensures cause { HasCause (B.meaning self.entry.1).region_faults (B.meaning (berth_of_copy result)).region_faults result }
         ensures reads { (B.meaning (berth_of_copy result)).disk_reads ≡ (B.meaning self.entry.1).disk_reads }

@@ -3,7 +3,8 @@ use Rattle.std.proofs.Common.{◌≡◌, ◌⊎◌, inl, inr, ℕ, ◌<◌, ◌�
 use Rattle.std.specs.Prelude.{slice_index}
 use Rattle.std.proofs.lemmas.Bool.{cases_lt, cases_eq}
 use Rattle.region_layout.specs.Images.{TableImage}
-use Rattle.region_layout.specs.Head.{IsClosed, version_of}
+use Rattle.berth_face.specs.Berth.{IsClosed}
+use Rattle.region_layout.specs.Head.{version_of}
 use Rattle.region_layout.proofs.Heads.{open_head, shut_head}
 use Rattle.region_layout.specs.Region.{IsAdoptable}
 use Rattle.region_layout.proofs.Images.{not_closed}

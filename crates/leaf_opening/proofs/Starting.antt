@@ -1,10 +1,9 @@
 -- What a crash leaves while a leaf starts, and what a start tells.
-use Rattle.std.proofs.Common.{◌≡◌, ◌⊎◌, inl, inr, ◌∙◌, ℕ, List, [], length, refl, sym, ap, subst, arith, Result, Err}
+use Rattle.std.proofs.Common.{◌≡◌, ◌⊎◌, inl, inr, ◌∙◌, ℕ, List, length, refl, sym, ap, subst, Result, Err}
 use Rattle.std.specs.Prelude.{◌≢◌}
-use Rattle.berth_face.specs.Berth.{Pair, Meaning, Ended, SameDisk}
-use Rattle.berth_face.specs.Moments.{Throughout}
+use Rattle.berth_face.specs.Berth.{Pair, Meaning, IsClosed, Ended, SameDisk}
+use Rattle.berth_face.specs.Moments.{KeepsRegion, Throughout}
 use Rattle.berth_face.proofs.Moments.{throughout_map, throughout_join, now_of}
-use Rattle.region_layout.specs.Head.{IsClosed}
 use Rattle.adopt.specs.Adopting.{AdoptsFrom, IsBroken}
 use Rattle.adopt.specs.declared.found.AdoptFault.{AdoptFault}
 use Rattle.adopt.specs.declared.found.AdoptFault.TheVariants as adopting
@@ -19,10 +18,6 @@ use Rattle.leaf_opening.specs.Starts.{OpensFrom, KeepsDisks}
 
 -- ---- each moment
 
--- a lost region is closed
-lost_closed : (region : List ℕ) → region ≡ [] → IsClosed region
-lost_closed region lost = inl (omega (arith, ap (λ (r : List ℕ). length r) lost))
-
 -- a scan that begins on a disk that reads as before
 pub held_on : (old mid now : List ℕ) → mid ≡ old → BeginsScan (length mid) mid now → BeginsScan (length old) old now
 held_on old mid now same begins = subst (λ (d : List ℕ). BeginsScan (length d) d now) same begins
@@ -34,12 +29,12 @@ module _ (old mid : Meaning) (so_far : Throughout (AdoptsFrom old) old mid) wher
   pub opens_adopting : Throughout (OpensFrom old) old mid
   opens_adopting = throughout_map old mid (AdoptsFrom old) (OpensFrom old) adopt_opens so_far
 
-  module _ (same_disk : mid.held.disk ≡ old.held.disk) (shut : IsClosed mid.held.region) (keeps : (p : Pair) → mid.leaves mid.clock p → (p.region ≡ mid.held.region) ⊎ (p.region ≡ [])) where
+  module _ (same_disk : mid.held.disk ≡ old.held.disk) (shut : IsClosed mid.held.region) (keeps : KeepsRegion mid) where
     -- an adoption that went well leaves no open region
     left_shut : (p : Pair) → mid.leaves mid.clock p → IsClosed p.region
     left_shut p left = elim (keeps p left) [
       | inl same ↦ subst IsClosed (sym same) shut
-      | inr lost ↦ lost_closed p.region lost
+      | inr closed ↦ closed
     ]
 
     -- a pair of the recovery comes from one that the adoption left, and that from one before it
@@ -51,13 +46,13 @@ module _ (old mid : Meaning) (so_far : Throughout (AdoptsFrom old) old mid) wher
           from = first.from;
           was = first.was;
           region = elim came.region [
-            | inl same ↦ subst (λ (r : List ℕ). (r ≡ []) ⊎ IsBroken old.held.region r) (sym same) first.region
-            | inr lost ↦ inl lost
+            | inl same ↦ subst (λ (r : List ℕ). IsClosed r ⊎ IsBroken old.held.region r) (sym same) first.region
+            | inr closed ↦ inl closed
           ];
           disk = inr (
             elim came.region [
               | inl same ↦ subst IsClosed (sym same) (left_shut came.from came.was)
-              | inr lost ↦ lost_closed p.region lost
+              | inr closed ↦ closed
             ],
             subst (λ (d : List ℕ). BeginsScan (length d) first.from.disk p.disk) same_disk begins,
           );

@@ -1,11 +1,11 @@
 -- What a start finds, and what it leaves.
 use Rattle.std.specs.Prelude.{◌≡◌, ◌⊎◌, ℕ, List, [], length, None, false, Result, Ok, Err, ⊤}
 use Rattle.std.specs.List.{AllByRecursion}
-use Rattle.berth_face.specs.Berth.{Meaning, Pair, Ended, SameDisk}
+use Rattle.berth_face.specs.Berth.{Meaning, Pair, IsClosed, Ended, SameDisk}
 use Rattle.berth_face.specs.Moments.{EachNow}
 use Rattle.table_state.specs.Tables.{Table}
 use Rattle.region_layout.specs.Images.{TableImage}
-use Rattle.region_layout.specs.Head.{IsClosed, image_names}
+use Rattle.region_layout.specs.Head.{image_names}
 use Rattle.region_layout.specs.Region.{IsAdoptable}
 use Rattle.region_layout.specs.Images.{held_of}
 use Rattle.leaf_words.specs.declared.ways.WhyDisk.{WhyDisk}
@@ -71,12 +71,12 @@ opened_leaf names o = record { names = names; tables = o.tables.each; columns = 
 
 -- ---- what a crash leaves while a leaf starts
 
--- A pair of a moment of a start comes from one before. The region is lost; or it is as it was, or, where its flag was open, as it was but for the flag, or closed.
+-- A pair of a moment of a start comes from one before. The region is closed, or as it was, or, where its flag was open, as it was but for the flag.
 -- The disk is the same; or, once the region is closed, the first byte of one that read as at most one byte was written, before which one of one byte was synced.
 pub record OpensFrom (old : Meaning) (p : Pair) : Type 0 where
   pub from : Pair
   pub was : old.leaves old.clock from
-  pub region : (p.region ≡ []) ⊎ IsBroken old.held.region p.region
+  pub region : IsClosed p.region ⊎ IsBroken old.held.region p.region
   pub disk : (p.disk ≡ from.disk) ⊎ (IsClosed p.region × BeginsScan (length old.held.disk) from.disk p.disk)
 
 -- the disks are those of before where nothing of the disk was called: an image was adopted, or the region failed

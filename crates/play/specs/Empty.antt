@@ -1,18 +1,16 @@
 -- The base of a berth in memory that holds nothing, and to which nothing was ever written.
-use Rattle.std.specs.Prelude.{◌≡◌, ℕ, ◌≤◌, ◌^◌, List, [], ◌∷◌, length, take, None, refl}
-use mathlib.Core.Logic.{inl, inr}
+use Rattle.std.specs.Prelude.{◌≡◌, ◌⊎◌, ℕ, ◌≤◌, ◌^◌, List, [], length, take, None, refl}
+use mathlib.Core.Logic.{inl}
 use Rattle.std.proofs.Common.{ap, sym, subst, ◌∙◌, arith, lit<, lit≤}
 use Rattle.std.proofs.lemmas.List.{length-take, nil_from_length}
 use Rattle.leaf_model.specs.declared.writes.Write.{Write}
 use Rattle.leaf_model.specs.Content.{content}
 use Rattle.leaf_history.specs.History.{no_base}
-use Rattle.berth_face.specs.Berth.{Pair, Meaning, OpenedOn}
-use Rattle.berth_mem.specs.declared.record.Call.{Call}
+use Rattle.berth_face.specs.Berth.{Pair, Meaning, IsClosed, OpenedOn}
 use Rattle.berth_mem.specs.declared.berth.MemBerth.{MemBerth}
 use Rattle.berth_mem.specs.Forms.{FreshOn, meaning}
-use Rattle.berth_mem.specs.Record.{meaning_of, moments}
+use Rattle.berth_mem.specs.Laws.{stands}
 use Rattle.disk_backup.specs.Logs.{is_short}
-use Rattle.region_layout.specs.Head.{IsClosed}
 use Rattle.disk_backup.specs.SoundLogs.{HasSoundLog}
 use Rattle.crash_moments.specs.Left.{NamedStates, closed}
 use Rattle.crash_states.specs.Standing.{Rests}
@@ -41,32 +39,16 @@ empty_log = record { sound = ([], 0, is_short (lit≤ tt) refl refl, λ name k. 
 rests_empty : (m : Meaning) → OpenedOn [] [] m → m.leaves m.clock m.held → Rests [] nothing_kept none_written None m
 rests_empty m o there = record {
   watched = record { each = tt; apart = tt };
-  stands = record { reads = there; regions = λ p left. inr (no_region p left) };
+  stands = record { reads = there; regions = λ p left. subst (λ (r : List ℕ). (p.region ≡ r) ⊎ IsClosed p.region) (sym (ap (λ (held : Pair). held.region) o.held)) (o.pairs p left).0 };
   logs = λ p left. inl (subst (HasSoundLog none_written) (sym (o.pairs p left).1) empty_log);
   each = λ name. record { shut = refl; flushed = lit≤ tt; shortest = refl; longest = refl; handed = λ e. (refl, refl) };
   sound = λ name. record { before = refl; handed_in = refl; taken = lit≤ tt; short = short };
   empty = λ e p left. subst (λ (disk : List ℕ). length disk ≤ 1) (sym (o.pairs p left).1) (lit≤ tt);
   region = λ p left. closed (subst (λ (held : Pair). IsClosed held.region) (sym o.held) (inl (lit< tt)));
 }
-  where
-    no_region : (p : Pair) → m.leaves m.clock p → p.region ≡ []
-    no_region p left = elim (o.pairs p left).0 [
-      | inl e ↦ e
-      | inr e ↦ e
-    ]
-
-based : (region disk : List ℕ) (calls : List Call) (region_faults disk_faults disk_reads : ℕ) → region ≡ [] → disk ≡ [] → moments calls ≡ 0
-    → IsBase nothing_kept (meaning_of region disk calls region_faults disk_faults disk_reads)
-based [] [] [] rf df dr e f g = record {
-  begins = (refl, (none_written, None, rests_empty (meaning_of [] [] [] rf df dr) (record { tells = refl; held = refl; pairs = λ p left. left }) (inl refl, refl)));
-  is = λ name. refl;
-}
-based [] [] (call ∷ calls) rf df dr e f g = absurd (omega (arith, g))
-based [] (byte ∷ disk) calls rf df dr e f g = absurd cc
-based (byte ∷ region) disk calls rf df dr e f g = absurd cc
 
 -- a leaf may begin over a berth that was just made on nothing, and no name has writes there
 pub is_fresh_base : (berth : MemBerth) → FreshOn [] [] berth → IsBase nothing_kept (meaning berth)
 is_fresh_base berth f =
-    based berth.region.items berth.disk.items berth.calls.items berth.region_faults berth.disk_faults berth.disk_reads
-    (ap (λ (held : Pair). held.region) f.opened.held) (ap (λ (held : Pair). held.disk) f.opened.held) f.clock
+    let there = stands berth.region.items berth.disk.items berth.calls.items berth.region_faults berth.disk_faults berth.disk_reads in
+    record { begins = (refl, (none_written, None, rests_empty (meaning berth) f.opened there)); is = λ name. refl }

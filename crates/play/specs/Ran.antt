@@ -40,37 +40,29 @@ sight left source_faults written sink_faults = record { left = left; source_faul
 -- a run over berths with these bases did what is asked for, or ended so before
 pub record HasRun {S K B W : Type 0} (base : ℕ → Option NamedStates) (meaning : B → Meaning) (of : Sight S K) (request : Option Request) (status : Status) (old new : Outside S K B W) : Type 0 where
   pub done : status ≡ Status.Done → IsDone base meaning request (of.left old.source) (of.left new.source) (of.written old.sink) (of.written new.sink) old.berths.items new.berths.items old.held new.held
-
   -- what was played and written where the sink failed or memory ran out: how a run begins, and what it leaves
   pub short : IfShort status (IsShort base meaning request (of.left old.source) (of.left new.source) (of.written old.sink) (of.written new.sink) old.berths.items new.berths.items old.held new.held)
-
   -- each other status has its cause, but for want of memory
   pub words : (status ≡ Status.Words) ↔ (request ≡ None)
   pub script : IfScript status (IsTextRefused (length old.berths.items) request (of.left old.source) (of.left new.source))
   pub read_fault : status ≡ Status.ReadFault → Rose (of.source_faults old.source) (of.source_faults new.source)
   pub write_fault : status ≡ Status.WriteFault → Rose (of.sink_faults old.sink) (of.sink_faults new.sink)
-
   -- the words and the text decide the status, unless the outside fails or memory runs out
   pub exact : IfSome (of.left old.source) (λ text. UnlessCutOff status (status ≡ verdict (length old.berths.items) request text))
-
   -- what a run takes: one byte too much exactly where the text is refused as too long
   pub takes : TakesAtMost (of.left old.source) (of.left new.source) most_taken
   pub too_long : TakesText status (of.left old.source) (of.left new.source)
   pub unread : IfUnread request (new.source ≡ old.source)
-
   -- where the words, the text or the source are at fault nothing is written, nothing is played, and no watch is told anything
   pub unwritten : UnlessPlayed status (new.sink ≡ old.sink)
   pub unplayed : UnlessPlayed status (new.berths ≡ old.berths)
   pub unwatched : UnlessPlayed status (new.watches ≡ old.watches)
-
   -- a count writes nothing but at Done and WriteFault, and then its line or a prefix of it; it plays nothing, and tells no watch anything
   pub count_unwritten : IfCount request (λ range. UnlessWritten status (new.sink ≡ old.sink))
   pub count_cut_short : IfCount request (λ range. status ≡ Status.WriteFault → IsCutShort range (of.left old.source) (of.left new.source) (of.written old.sink) (of.written new.sink))
   pub count_unplayed : IfCount request (λ range. new.berths ≡ old.berths)
   pub count_unwatched : IfCount request (λ range. new.watches ≡ old.watches)
-
   -- a look at a leaf's berth tells no watch anything
   pub inspect_unwatched : IfInspect request (λ leaf. new.watches ≡ old.watches)
-
   -- the berths come back in their places, and none has changed but those of the leaves that the words and the text make
   pub left : LeavesBerths meaning (leaves_asked request (of.left old.source)) old.berths.items new.berths.items

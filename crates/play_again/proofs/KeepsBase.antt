@@ -4,11 +4,11 @@ use Rattle.std.specs.Prelude.{IfSome, drop, map, nat_lt, slice_get, if◌then◌
 use Rattle.std.proofs.lemmas.Bool.{ltb-false}
 use Rattle.std.proofs.lemmas.Bool.Decides.{nat_tests}
 use Rattle.leaf_model.specs.declared.writes.Write.{Write}
-use Rattle.berth_face.specs.Berth.{Pair, Meaning}
+use Rattle.berth_face.specs.Berth.{Pair, Meaning, IsClosed}
 use Rattle.leaf_history.specs.History.{Entry}
 use Rattle.region_layout.specs.declared.head.Head.{Head}
 use Rattle.region_layout.specs.declared.head.Head.TheVariants as head
-use Rattle.region_layout.specs.Head.{IsClosed, head_of}
+use Rattle.region_layout.specs.Head.{head_of}
 use Rattle.region_layout.proofs.Heads.{closed_head}
 use Rattle.region_layout.specs.Region.{reads}
 use Rattle.row_records.specs.Records.{LogRecord}

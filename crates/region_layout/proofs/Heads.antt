@@ -4,7 +4,8 @@ use Rattle.std.specs.Prelude.{◌≢◌, slice_index}
 use Rattle.std.proofs.lemmas.Bool.{ltb-true, ltb-false, le-ltb, eqb-true, eqb-false}
 use Rattle.region_layout.specs.declared.head.Head.{Head}
 use Rattle.region_layout.specs.declared.head.Head.TheVariants.{NoHead, Closed, Version}
-use Rattle.region_layout.specs.Head.{IsClosed, head_of, version_of}
+use Rattle.berth_face.specs.Berth.{IsClosed}
+use Rattle.region_layout.specs.Head.{head_of, version_of}
 
 -- a head by its two tests
 abbrev head_by : Bool → Bool → ℕ → ℕ → Head

@@ -1,14 +1,10 @@
 -- A region: its head, and the image of its tables.
-use Rattle.std.specs.Prelude.{◌≢◌, ◌⊎◌, ℕ, ◌<◌, List, ◌∷◌, ◌++◌, length, take, drop, map, slice_index, if◌then◌else◌, nat_lt, ◌==◌, codes}
+use Rattle.std.specs.Prelude.{ℕ, List, ◌∷◌, ◌++◌, length, take, drop, map, slice_index, if◌then◌else◌, nat_lt, ◌==◌, codes}
 use Rattle.std.specs.Int.{w32, from_le_bytes}
 use Rattle.leaf_model.specs.Bytes.{u32_bytes, u64_bytes}
 use Rattle.region_layout.specs.declared.head.Head.{Head}
 use Rattle.region_layout.specs.declared.head.Head.TheVariants.{NoHead, Closed, Version}
 use Rattle.region_layout.specs.Images.{TableImage}
-
--- shorter than a head, or its flag is not open
-abbrev pub IsClosed : List ℕ → Type 0
-IsClosed region = (length region < 16) ⊎ (slice_index region 0 ≢ 1)
 
 -- the four bytes after the flag and the letters
 abbrev pub version_of : List ℕ → ℕ

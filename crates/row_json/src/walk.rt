@@ -185,11 +185,7 @@ fn time_at(text: &[u8]) -> Option<(i64, &[u8])>
 
 /// The time behind the member of this name more, and what stands behind it, where it is fine.
 #[inline(always)]
-fn member_at<'a>(
-    time: Option<i64>,
-    name: &[u8],
-    text: &'a [u8],
-) -> Option<(Option<i64>, &'a [u8])>
+fn member_at<'a>(time: Option<i64>, name: &[u8], text: &'a [u8]) -> Option<(Option<i64>, &'a [u8])>
     ensures { IfSome result (λ cut. (d : Data) × Reads text.now cut.1.now d × IsFine name.now d × ((old : Members) → Knows time old → Knows cut.0 (put name.now d old))) }
 {
     if is_time(name) {
@@ -217,7 +213,11 @@ fn members_time(text: &[u8]) -> Option<i64>
             return None;
         }
         if after[0] != b',' {
-            return if after.len() == 1 && after[0] == b'}' { now } else { None };
+            return if after.len() == 1 && after[0] == b'}' {
+                now
+            } else {
+                None
+            };
         }
         time = now;
         rest = &after[1..];

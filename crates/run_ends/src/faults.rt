@@ -73,7 +73,9 @@ fn cause_of(alloc: Global, why: &Why) -> Result<String, AllocError>
 fn with_forms(alloc: Global, cause: &str) -> Result<String, AllocError>
     ensures { IfOk result (λ text. string_bytes text ≡ with_forms cause.now) }
 {
-    format!(in alloc; "{cause}; the commands are fleet M P T.., add L T N, expire L T H, keep L T N, tail K T N, query TEXT, standing L TEXT, tell S, flush L T, drain L [stop N], kill L, start L, rollover [P], burst, lane, end")
+    format!(in alloc;
+        "{cause}; the commands are fleet M P T.., add L T N, expire L T H, keep L T N, tail K T N, query TEXT, standing L TEXT, tell S, flush L T, drain L [stop N], kill L, start L, rollover [P], burst, lane, end"
+    )
 }
 
 /// What is wrong with a row.
@@ -105,13 +107,17 @@ fn query_cause(alloc: Global, fault: QueryFault) -> Result<String, AllocError>
     ensures { IfOk result (λ text. string_bytes text ≡ query_cause fault) }
 {
     match fault {
-        QueryFault::Syntax(at) => format!(in alloc; "the query is at fault at byte {at} of its text, from 0"),
+        QueryFault::Syntax(at) => format!(in alloc;
+            "the query is at fault at byte {at} of its text, from 0"
+        ),
         QueryFault::NoTime => String::from_str(
             alloc,
             "the query has no range `time >= A AND time <= B` after WHERE",
         ),
         QueryFault::TooLarge(at) => {
-            format!(in alloc; "the query has an integer out of its range at byte {at} of its text, from 0")
+            format!(in alloc;
+                "the query has an integer out of its range at byte {at} of its text, from 0"
+            )
         }
         QueryFault::NoMemory => String::from_str(alloc, "out of memory"),
     }
@@ -128,7 +134,9 @@ fn bad_value(alloc: Global, name: &Text) -> Result<String, AllocError>
     ensures { IfOk result (λ text. string_bytes text ≡ row_cause (fault.Value name.now)) }
 {
     let name = quoted(alloc, name)?;
-    format!(in alloc; "{name} has no value that a cell may have; a cell is an integer of 64 bits, a text of at most 65535 bytes, or an array of at most 1024 texts")
+    format!(in alloc;
+        "{name} has no value that a cell may have; a cell is an integer of 64 bits, a text of at most 65535 bytes, or an array of at most 1024 texts"
+    )
 }
 
 /// A name as a JSON string.

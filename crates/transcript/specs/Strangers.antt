@@ -1,6 +1,6 @@
 -- What a start finds of strangers: of tables' names that the leaf does not have.
 use Rattle.std.specs.Prelude.{◌⊎◌, ℕ, ◌==◌, List, [], ◌∷◌, MatchBool, ⊤}
-use Rattle.region_layout.specs.Head.{IsClosed}
+use Rattle.berth_face.specs.Berth.{IsClosed}
 use Rattle.adopt.specs.Adopting.{HasNoStranger, IsNoImage, IsStranger}
 use Rattle.log_recovery.specs.Recovery.{IsRecoveryRefusal}
 use Rattle.log_recovery.specs.declared.fault.RecoveryFault.TheVariants as found

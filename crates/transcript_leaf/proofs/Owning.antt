@@ -7,8 +7,7 @@ use Rattle.std.proofs.lemmas.Slice.Eq.{bytes_eq-Decides}
 use Rattle.leaf_model.specs.declared.writes.Write.{Write}
 use Rattle.leaf_history.specs.History.{HistoryState}
 use Rattle.row_records.specs.Records.{LogRecord, IsRecord}
-use Rattle.berth_face.specs.Berth.{Meaning}
-use Rattle.region_layout.specs.Head.{IsClosed}
+use Rattle.berth_face.specs.Berth.{Meaning, IsClosed}
 use Rattle.region_layout.proofs.Heads.{closed_head}
 use Rattle.adopt.specs.Adopting.{HasNoStranger, IsBroken, IsStranger}
 use Rattle.disk_backup.specs.Logs.{writes_of}

@@ -2,11 +2,11 @@
 use Rattle.std.proofs.Common.{◌≡◌, inl, ℕ, Bool, true, false, cond, ltb, eqb, List, length, refl, sym, ap, ◌∙◌}
 use Rattle.std.specs.Prelude.{slice_index}
 use Rattle.std.proofs.lemmas.Bool.{ltb-true}
-use Rattle.berth_face.specs.Berth.{Meaning, Pair}
+use Rattle.berth_face.specs.Berth.{Meaning, Pair, IsClosed}
 use Rattle.region_layout.specs.declared.head.Head.{Head}
 use Rattle.region_layout.specs.declared.head.Head.TheVariants as head
 use Rattle.region_layout.specs.Images.{TableImage}
-use Rattle.region_layout.specs.Head.{IsClosed, head_of, version_of}
+use Rattle.region_layout.specs.Head.{head_of, version_of}
 use Rattle.region_layout.proofs.Heads.{closed_head, shut_head}
 use Rattle.region_layout.specs.Region.{IsAdoptable, reads}
 use Rattle.leaf_words.specs.declared.ways.WhyDisk.{WhyDisk}

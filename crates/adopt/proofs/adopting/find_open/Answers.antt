@@ -1,5 +1,5 @@
 use Rattle.std.proofs.Common.{◌≡◌, IsTrue, sym, subst}
-use Rattle.region_layout.specs.Head.{IsClosed}
+use Rattle.berth_face.specs.Berth.{IsClosed}
 use Rattle.adopt.specs.Finding.{closed_flag}
 use Rattle.adopt.proofs.Ending.{ended_on}
 use Rattle.adopt.proofs.Heads.{flag_closed}

@@ -1,6 +1,5 @@
 use Rattle.std.proofs.Common.{IsTrue, sym, subst}
-use Rattle.berth_face.specs.Berth.{Pair}
-use Rattle.region_layout.specs.Head.{IsClosed}
+use Rattle.berth_face.specs.Berth.{Pair, IsClosed}
 use Rattle.adopt.proofs.Ending.{ended_on, untouched_disks}
 use Rattle.adopt.proofs.Moments.{closed_after, short_after}
 use Rattle.adopt.proofs.adopting.take_span.Goals as goal
@@ -53,7 +52,7 @@ returns-in_err-cut-clause-inside g c =
     let d = g.B.Berth.meaning c.cut.new.berth in
     let told_b : IsTrue b.tells = subst IsTrue (sym c.read_piece.ensures.untouched.time.tells) told in
     let laws = g.met.B.Berth g.world.𝓛 g.world.𝓜 g.world.𝓡 ((λ s x. x), (λ x. x), (λ x. x), λ x. x) in
-    short_after a b d (λ p left. laws.keeps_region c.args.berth.now p told left) c.read_piece.ensures.untouched.time (c.read_piece.ensures.untouched.stays told) (c.cut.ensures.inside told_b)
+    short_after a b d (λ r stands. (laws.region_now c.args.berth.now r told).0 stands) c.read_piece.ensures.untouched.time (c.read_piece.ensures.untouched.stays told) (c.cut.ensures.inside told_b)
 
 pub returns-clause-inside : goal.returns-clause-inside
 returns-clause-inside g c =
@@ -63,4 +62,4 @@ returns-clause-inside g c =
     let d = g.B.Berth.meaning c.cut.new.berth in
     let told_b : IsTrue b.tells = subst IsTrue (sym c.read_piece.ensures.untouched.time.tells) told in
     let laws = g.met.B.Berth g.world.𝓛 g.world.𝓜 g.world.𝓡 ((λ s x. x), (λ x. x), (λ x. x), λ x. x) in
-    short_after a b d (λ p left. laws.keeps_region c.args.berth.now p told left) c.read_piece.ensures.untouched.time (c.read_piece.ensures.untouched.stays told) (c.cut.ensures.inside told_b)
+    short_after a b d (λ r stands. (laws.region_now c.args.berth.now r told).0 stands) c.read_piece.ensures.untouched.time (c.read_piece.ensures.untouched.stays told) (c.cut.ensures.inside told_b)

@@ -1,6 +1,5 @@
 use Rattle.std.proofs.Common.{◌≡◌, true, drop, Option, IsTrue, rules, sym, ap, subst, ◌∙◌}
-use Rattle.berth_face.specs.Berth.{Pair}
-use Rattle.region_layout.specs.Head.{IsClosed}
+use Rattle.berth_face.specs.Berth.{Pair, IsClosed}
 use Rattle.region_layout.specs.Region.{reads}
 use Rattle.region_reading.specs.declared.looked.Looked.{Looked}
 use Rattle.region_reading.specs.Reading.{LooksAt}

@@ -1,5 +1,7 @@
 use Rattle.std.proofs.Common.{rules, [], ◌∷◌, length, IsTrue, sym, subst, arith}
-use Rattle.drain_copy.proofs.Moments.{flag_opened, within_begun, within_write}
+use Rattle.berth_face.proofs.Moments.{meanwhile_here}
+use Rattle.drain_copy.specs.Regions.{IsWithin}
+use Rattle.drain_copy.proofs.Moments.{flag_opened, within_write}
 use Rattle.drain_copy.proofs.region_calls.open.Goals as goal
 
 pub returns-clause-moments : goal.returns-clause-moments
@@ -19,5 +21,5 @@ returns-clause-inside g c =
     let told_b : IsTrue b.tells = subst IsTrue (sym c.region_write.ensures.time.tells) told in
     let laws = g.met.B.Berth g.world.𝓛 g.world.𝓜 g.world.𝓡 ((λ s x. x), (λ x. x), (λ x. x), λ x. x) in
     let n = length a.held.region in
-    within_write n 0 (1 ∷ []) c.region_write.result a a b (omega arith) some (within_begun n a (omega arith) (λ p left. laws.keeps_region c.args.berth.now p told left))
-    (λ p left. laws.keeps_region c.region_write.new.self p told_b left) c.region_write.ensures.time (search rules)
+    within_write n 0 (1 ∷ []) c.region_write.result a a b (omega arith) some (meanwhile_here a (IsWithin n) (λ r stands. (laws.region_now c.args.berth.now r told).0 stands) (omega arith))
+    (λ r stands. (laws.region_now c.region_write.new.self r told_b).0 stands) c.region_write.ensures.time (search rules)

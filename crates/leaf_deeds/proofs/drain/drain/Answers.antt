@@ -1,5 +1,6 @@
 use Rattle.std.proofs.Common.{◌≡◌, ◌++◌, ◌+◌, ◌≤◌, List, length, refl, sym, ap, subst, ◌∙◌, arith}
 use Rattle.berth_face.specs.Berth.{Passes}
+use Rattle.berth_face.proofs.Moments.{passes_on}
 use Rattle.printed_lines.specs.declared.line.Ending.TheVariants.{Stopped}
 use Rattle.leaf_steward.proofs.WatchMakes.{makes_tables}
 use Rattle.leaf_moves.specs.Stage.{IsDown, IsPreparing}
@@ -34,6 +35,12 @@ returns-in-Ready-clause-drains g c = λ before shuts.
     let down = c.copy_all-down.result in
     subst (λ ns. Drains m (meaning down.0.1) before c.args.stop ns down.1 (IsDown down.0.0)) (sym c.append.ensures)
     (drain_copied meaning x m before c.args.stop left notes shuts (meaning down.0.1) c.in-Ready.leaf down.0.0 down.1 c.copy_all-down.new.notes shut passes c.copy_all-down.ensures.ends c.copy_all-down.ensures.rests)
+
+pub returns-in-Ready-clause-time : goal.returns-in-Ready-clause-time
+returns-in-Ready-clause-time g c =
+    let meaning = g.B.Berth.meaning in
+    let passes = subst (λ r. Passes (meaning c.args.leaf.1) (meaning (berth_left r))) c.in-Ready.is c.shut_all.ensures.time in
+    passes_on (meaning c.args.leaf.1) (meaning c.in-Ready.leaf.1) (meaning c.copy_all-down.result.0.1) passes c.copy_all-down.ensures.time
 
 pub returns-in-Ready-clause-keeps : goal.returns-in-Ready-clause-keeps
 returns-in-Ready-clause-keeps g c =

@@ -3,7 +3,7 @@ use Rattle.std.proofs.lemmas.Result.{err_from_is_err_and}
 use Rattle.table_state.specs.Tables.{HeldTables}
 use Rattle.adopt.specs.Adopting.{IsLeftBehind}
 use Rattle.adopt.specs.Starting.{HasTables, IsAdoption}
-use Rattle.region_layout.specs.Head.{IsClosed}
+use Rattle.berth_face.specs.Berth.{IsClosed}
 use Rattle.disk_backup.specs.State.{LogState}
 use Rattle.disk_backup.specs.Logs.{IsSound}
 use Rattle.disk_backup.specs.Scanning.{begun}

@@ -1,8 +1,7 @@
 use Rattle.std.proofs.Common.{rules, ◌≡◌, ℕ, IsTrue, length, map, sym, subst}
 use Rattle.berth_face.specs.Berth.{Pair}
-use Rattle.berth_face.proofs.Moments.{passes_on}
+use Rattle.berth_face.proofs.Moments.{passes_on, stays_on}
 use Rattle.disk_backup.specs.Scanning.{Scanned, StepIs, ScansOn}
-use Rattle.disk_backup.proofs.Staying.{stays_on}
 use Rattle.table_state.specs.Tables.{Table, bare, columns_most}
 use Rattle.log_recovery.proofs.Reading.{settled, reached_end, reached_more}
 use Rattle.log_recovery.proofs.recovery.read_on.Goals as goal

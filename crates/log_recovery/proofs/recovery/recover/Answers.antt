@@ -1,8 +1,8 @@
 use Rattle.std.proofs.Common.{◌≡◌, ◌∙◌, List, ℕ, [], length, map, IsTrue, sym, ap, subst}
 use Rattle.std.proofs.lemmas.Result.{err_from_is_err_and}
 use Rattle.berth_face.specs.Berth.{Pair}
+use Rattle.berth_face.proofs.Moments.{through_stay}
 use Rattle.disk_backup.specs.Scanning.{StepsFrom, BeginsScan, begun}
-use Rattle.disk_backup.proofs.Staying.{through_stay}
 use Rattle.log_recovery.specs.declared.fault.RecoveryFault.TheVariants as fault
 use Rattle.log_recovery.specs.Recovery.{IsRecoveryRefusal}
 use Rattle.table_state.specs.Tables.{bare}

@@ -1,6 +1,6 @@
 use Rattle.std.proofs.Common.{◌≡◌, ◌+◌, ◌++◌, ◌≤◌, List, ℕ, length, drop, sym, ap, ◌∙◌, subst, inl, arith}
 use Rattle.drain_copy.specs.Draining.{directory_of}
-use Rattle.drain_copy.proofs.Moments.{drains_within, in_room}
+use Rattle.drain_copy.proofs.Moments.{drains_closed, in_room}
 use Rattle.drain_copy.proofs.Standing.{copy_ends, column_told, directory_told, column_in_room, directory_in_room, long_enough, later_copy, later_flag, on_err}
 use Rattle.drain_copy.proofs.drain.Drain.copy.Goals as goal
 
@@ -10,7 +10,7 @@ returns-in_err-append-in-Some-clause-failed g c =
     let d = c.args.self.now in
     let a = g.B.Berth.meaning c.args.berth.now in
     let at = c.written_to-at.result in
-    on_err c.from_residual.result _ (inl (c.in_err-append-in-Some.ensures.failed told (copy_ends d at a.held.region c.requires.copies c.written_to-at.ensures.place c.written_to-at.ensures.head stands)).0)
+    on_err c.from_residual.result _ (inl (c.in_err-append-in-Some.ensures.failed told (copy_ends d at a.held.region c.requires.copies c.written_to-at.ensures.place c.written_to-at.ensures.head stands)))
 
 pub returns-in_err-append-in-Some-clause-moments : goal.returns-in_err-append-in-Some-clause-moments
 returns-in_err-append-in-Some-clause-moments g c =
@@ -19,7 +19,7 @@ returns-in_err-append-in-Some-clause-moments g c =
     let a = g.B.Berth.meaning c.args.berth.now in
     let at = c.written_to-at.result in
     let b = g.B.Berth.meaning c.append.new.berth in
-    drains_within (at + length c.as_slice.result.now) d a b (c.append.ensures.moments told (copy_ends d at a.held.region c.requires.copies c.written_to-at.ensures.place c.written_to-at.ensures.head stands) all)
+    drains_closed d a b (c.append.ensures.moments told (copy_ends d at a.held.region c.requires.copies c.written_to-at.ensures.place c.written_to-at.ensures.head stands) all)
 
 pub returns-in_err-append-in-Some-clause-inside : goal.returns-in_err-append-in-Some-clause-inside
 returns-in_err-append-in-Some-clause-inside g c =
@@ -60,7 +60,7 @@ returns-in_ok-append-in-Some-clause-moments g c =
     let a = g.B.Berth.meaning c.args.berth.now in
     let at = c.written_to-at.result in
     let b = g.B.Berth.meaning c.append.new.berth in
-    drains_within (at + length c.as_slice.result.now) d a b (c.append.ensures.moments told (copy_ends d at a.held.region c.requires.copies c.written_to-at.ensures.place c.written_to-at.ensures.head stands) all)
+    drains_closed d a b (c.append.ensures.moments told (copy_ends d at a.held.region c.requires.copies c.written_to-at.ensures.place c.written_to-at.ensures.head stands) all)
 
 pub returns-in_ok-append-in-Some-clause-inside : goal.returns-in_ok-append-in-Some-clause-inside
 returns-in_ok-append-in-Some-clause-inside g c =
@@ -86,7 +86,7 @@ returns-in_err-finish-in-None-clause-moments g c =
     let a = g.B.Berth.meaning c.args.berth.now in
     let at = c.written_to-at.result in
     let b = g.B.Berth.meaning c.finish.new.berth in
-    drains_within (at + length c.directory.result.now) d a b (c.finish.ensures.moments told (copy_ends d at a.held.region c.requires.copies c.written_to-at.ensures.place c.written_to-at.ensures.head stands) all)
+    drains_closed d a b (c.finish.ensures.moments told (copy_ends d at a.held.region c.requires.copies c.written_to-at.ensures.place c.written_to-at.ensures.head stands) all)
 
 pub returns-in_err-finish-in-None-clause-inside : goal.returns-in_err-finish-in-None-clause-inside
 returns-in_err-finish-in-None-clause-inside g c =
@@ -131,7 +131,7 @@ returns-in_ok-finish-in-None-clause-moments g c =
     let a = g.B.Berth.meaning c.args.berth.now in
     let at = c.written_to-at.result in
     let b = g.B.Berth.meaning c.finish.new.berth in
-    drains_within (at + length c.directory.result.now) d a b (c.finish.ensures.moments told (copy_ends d at a.held.region c.requires.copies c.written_to-at.ensures.place c.written_to-at.ensures.head stands) all)
+    drains_closed d a b (c.finish.ensures.moments told (copy_ends d at a.held.region c.requires.copies c.written_to-at.ensures.place c.written_to-at.ensures.head stands) all)
 
 pub returns-in_ok-finish-in-None-clause-inside : goal.returns-in_ok-finish-in-None-clause-inside
 returns-in_ok-finish-in-None-clause-inside g c =

@@ -1,12 +1,12 @@
 use Rattle.std.specs.Prelude.{◌⊎◌, ◌≢◌, IsTrue}
-use Rattle.region_layout.specs.Head.{IsClosed}
+use Rattle.berth_face.specs.Berth.{IsClosed}
 use Rattle.std.proofs.Common.{rules, ◌≡◌, ◌∙◌, suc, [], refl, sym, ap, subst}
 use Rattle.drain_copy.specs.declared.step.DrainStep.{DrainStep}
 use Rattle.drain_copy.specs.declared.step.DrainStep.TheVariants.{Finished}
 use Rattle.drain_copy.specs.declared.step.Next.TheVariants as next
 use Rattle.drain_copy.specs.Draining.{IsInRoom, IsStep, left}
-use Rattle.drain_copy.specs.Regions.{IsCutOrBegun, LeftFrom}
-use Rattle.berth_face.specs.Moments.{Throughout}
+use Rattle.drain_copy.specs.Regions.{IsCutOrBegun}
+use Rattle.berth_face.specs.Moments.{Meanwhile}
 use Rattle.leaf_words.specs.declared.ways.Way.TheVariants.{Memory}
 use Rattle.leaf_opening.specs.Starts.{IsWayOf}
 use Rattle.crash_states.specs.Standing.{Copies}
@@ -195,7 +195,7 @@ returns-in-Ok-Finished-clause-inside g c =
     let told : IsTrue (g.B.Berth.meaning inside.berth).tells = subst (λ v. IsTrue (g.B.Berth.meaning v.1).tells) (sym c.self.view_is) told_now in
     let founded : AreFounded inside.seats = subst (λ v. AreFounded v.0.seated) (sym c.self.view_is) founded_now in
     let before : inside.drain.next ≢ next.Begin = subst (λ v. v.0.drain.next ≢ next.Begin) (sym c.self.view_is) before_now in
-    subst (λ v. Throughout (IsInRoom v.0.drain) (g.B.Berth.meaning v.1) n) c.self.view_is
+    subst (λ v. Meanwhile (IsInRoom v.0.drain) (g.B.Berth.meaning v.1) n) c.self.view_is
     (c.in-Ok-Finished.ensures.inside told (c.self.invariant.stands founded).1.1.draining before)
 
 pub returns-in-Ok-Begun-clause-inside : goal.returns-in-Ok-Begun-clause-inside
@@ -206,7 +206,7 @@ returns-in-Ok-Begun-clause-inside g c =
     let told : IsTrue (g.B.Berth.meaning inside.berth).tells = subst (λ v. IsTrue (g.B.Berth.meaning v.1).tells) (sym c.self.view_is) told_now in
     let founded : AreFounded inside.seats = subst (λ v. AreFounded v.0.seated) (sym c.self.view_is) founded_now in
     let before : inside.drain.next ≢ next.Begin = subst (λ v. v.0.drain.next ≢ next.Begin) (sym c.self.view_is) before_now in
-    subst (λ v. Throughout (IsInRoom v.0.drain) (g.B.Berth.meaning v.1) n) c.self.view_is
+    subst (λ v. Meanwhile (IsInRoom v.0.drain) (g.B.Berth.meaning v.1) n) c.self.view_is
     (c.in-Ok-Begun.ensures.inside told (c.self.invariant.stands founded).1.1.draining before)
 
 pub returns-clause-inside : goal.returns-clause-inside
@@ -217,7 +217,7 @@ returns-clause-inside g c =
     let told : IsTrue (g.B.Berth.meaning inside.berth).tells = subst (λ v. IsTrue (g.B.Berth.meaning v.1).tells) (sym c.self.view_is) told_now in
     let founded : AreFounded inside.seats = subst (λ v. AreFounded v.0.seated) (sym c.self.view_is) founded_now in
     let before : inside.drain.next ≢ next.Begin = subst (λ v. v.0.drain.next ≢ next.Begin) (sym c.self.view_is) before_now in
-    subst (λ v. Throughout (IsInRoom v.0.drain) (g.B.Berth.meaning v.1) n) c.self.view_is
+    subst (λ v. Meanwhile (IsInRoom v.0.drain) (g.B.Berth.meaning v.1) n) c.self.view_is
     (c.in-Err.ensures.inside told (c.self.invariant.stands founded).1.1.draining before)
 
 pub returns-in-Ok-Finished-clause-begun : goal.returns-in-Ok-Finished-clause-begun
@@ -227,7 +227,7 @@ returns-in-Ok-Finished-clause-begun g c =
     let n = g.B.Berth.meaning c.step.new.berth in
     let told : IsTrue (g.B.Berth.meaning inside.berth).tells = subst (λ v. IsTrue (g.B.Berth.meaning v.1).tells) (sym c.self.view_is) told_now in
     let begins : inside.drain.next ≡ next.Begin = ap (λ v. v.0.drain.next) c.self.view_is ∙ begins_now in
-    subst (λ v. Throughout (LeftFrom (IsCutOrBegun (g.B.Berth.meaning v.1).held.region) (g.B.Berth.meaning v.1)) (g.B.Berth.meaning v.1) n) c.self.view_is
+    subst (λ v. Meanwhile (IsCutOrBegun (g.B.Berth.meaning v.1).held.region) (g.B.Berth.meaning v.1) n) c.self.view_is
     (c.in-Ok-Finished.ensures.begun told begins)
 
 pub returns-in-Ok-Begun-clause-begun : goal.returns-in-Ok-Begun-clause-begun
@@ -237,7 +237,7 @@ returns-in-Ok-Begun-clause-begun g c =
     let n = g.B.Berth.meaning c.step.new.berth in
     let told : IsTrue (g.B.Berth.meaning inside.berth).tells = subst (λ v. IsTrue (g.B.Berth.meaning v.1).tells) (sym c.self.view_is) told_now in
     let begins : inside.drain.next ≡ next.Begin = ap (λ v. v.0.drain.next) c.self.view_is ∙ begins_now in
-    subst (λ v. Throughout (LeftFrom (IsCutOrBegun (g.B.Berth.meaning v.1).held.region) (g.B.Berth.meaning v.1)) (g.B.Berth.meaning v.1) n) c.self.view_is
+    subst (λ v. Meanwhile (IsCutOrBegun (g.B.Berth.meaning v.1).held.region) (g.B.Berth.meaning v.1) n) c.self.view_is
     (c.in-Ok-Begun.ensures.begun told begins)
 
 pub returns-clause-begun : goal.returns-clause-begun
@@ -247,7 +247,7 @@ returns-clause-begun g c =
     let n = g.B.Berth.meaning c.step.new.berth in
     let told : IsTrue (g.B.Berth.meaning inside.berth).tells = subst (λ v. IsTrue (g.B.Berth.meaning v.1).tells) (sym c.self.view_is) told_now in
     let begins : inside.drain.next ≡ next.Begin = ap (λ v. v.0.drain.next) c.self.view_is ∙ begins_now in
-    subst (λ v. Throughout (LeftFrom (IsCutOrBegun (g.B.Berth.meaning v.1).held.region) (g.B.Berth.meaning v.1)) (g.B.Berth.meaning v.1) n) c.self.view_is
+    subst (λ v. Meanwhile (IsCutOrBegun (g.B.Berth.meaning v.1).held.region) (g.B.Berth.meaning v.1) n) c.self.view_is
     (c.in-Err.ensures.begun told begins)
 
 -- ---- what the region is
