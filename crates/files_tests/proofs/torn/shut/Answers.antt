@@ -5,7 +5,7 @@ use Rattle.files_tests.specs.Torn.{keeps_region}
 use Rattle.files_tests.proofs.Tearing.{shut_now}
 use Rattle.files_tests.proofs.torn.shut.Goals as goal
 
-pub returns-clause-closed : goal.returns-clause-closed
-returns-clause-closed c =
+pub returns : goal.returns
+returns c =
     let b = c.region_write.new.self.files.files.kept in
-    shut_now c.region_write.result _ _ (λ p left. keeps_region (meaning b) (λ q was. laws.keeps_region b q was) p left) (c.region_write.ensures.told refl)
+    record { closed = shut_now c.region_write.result _ _ (λ p left. keeps_region (meaning b) (λ q was. laws.keeps_region b q was) p left) (c.region_write.ensures.told refl) }
