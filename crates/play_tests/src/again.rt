@@ -8,7 +8,7 @@ ghost use Rattle.play_tests.specs.Fresh.{IsEmptyBerth};
 use berth_face::OpenGate;
 use berth_mem::{MemBerth, MemSink, MemSource};
 use play::{EmptyBerths, Status};
-use play_again::{keep, run_keeping, run_known, run_over, run_twice};
+use play_again::{keep, run_keeping, run_known, run_twice};
 use rollover_watch::Watch;
 use std::alloc::{AllocError, Global};
 use std::sync::Wait;
@@ -91,30 +91,6 @@ fn twice<R: Wait + Threads + Sync>(
         sink,
         next_source,
         next_sink,
-        berths,
-        &OpenGate,
-        &mut unheard,
-    )
-}
-
-/// A play over berths over which a leaf may begin.
-fn over<R: Wait + Threads + Sync>(
-    rt: &R,
-    alloc: Global,
-    words: &[String],
-    source: &mut MemSource,
-    sink: &mut MemSink,
-    berths: &mut Vec<MemBerth>,
-) -> Result<Status, AllocError>
-    requires { AllByRecursion IsEmptyBerth berths.old.items }
-{
-    let mut unheard: Vec<Box<dyn Watch>> = Vec::new(alloc);
-    run_over::<R, MemSource, MemSink, MemBerth, OpenGate>(
-        rt,
-        alloc,
-        words,
-        source,
-        sink,
         berths,
         &OpenGate,
         &mut unheard,
@@ -245,26 +221,6 @@ fn a_play_leaves_something_known(rt: HostRuntime) -> Result<(), Fail> {
     assert!(rt; matches!(status, Status::Done));
     assert!(rt; is_known);
     assert!(rt; has_written(&sink, DRAINED_LINES));
-    Ok(())
-}
-
-#[test]
-fn a_play_over_berths_whose_bases_are_only_said_to_exist(rt: HostRuntime) -> Result<(), Fail> {
-    let alloc = rt.alloc();
-    let words = play_words(alloc)?;
-    let mut berths = fresh_berths(alloc)?;
-    let mut source = source_of(alloc, COUNTED)?;
-    let mut sink = MemSink::new(alloc);
-    let status = over(
-        &rt,
-        alloc,
-        words.as_slice(),
-        &mut source,
-        &mut sink,
-        &mut berths,
-    )?;
-    assert!(rt; matches!(status, Status::Done));
-    assert!(rt; has_written(&sink, EMPTY_LINES));
     Ok(())
 }
 
