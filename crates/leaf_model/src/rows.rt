@@ -33,6 +33,17 @@ pub struct Cell {
     pub value: Value,
 }
 
+impl Cell {
+    pub fn copy(&self) -> Result<Cell, AllocError>
+        ensures { IfOk result (λ copy. copy ≡ self.now) }
+    {
+        Ok(Cell {
+            name: self.name.copy()?,
+            value: self.value.copy()?,
+        })
+    }
+}
+
 /// The cells of a row. Contracts see them as the list.
 #[derive(Drop)]
 pub struct Cells {
@@ -66,6 +77,16 @@ impl Cells {
     {
         self.inner
     }
+
+    pub fn copy(&self) -> Result<Cells, AllocError>
+        ensures { IfOk result (λ copy. copy ≡ self.now) }
+    {
+        let mut inner: Vec<Cell> = Vec::new(*self.inner.allocator());
+        for item in self.inner.as_slice() {
+            inner.push(item.copy()?)?;
+        }
+        Ok(Cells { inner })
+    }
 }
 
 /// A time from 0 to 2^63 - 1, and at most 1,024 cells with ascending, distinct names.
@@ -73,4 +94,15 @@ impl Cells {
 pub struct Row {
     pub time: i64,
     pub cells: Cells,
+}
+
+impl Row {
+    pub fn copy(&self) -> Result<Row, AllocError>
+        ensures { IfOk result (λ copy. copy ≡ self.now) }
+    {
+        Ok(Row {
+            time: self.time,
+            cells: self.cells.copy()?,
+        })
+    }
 }

@@ -43,6 +43,12 @@ impl Tries {
     {
         self.inner.as_slice()
     }
+
+    pub fn into_inner(self) -> Vec<Try>
+        ensures { result.items ≡ self }
+    {
+        self.inner
+    }
 }
 
 /// Where the rows of a tail went.
