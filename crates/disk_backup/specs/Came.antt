@@ -2,8 +2,8 @@
 use Rattle.std.specs.Prelude.{◌≡◌, ◌⊎◌, ℕ, List, length}
 use Rattle.berth_face.specs.Berth.{Pair, Meaning, IsClosed}
 
--- p comes from an earlier pair. Its region is the same or closed. If the earlier disk is `end` bytes and then as
--- `before` says, p's disk has the same bytes and is then as `after` says.
+-- p comes from an earlier pair. Its region is the same or closed. For each list of `end` bytes: if the earlier disk is
+-- as `before` says of these bytes, p's disk is as `after` says of them.
 pub record Came (end : ℕ) (before after : List ℕ → List ℕ → Type 0) (old : Meaning) (p : Pair) : Type 0 where
   pub from : Pair
   pub was : old.leaves old.clock from
