@@ -27,7 +27,7 @@ abbrev pub is_adopted : RollEvent → Bool
 is_adopted (event.Start leaf started.Memory) = true
 is_adopted _ = false
 
--- a count goes up where something counts, and stands still at the last value of 64 bits
+-- a count rises by one if the event counts, and saturates at 64 bits
 abbrev pub raised : Bool → ℕ → ℕ
 raised false count = count
 raised true count = min (count + 1) (2 ^ 64 - 1)
@@ -59,10 +59,11 @@ is_halting _ = false
 abbrev pub halts : RollEvent → Held → Bool
 halts event watch = is_halting (watch.wish [] event)
 
--- each watch of a list was told an event; those that wished to leave are gone, and the others are in their order as they have heard it
+-- each watch of a list was told an event; those that wished to leave are gone; the others are in their order, and have
+-- heard it
 abbrev pub AreTold : RollEvent → List Held → List Held → Type 0
 AreTold event old new = AllZip (HasHeard event) (filter (stays event) old) new
 
--- whether one of a list asks for a halt
+-- whether a watch of the list asks for a halt
 abbrev pub is_halt_asked : RollEvent → List Held → Bool
 is_halt_asked event watches = list_any (halts event) watches
