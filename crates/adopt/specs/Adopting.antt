@@ -93,7 +93,8 @@ pub record ClosedFrom (old : Meaning) (p : Pair) : Type 0 where
 abbrev pub cut_at : AdoptState → List ℕ → ℕ
 cut_at a region = get_or (map (λ (p : Place). p.place) (columns_of a.directory)) a.left (directory_from region)
 
--- So much was taken of this image, whose flag was open, each column of a kind that its version allows; the region is the rest of it.
+-- an adoption in progress: part of this image, whose flag was open, was taken, each column of a kind that its version
+-- allows; the region is the rest of it
 pub record Adopting (region : List ℕ) (a : AdoptState) (now : List ℕ) : Type 0 where
   pub reads_it : reads a.version ≡ true
   pub has : HasDirectory a.version region a.directory
@@ -104,7 +105,7 @@ pub record Adopting (region : List ℕ) (a : AdoptState) (now : List ℕ) : Type
   pub heap : a.heap ≡ drop a.left (map (λ (p : Place). (column_in region p).bytes) (columns_of a.directory))
   pub rest : now ≡ take (cut_at a region) (0 ∷ drop 1 region)
 
--- what is held and the region together are no longer than the image
+-- the taken columns and the region have together at most the length of the image
 abbrev pub IsInImage : AdoptState → List ℕ → Type 0
 IsInImage a region = length (joined a.heap) + length region ≤ a.image_len
 
@@ -112,7 +113,7 @@ IsInImage a region = length (joined a.heap) + length region ≤ a.image_len
 abbrev pub IsNoLonger : List ℕ → List ℕ → Type 0
 IsNoLonger was region = length region ≤ length was
 
--- What a look finds, and the region that it leaves.
+-- what `find` finds, and the region that it leaves
 abbrev pub Finds : List (List ℕ) → List ℕ → List ℕ → Result Found AdoptFault → Type 0
 Finds names old new (Ok found.NoHead) = IsWhy old why.NoHead × (new ≡ old)
 Finds names old new (Ok (found.Closed flag)) = IsWhy old (why.Closed flag) × (new ≡ old)

@@ -77,7 +77,8 @@ Making makes old new = (t : ℕ) (region : List ℕ) → old.clock < t → t < n
 abbrev pub Gives : {E : Type 0} → ℕ → List ℕ → Result ℕ E → List ℕ → Type 0
 Gives at content result buf = IfOk result (λ n. (n ≡ min (length buf) (length content - at)) × (take n buf ≡ take n (drop at content)))
 
--- Of an unfinished call on the region: the region is one that the call makes, or, where the machine went down, any that is closed. The disk is as it was.
+-- a step of an unfinished call on the region: the region is one that the call makes, or, if the machine went down, any
+-- closed one; the disk is as it was
 abbrev pub RegionStep : (List ℕ → Type 0) → Pair → Pair → Type 0
 RegionStep makes q p = (makes p.region ⊎ IsClosed p.region) × (p.disk ≡ q.disk)
 

@@ -20,7 +20,8 @@ use berth_face::Failed;
 /// The device may then have that flag open. Nothing was written to the disk in between, because the leaf did not come
 /// up.
 pub trait FileCalls {
-    /// What the files hold, and what a crash at each moment may leave of them. Its counts of faults and of reads say nothing.
+    /// What the files hold, and what a crash at each moment may leave of them. Its counts of faults and of reads claim
+    /// nothing.
     ghost holds: { Self → Meaning };
 
     /// The number of bytes of the file; 0 if it is not there.
@@ -45,7 +46,8 @@ pub trait FileCalls {
         ensures told { IsTrue (holds self.old).tells → FileWritten file at bytes.now result (holds self.old) (holds self.new) }
         ensures time { GoesOn (holds self.old) (holds self.new) };
 
-    /// Lengthens the file with zeros, as a write of no bytes at `len` does. A file that is as long stays as it is, and one that is not there is made.
+    /// Lengthens the file with zeros, as a write of no bytes at `len` does. A file that is at least as long stays as it
+    /// is. It makes a file that is not there.
     fn lengthen(&mut self, file: LeafFile, len: u64) -> Result<(), Failed>
         requires { len < 2 ^ 63 }
         ensures told { IsTrue (holds self.old).tells → FileWritten file len [] result (holds self.old) (holds self.new) }
@@ -65,8 +67,8 @@ pub trait FileCalls {
     /// A crash now may leave what reads give.
     ghost stands: { (f : Self) → IsTrue (holds f).tells → (holds f).leaves (holds f).clock (holds f).held };
 
-    /// A crash now leaves the region that reads give. If the machine goes down, it may leave any region that is closed instead: none, where it was in
-    /// memory, and on a device any bytes behind a closed flag.
+    /// A crash now leaves the region that reads give. If the machine goes down, it may leave any closed region instead:
+    /// nothing of a region in memory, and on a device any bytes after a closed flag.
     ghost keeps_region: { (f : Self) (p : Pair) → IsTrue (holds f).tells → (holds f).leaves (holds f).clock p → (p.region ≡ (holds f).held.region) ⊎ IsClosed p.region };
 
     /// What stands now is the region that reads give.

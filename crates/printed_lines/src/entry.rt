@@ -1,4 +1,5 @@
-// The line of an entry. Entries are most of what a script prints, so each is written into a buffer, from its end to its beginning, and appended at once.
+// The line of an entry. Entries are most of what a script prints. So each is written into a buffer, from its end to its
+// beginning, and appended at once.
 ghost use Rattle.std.specs.Prelude.{◌≡◌, ◌+◌, ◌≤◌, ◌∷◌, ◌++◌, [], codes, decimal, length, drop, OnOk, OnErr};
 ghost use Rattle.printed_lines.specs.Lines.{entry_text, said_text};
 

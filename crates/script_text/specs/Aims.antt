@@ -7,7 +7,8 @@ use Rattle.script_text.specs.declared.command.Command.{Command}
 use Rattle.script_text.specs.declared.command.Command.TheVariants as command
 use Rattle.script_text.specs.Stewards.{has_steward, has_stewards}
 
--- the fleet that it begins; callers of the table in this place; callers of the table of this name at every leaf; the steward of this leaf; the steward of each leaf; the run alone
+-- the whole fleet, which it begins; callers of the table in this place; callers of the table of this name at every
+-- leaf; the steward of this leaf; the steward of each leaf; the run alone
 pub data Aim : Type 0 where
   AtFleet : Aim
   AtTable : (table : ℕ) → Aim

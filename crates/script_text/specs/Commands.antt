@@ -124,7 +124,8 @@ abbrev pub target_words : List (List ℕ) → Option TargetForm
 target_words (leaf ∷ table ∷ last ∷ []) = target_with leaf table last
 target_words _ = None
 
--- a command of a leaf, of a table and of what the last word is: a fault of the words comes first, then one of the leaf, then one of the table
+-- a command of a leaf, a table and what the last word gives: a fault of the words comes first, then one of the leaf,
+-- then one of the table
 abbrev pub of_target : {A : Type 0} → ℕ → Fleet → (List ℕ → Option A) → (Target → A → Result Command Fault) → Option TargetForm → Result Command Fault
 of_target n fleet value made words = do
   form ← or_words n words

@@ -12,11 +12,11 @@ use std::marker::Model;
 use std::sync::Wait;
 use std::thread::Threads;
 
-/// An object shared by turns. Each call draws a ticket, waits until it is served, makes one step of the object, and posts
-/// one entry of its history. The history is not kept in memory; its length is.
+/// An object shared by turns. Each call draws a ticket, waits until it is served, makes one step of the object, and
+/// posts one entry of its history. Memory holds the length of the history, and not the history.
 ///
-/// A thread that waits spins for a few looks, and then sleeps until a turn is passed on. Nothing is promised of progress, of
-/// fairness, or of how long a turn takes.
+/// A thread that waits spins for a few looks, and then sleeps until a turn is passed on. No clause promises progress,
+/// fairness, or a bound on the time of a turn.
 #[derive(Drop)]
 pub struct Turnstile<O: Object> {
     table: TurnTable<O>,
