@@ -40,7 +40,7 @@ IsWhy region (why.Closed flag) = head_of region ≡ head.Closed flag
 IsWhy region (why.OtherVersion version) = (head_of region ≡ head.Version version) × (reads version ≡ false)
 IsWhy region why.NoImage = (version : ℕ) × (head_of region ≡ head.Version version) × (reads version ≡ true) × IsNoImage region
 
--- the first of these names that is none of those
+-- the first of the second names that is none of the first names
 abbrev pub stranger_of : List (List ℕ) → List (List ℕ) → Option (List ℕ)
 stranger_of names others = find (λ name. not (list_any (bytes_eq name) names)) others
 
@@ -49,27 +49,27 @@ abbrev pub IsStranger : List (List ℕ) → List ℕ → List ℕ → Type 0
 IsStranger names region name = (version : ℕ) × (d : Directory) × (reads version ≡ true) × HasDirectory version region d
     × (stranger_of names (map (λ (t : TablePlaces). t.name) d.tables) ≡ Some name)
 
--- the region's directory, where it has one that is read, names no stranger
+-- if the region has a directory that is read, it names no stranger
 abbrev pub HasNoStranger : List (List ℕ) → List ℕ → Type 0
 HasNoStranger names region = (name : List ℕ) → IsStranger names region name → ⊥
 
--- why a leaf with these names finds no tables: of a directory with a stranger it is told the stranger, whatever its columns are
+-- why a leaf with these names finds no tables; a directory with a stranger tells the stranger, whatever its columns are
 abbrev pub IsWhyFor : List (List ℕ) → List ℕ → WhyDisk → Type 0
 IsWhyFor names region why.NoImage = IsWhy region why.NoImage × HasNoStranger names region
 IsWhyFor names region w = IsWhy region w
 
--- the letters, or the bytes behind the columns, make no directory
+-- the letters, or the bytes after the columns, make no directory
 abbrev pub HasNoDirectory : List ℕ → Type 0
 HasNoDirectory region = (version : ℕ) (d : Directory) → HasDirectory version region d → ⊥
 
 -- ---- what a look leaves of a region
 
--- a closed one is as it was; an open one is closed, no shorter than a head
+-- a closed region is as it was; an open one is closed, and no shorter than a head
 pub record IsLeftBehind (old new : List ℕ) : Type 0 where
   pub closed : IsClosed old → new ≡ old
   pub opened : (version : ℕ) → head_of old ≡ head.Version version → head_of new ≡ head.Closed 0
 
--- after a fault: as it was but for a flag that was open, or closed
+-- after a fault: the region is as it was but for a flag that was open, or it is closed
 pub record IsBroken (old new : List ℕ) : Type 0 where
   pub closed : IsClosed old → new ≡ old
   pub either : ((drop 1 new ≡ drop 1 old) × (length new ≡ length old)) ⊎ IsClosed new
@@ -80,7 +80,7 @@ pub record AdoptsFrom (old : Meaning) (p : Pair) : Type 0 where
   pub disk : p.disk ≡ from.disk
   pub region : IsClosed p.region ⊎ IsBroken old.held.region p.region
 
--- once the flag was closed every region that a crash leaves is closed, and the disk is as it was
+-- once the flag was closed, every region that a crash leaves is closed, and the disk is as it was
 pub record ClosedFrom (old : Meaning) (p : Pair) : Type 0 where
   pub from : Pair
   pub was : old.leaves old.clock from
@@ -89,11 +89,12 @@ pub record ClosedFrom (old : Meaning) (p : Pair) : Type 0 where
 
 -- ---- between two steps
 
--- where the region is cut: at the first column that was read, or at the directory
+-- the place where the region is cut off: the first column that was read, or the directory
 abbrev pub cut_at : AdoptState → List ℕ → ℕ
 cut_at a region = get_or (map (λ (p : Place). p.place) (columns_of a.directory)) a.left (directory_from region)
 
--- So much was taken of this image, whose flag was open, each column of a kind that its version allows; the region is the rest of it.
+-- an adoption in progress: part of this image, whose flag was open, was taken, each column of a kind that its version
+-- allows; the region is the rest of it
 pub record Adopting (region : List ℕ) (a : AdoptState) (now : List ℕ) : Type 0 where
   pub reads_it : reads a.version ≡ true
   pub has : HasDirectory a.version region a.directory
@@ -104,7 +105,7 @@ pub record Adopting (region : List ℕ) (a : AdoptState) (now : List ℕ) : Type
   pub heap : a.heap ≡ drop a.left (map (λ (p : Place). (column_in region p).bytes) (columns_of a.directory))
   pub rest : now ≡ take (cut_at a region) (0 ∷ drop 1 region)
 
--- what is held and the region together are no longer than the image
+-- the taken columns and the region have together at most the length of the image
 abbrev pub IsInImage : AdoptState → List ℕ → Type 0
 IsInImage a region = length (joined a.heap) + length region ≤ a.image_len
 
@@ -112,7 +113,7 @@ IsInImage a region = length (joined a.heap) + length region ≤ a.image_len
 abbrev pub IsNoLonger : List ℕ → List ℕ → Type 0
 IsNoLonger was region = length region ≤ length was
 
--- What a look finds, and the region that it leaves.
+-- what `find` finds, and the region that it leaves
 abbrev pub Finds : List (List ℕ) → List ℕ → List ℕ → Result Found AdoptFault → Type 0
 Finds names old new (Ok found.NoHead) = IsWhy old why.NoHead × (new ≡ old)
 Finds names old new (Ok (found.Closed flag)) = IsWhy old (why.Closed flag) × (new ≡ old)

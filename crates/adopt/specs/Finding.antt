@@ -24,7 +24,8 @@ is_stranger names t = not (list_any (bytes_eq t.name) names)
 abbrev pub bytes_at : List ℕ → Span → List ℕ
 bytes_at region s = take s.length (drop s.place region)
 
--- The column was read, and the region is cut where it stood; or it is none of that version, or has another number of cells than its block has rows.
+-- taking a column: it is read, and the region is cut off at its place; or it is no column that this version allows, or
+-- has not one cell for each row of its block, and the region stays
 abbrev pub TakesSpan : ℕ → Span → List ℕ → List ℕ → Result (Option (List ℕ)) AdoptFault → Type 0
 TakesSpan version s old new (Ok None) = (MeanIn version (bytes_at old s) s.rows → ⊥) × (new ≡ old)
 TakesSpan version s old new (Ok (Some bytes)) = (bytes ≡ bytes_at old s) × (new ≡ take s.place old) × MeanIn version (bytes_at old s) s.rows

@@ -15,11 +15,11 @@ use Rattle.adopt.specs.declared.found.AdoptFault.TheVariants as fault
 use Rattle.adopt.specs.declared.found.AdoptStep.{AdoptStep}
 use Rattle.adopt.specs.declared.found.AdoptStep.TheVariants as step
 
--- the column that comes first, and an empty one where there is none
+-- the first column, or an empty one if there is none
 abbrev pub front_of : List (List ℕ) → List ℕ
 front_of columns = get_or columns 0 []
 
--- ---- what is made of things one after another, each of the columns that those before left
+-- ---- things that are made one after another, each of the first columns that the ones before left
 
 abbrev pub made_from : {T M : Type 0} → (T → List (List ℕ) → M) → (T → List (List ℕ) → List (List ℕ)) → List T → List (List ℕ) → List M
 made_from one after [] columns = []
@@ -57,7 +57,7 @@ tables_from tables columns = made_from table_from after_table tables columns
 abbrev pub IsMade : DrainTable → Type 0
 IsMade t = IsParts t.parts
 
--- The tables of a directory whose columns these are; or a table may not be made of them.
+-- the tables of a directory, made of its columns; or no tables may be made of them
 abbrev pub FinishesAs : Directory → List (List ℕ) → Result AdoptStep AdoptFault → Type 0
 FinishesAs d columns (Ok (step.Finished tables log_end)) = (tables ≡ tables_from d.tables columns) × AllByRecursion IsMade tables × (log_end ≡ d.log_end)
 FinishesAs d columns (Ok step.NoImage) = AllByRecursion IsMade (tables_from d.tables columns) → ⊥
@@ -65,7 +65,7 @@ FinishesAs d columns (Ok (step.More a)) = ⊥
 FinishesAs d columns (Err fault.RegionFault) = ⊥
 FinishesAs d columns (Err fault.NoMemory) = Unit {0}
 
--- how many rows of the blocks are live
+-- the number of live rows of the blocks
 unfoldable pub live_count : List Block → ℕ → ℤ → ℕ
 live_count blocks cut horizon = length (blocks_held blocks cut horizon)
 

@@ -20,7 +20,7 @@ use Rattle.adopt.specs.Taken.{AdoptState}
 
 -- ---- all columns of an image
 
--- All columns were taken, and these are the tables of the image; or it is none.
+-- all columns were taken, and these are the tables of the image; or it is none
 abbrev pub TakesAll : List ℕ → List ℕ → Result (Option Drained) AdoptFault → Type 0
 TakesAll region new (Ok None) = IsNoImage region × IsLeftBehind region new
 TakesAll region new (Ok (Some d)) = IsAdoptable region (images_of d.tables) d.log_end × IsLeftBehind region new
@@ -31,7 +31,7 @@ TakesAll region new (Err NoMemory) = IsLeftBehind region new
 abbrev pub IsDrained : List (List ℕ) → Drained → Type 0
 IsDrained names d = AreDrained names d.tables × (d.log_end < 2 ^ 63)
 
--- of the columns that were left at first some were taken
+-- some of the columns that were left at first were taken
 pub record TookSome (first now : AdoptState) (old new : Meaning) : Type 0 where
   pub names : now.names ≡ first.names
   pub told : (region : List ℕ) → IsTrue old.tells → Adopting region first old.held.region → Adopting region now new.held.region
@@ -43,12 +43,12 @@ pub record TookSome (first now : AdoptState) (old new : Meaning) : Type 0 where
 
 -- ---- the tables of a leaf
 
--- these are the tables of these names out of those of the image
+-- the tables of these names, out of those of the image
 pub record AreArranged (names : List (List ℕ)) (d : Drained) (a : Adopted) : Type 0 where
   pub tables : a.tables ≡ held_of names (images_of d.tables)
   pub log_end : a.log_end ≡ d.log_end
 
--- The tables of these names out of the region's image, none of whose tables has another name; or why there are none.
+-- the tables of these names out of the region's image, which has no table of another name; or why there are none
 abbrev pub IsAdoption : List (List ℕ) → List ℕ → Adoption → Type 0
 IsAdoption names region (NoTables why) = IsWhyFor names region why
 IsAdoption names region (Stranger name) = IsStranger names region name
@@ -60,7 +60,8 @@ Adopts names old new (Ok found) = IsAdoption names old found × IsLeftBehind old
 Adopts names old new (Err RegionFault) = IsBroken old new
 Adopts names old new (Err NoMemory) = IsLeftBehind old new
 
--- on every berth: one table for each name, none of which owes the log anything, and what a log can be told
+-- on every berth: one table for each name, which owes the log nothing and has fewer than 2^63 writes, and a log's end
+-- below 2^63
 abbrev pub HasTables : ℕ → Adoption → Type 0
 HasTables count (NoTables why) = ⊤
 HasTables count (Stranger name) = ⊤

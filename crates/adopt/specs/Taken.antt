@@ -10,7 +10,7 @@ use Rattle.region_layout.specs.Directory.{IsDirectory}
 use Rattle.region_reading.specs.Reading.{IsRead}
 use Rattle.adopt.specs.declared.spans.Span.{Span}
 
--- What was read of the directory, how many columns are still in the region, and the others, in their order, on the heap.
+-- the directory, the number of columns that are still in the region, and the others, in their order, on the heap
 pub record AdoptState : Type 0 where
   pub names : List (List ℕ)
   pub version : ℕ
@@ -34,14 +34,15 @@ table_spans t = flat_map block_spans t.blocks
 abbrev pub spans_of : Directory → List Span
 spans_of d = flat_map table_spans d.tables
 
--- how many bytes they have together
+-- the total number of bytes of these columns
 abbrev pub span_bytes : List Span → ℕ
 span_bytes [] = 0
 span_bytes (s ∷ spans) = s.length + span_bytes spans
 
 -- ---- what an adoption keeps on every berth
 
--- each table has one of the names; these columns are left, the first ones of the directory; and so many bytes were taken of the others
+-- each table has one of the names; a prefix of the directory's columns is left; and the others are on the heap, with so
+-- many bytes
 pub record KeepsTrack (names : List (List ℕ)) (d : Directory) (place : ℕ) (left : List Span) (heap : List (List ℕ)) (held : ℕ) : Type 0 where
   pub read : IsRead place d
   pub known : AllByRecursion (λ (t : TablePlaces). Contains names t.name) d.tables

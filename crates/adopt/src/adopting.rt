@@ -25,7 +25,8 @@ use region_reading::{read_front, read_piece};
 use row_blocks::ColumnBytes;
 use std::alloc::Global;
 
-/// Reads the head. It closes an open flag before anything else is read or changed, reads the directory of an image that a start adopts, and cuts the region there.
+/// Reads the head of the region. If the flag is open, it closes it before anything else is read or changed. It then
+/// reads the directory of an image that a start adopts, and cuts the region off there.
 #[tactic(auto, using(crate::proofs::Ending::untouched_disks))]
 pub fn find<B: Berth>(alloc: Global, berth: &mut B, names: &Names) -> Result<Found, AdoptFault>
     requires names { AreNames names.now }
@@ -46,7 +47,7 @@ pub fn find<B: Berth>(alloc: Global, berth: &mut B, names: &Names) -> Result<Fou
     }
 }
 
-/// The flag of the region is open, and these are its first bytes.
+/// Goes on if the flag of the region is open; these are its first bytes.
 fn find_open<B: Berth>(
     alloc: Global,
     names: &Names,
@@ -68,7 +69,8 @@ fn find_open<B: Berth>(
 }
 
 impl Adopt {
-    /// Reads the last column that is left, and cuts the region there; or, where none is left, makes tables of all.
+    /// Makes one step: reads the last column that is left in the region and cuts it off. If none is left, it makes
+    /// tables of all columns.
     pub fn step<B: Berth>(self, alloc: Global, berth: &mut B) -> Result<AdoptStep, AdoptFault>
         ensures told { (region : List ℕ) → IsTrue (B.meaning berth.old).tells → Adopting region self (B.meaning berth.old).held.region
             → AdoptsOn region self (B.meaning berth.new).held.region result }
@@ -151,7 +153,8 @@ impl Adopt {
     }
 }
 
-/// Reads a column, and cuts the region where it stood; or None, where it means no cells, or is of a kind that the version does not allow.
+/// Reads a column, and cuts it off the region. None if it means no cells, or is of a kind that the version does not
+/// allow.
 #[tactic(auto, using(crate::proofs::Ending::untouched_disks))]
 fn take_span<B: Berth>(
     alloc: Global,

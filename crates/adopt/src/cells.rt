@@ -1,4 +1,4 @@
-// Whether bytes mean so many cells, of a kind that a version allows.
+// Tests whether bytes mean cells of a kind that a version allows.
 ghost use Rattle.std.specs.Prelude.{◌≡◌, ◌↔◌, ◌<◌, ℕ, List, length, Option, IfSome, IsSome, IsTrue};
 ghost use Rattle.leaf_model.specs.declared.rows.Value.{Value};
 ghost use Rattle.column_bytes.specs.Column.{HasCells};
@@ -11,7 +11,7 @@ use region_layout::allows;
 use std::marker::Brand;
 use std::sync::ledger::{Blank, Ledger};
 
-// How many cells the bytes mean, and of which kind, where they are a column. It counts no steps.
+// The number of cells that the bytes mean, and their kind; None if they are no column. It counts no steps.
 fn tell_read<L: Ledger>(bytes: &[u8], blank: Blank) -> Option<(u32, Kind)>
     requires name { blank.name ≡ L.name }
     requires parts { blank.parts ≡ L.parts }
@@ -31,7 +31,7 @@ fn tell_cells(bytes: &[u8]) -> Option<(u32, Kind)>
     tell_read::<Brand>(bytes, Blank::new(1))
 }
 
-/// Whether the bytes are a column of so many cells that an image of the version may have.
+/// Whether the bytes are a column of `rows` cells that an image of this version may have.
 #[tactic(auto, using(crate::proofs::Counts::one_number))]
 pub fn mean_cells(version: u32, bytes: &[u8], rows: u32) -> bool
     ensures { IsTrue result ↔ MeanIn version bytes.now rows }

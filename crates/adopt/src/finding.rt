@@ -25,7 +25,7 @@ use region_reading::{Looked, look};
 use std::alloc::Global;
 use std::snapshot::Snapshot;
 
-/// The flag was closed, and these are the first bytes as they were before.
+/// Goes on after the flag was closed; these are the first bytes as they were before.
 #[tactic(auto, using(crate::proofs::Ending::untouched_disks))]
 pub fn find_closed<B: Berth>(
     alloc: Global,
@@ -52,7 +52,7 @@ pub fn find_closed<B: Berth>(
     }
 }
 
-/// The region has this directory, of a version that is read.
+/// Goes on with this directory, of a version that is read.
 fn find_known<B: Berth>(
     alloc: Global,
     names: &Names,
@@ -89,7 +89,7 @@ fn find_known<B: Berth>(
     }
 }
 
-/// Each table of the directory has one of the names.
+/// Begins the adoption: each table of the directory has one of the names.
 fn take_up<B: Berth>(
     alloc: Global,
     names: &Names,
@@ -113,7 +113,7 @@ fn take_up<B: Berth>(
     Ok(Found::Ready(begun(alloc, names, version, looked, left)))
 }
 
-/// An adoption of which nothing was taken.
+/// An adoption that has taken nothing.
 fn begun(alloc: Global, names: &Names, version: u32, looked: Looked, left: Vec<Span>) -> Adopt
     requires read { IsRead looked.place looked.directory }
     requires known { stranger_of names.now (map (λ (t : TablePlaces). t.name) looked.directory.tables) ≡ None }

@@ -16,7 +16,7 @@ use std::alloc::{AllocError, Global};
 use std::collections::VecDeque;
 use table_state::{MOST_ROWS, Parts};
 
-/// The tables of a directory whose columns are these.
+/// Makes the tables of a directory out of its columns. NoImage if they make none.
 pub fn finished(
     alloc: Global,
     directory: Directory,
@@ -36,7 +36,7 @@ pub fn finished(
     }
 }
 
-/// The tables at these places. NoRows exactly where they break a rule of tables.
+/// Makes the tables at these places. NoRows if and only if they break a rule of tables.
 fn tables_from(
     alloc: Global,
     tables: Vec<TablePlaces>,
@@ -54,7 +54,7 @@ fn tables_from(
     Ok(made)
 }
 
-/// The table at this place, whose columns come next.
+/// Makes the table at this place out of the next columns.
 fn table_from(
     alloc: Global,
     table: TablePlaces,
@@ -86,7 +86,7 @@ fn table_from(
     }
 }
 
-/// The blocks at these places, whose columns come next.
+/// Makes the blocks at these places out of the next columns.
 fn blocks_from(
     alloc: Global,
     blocks: Vec<BlockPlaces>,
@@ -105,7 +105,7 @@ fn blocks_from(
     Ok(made)
 }
 
-/// The block at this place, whose columns come next.
+/// Makes the block at this place out of the next columns.
 fn block_from(
     alloc: Global,
     block: BlockPlaces,
@@ -124,7 +124,7 @@ fn block_from(
     RowBlock::from_columns(alloc, rows, own)
 }
 
-/// The columns at these places, which come next.
+/// Takes the columns at these places, which come next.
 fn columns_from(
     alloc: Global,
     places: Vec<Place>,
@@ -141,7 +141,7 @@ fn columns_from(
     Ok(BlockColumns::of(made))
 }
 
-/// The column at this place, which comes next.
+/// Takes the column at this place, which comes next.
 fn named_column(alloc: Global, place: Place, columns: &mut VecDeque<ColumnBytes>) -> BlockColumn
     ensures made { result ≡ named_front place columns.old.items }
     ensures left { columns.new.items ≡ after_column place columns.old.items }
@@ -152,7 +152,7 @@ fn named_column(alloc: Global, place: Place, columns: &mut VecDeque<ColumnBytes>
     }
 }
 
-/// Takes the first column, and an empty one where there is none.
+/// Takes the first column, or an empty one if there is none.
 fn next_column(alloc: Global, columns: &mut VecDeque<ColumnBytes>) -> ColumnBytes
     ensures first { result ≡ front_of columns.old.items }
     ensures left { columns.new.items ≡ drop 1 columns.old.items }

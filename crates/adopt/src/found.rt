@@ -57,20 +57,20 @@ pub enum Found {
     OtherVersion(u32),
     /// It is no image.
     NoImage,
-    /// The image has a table of this name, which was not asked for; it is the first such.
+    /// The image has a table of this name, which the leaf does not have; it is the first such table.
     Stranger(Text),
-    /// It has the directory of an image, whose columns are still to be taken.
+    /// It has the directory of an image, whose columns are to be taken.
     Ready(Adopt),
 }
 
 /// What a step comes to.
 #[derive(Drop)]
 pub enum AdoptStep {
-    /// A column was taken, and this is left.
+    /// One more column was taken; this is left.
     More(Adopt),
     /// The columns mean no tables, so the region is no image.
     NoImage,
-    /// All columns were taken: the tables that they make, and where the log ends.
+    /// All columns were taken: the tables that they make, and the place where the log ends.
     Finished { tables: DrainTables, log_end: u64 },
 }
 
@@ -81,7 +81,8 @@ pub struct Drained {
     pub log_end: u64,
 }
 
-/// One table for each name, in their order; a table that the image does not name is empty. And where the log ends.
+/// One table for each name, in their order, and the place where the log ends. A table that the image does not name is
+/// empty.
 #[derive(Drop)]
 pub struct Adopted {
     pub tables: Tables,
@@ -93,7 +94,7 @@ pub struct Adopted {
 pub enum Adoption {
     /// The region has no tables, for this reason.
     NoTables(WhyDisk),
-    /// The image has a table of this name, which was not asked for; no column was read.
+    /// The image has a table of this name, which the leaf does not have. No column was read.
     Stranger(Text),
     /// The tables of the leaf.
     Tables(Adopted),

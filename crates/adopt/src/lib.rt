@@ -1,4 +1,4 @@
-//! How the columns of a region are taken back one by one, each cut off the region once it was read.
+//! Takes the columns of a region back one by one, and cuts each off the region once it was read.
 #![tactic(auto)]
 
 mod adopting;

@@ -6,7 +6,7 @@ ghost use Rattle.adopt.specs.Taken.{block_spans, span_of, spans_of, table_spans}
 use region_layout::{BlockPlaces, Directory, Place, TablePlaces};
 use std::alloc::{AllocError, Global};
 
-/// A column of the region: where its bytes begin, how many there are, and how many rows its block has.
+/// A column of the region: the place where its bytes begin, their number, and the number of rows of its block.
 #[derive(Clone, Copy, Debug, PartialEq, Eq)]
 pub struct Span {
     pub place: u64,

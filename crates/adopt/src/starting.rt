@@ -18,11 +18,12 @@ use leaf_model::Names;
 use leaf_words::WhyDisk;
 use std::alloc::{AllocError, Global};
 
-/// Finds the tables of the region's image, by the names of a leaf. An open flag is closed before anything else is read or changed, and each column is cut off the region once it was read.
+/// Takes the tables of a leaf out of the region's image. It closes an open flag before anything else is read or
+/// changed, and cuts each column off the region once it was read.
 pub fn adopt<B: Berth>(alloc: Global, names: &Names, berth: &mut B) -> Result<Adoption, AdoptFault>
     requires names { AreNames names.now }
     ensures told { IsTrue (B.meaning berth.old).tells → Adopts names.now (B.meaning berth.old).held.region (B.meaning berth.new).held.region result }
-    // The disk is untouched, on every disk that a crash may leave.
+    // Each disk that a crash may leave stays as it was.
     ensures disk { IsTrue (B.meaning berth.old).tells → (B.meaning berth.new).held.disk ≡ (B.meaning berth.old).held.disk }
     ensures disks { IsTrue (B.meaning berth.old).tells → Ended SameDisk (B.meaning berth.old) (B.meaning berth.new) }
     // What a crash leaves at each moment.
@@ -42,7 +43,7 @@ pub fn adopt<B: Berth>(alloc: Global, names: &Names, berth: &mut B) -> Result<Ad
     }
 }
 
-/// The region has an image, of whose columns these are left.
+/// Goes on with an image, whose columns are to be taken.
 fn adopt_image<B: Berth>(
     alloc: Global,
     names: &Names,
@@ -66,7 +67,7 @@ fn adopt_image<B: Berth>(
     }
 }
 
-/// For each name its table.
+/// The table for each name.
 fn adopted(alloc: Global, names: &Names, drained: Drained) -> Result<Adopted, AllocError>
     requires distinct { AreDistinct names.now }
     requires drained { IsDrained names.now drained }
@@ -79,7 +80,7 @@ fn adopted(alloc: Global, names: &Names, drained: Drained) -> Result<Adopted, Al
     })
 }
 
-/// Takes all columns that are left; None where they make no tables.
+/// Takes all columns that are left. None if they make no tables.
 fn take_all<B: Berth>(
     alloc: Global,
     image: Adopt,

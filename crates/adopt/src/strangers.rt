@@ -8,7 +8,7 @@ ghost use Rattle.adopt.specs.Finding.{is_stranger};
 use leaf_model::Text;
 use region_layout::{TablePlaces, TablePlacesList};
 
-/// Gives the tables back where each has one of the names, else the name of the first that has none.
+/// Gives the tables back if each has one of the names. An Err gives the name of the first that has none of them.
 pub fn all_known(names: &[Text], tables: TablePlacesList) -> Result<TablePlacesList, Text>
     ensures same { IfOk result (λ all. all ≡ tables) }
     ensures known { OnOk result (stranger_of names.now (map (λ (t : TablePlaces). t.name) tables) ≡ None) }

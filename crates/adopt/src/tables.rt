@@ -15,7 +15,7 @@ use region_layout::DrainTable;
 use std::alloc::{AllocError, Global};
 use table_state::{TableState, Tables};
 
-/// For each name its table, and an empty one where the image has none.
+/// The table for each name, in their order. It is empty if the image has none of that name.
 pub fn arranged(
     alloc: Global,
     names: &[Text],
@@ -32,7 +32,7 @@ pub fn arranged(
     Ok(Tables::of(tables))
 }
 
-/// Takes the table of that name, and where there is none an empty one.
+/// Takes the table of this name, or an empty one if there is none.
 fn take_named(alloc: Global, name: &str, drained: &mut Vec<DrainTable>) -> TableState
     requires { AllByRecursion IsMade drained.old.items }
     ensures taken { bare result ≡ table_of (table_named (images_of drained.old.items) name.now) }

@@ -9,18 +9,18 @@ use row_blocks::ColumnBytes;
 use std::marker::Model;
 use std::snapshot::Snapshot;
 
-/// What is left of an image, and the columns that were taken, the last one first.
+/// An adoption in progress: what is left of an image, and the columns that were taken, the last one first.
 #[derive(Drop)]
 pub struct Adopt {
     pub(crate) names: Snapshot<Names>,
     pub(crate) version: u32,
     pub(crate) image_len: u64,
     pub(crate) directory: Directory,
-    // Where the directory stood.
+    // The place where the directory stood.
     pub(crate) place: u64,
     pub(crate) left: Vec<Span>,
     pub(crate) taken: Vec<ColumnBytes>,
-    // How many bytes were taken.
+    // The number of bytes that were taken.
     pub(crate) held: u64,
 }
 
@@ -36,14 +36,14 @@ impl Model for Adopt {
 }
 
 impl Adopt {
-    /// The lengths of the columns that were taken, together.
+    /// The total length in bytes of the columns that were taken.
     pub fn held(&self) -> u64
         ensures { result ≡ length (joined self.now.heap) }
     {
         self.held
     }
 
-    /// How long the region was before the first step.
+    /// The length of the region in bytes, before the first step.
     pub fn image_len(&self) -> u64
         ensures { result ≡ self.now.image_len }
     {

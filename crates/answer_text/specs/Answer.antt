@@ -16,7 +16,8 @@ use Rattle.leaf_model.specs.declared.groups.Fold.{Fold}
 use Rattle.leaf_model.specs.declared.groups.Group.{Group}
 use Rattle.leaf_model.specs.Groups.{keys_cmp}
 
--- what ORDER BY compares: the count, the sum, the least or the greatest, which may be missing. An AVG orders nothing
+-- what ORDER BY compares: the count, the sum, the least or the greatest; None if it is missing, and for an AVG, which
+-- orders nothing
 abbrev pub measure : Agg → ℕ → Fold → Option ℤ
 measure Count count f = Some (pos count)
 measure (Sum name) count f = Some f.sum
@@ -28,7 +29,7 @@ measure (Avg name) count f = None
 abbrev pub measure_at : Query → Group → ℕ → Option ℤ
 measure_at q g place = option_and_then (λ agg. option_and_then (measure agg g.count) (slice_get g.folds place)) (slice_get q.aggs place)
 
--- its measure by the aggregate that the query is ordered by
+-- the measure of a group by the aggregate that orders the query
 abbrev pub measure_of : Query → Group → Option ℤ
 measure_of q g = option_and_then (measure_at q g) q.order
 
@@ -36,12 +37,12 @@ measure_of q g = option_and_then (measure_at q g) q.order
 abbrev pub group_cmp : Query → Group → Group → Ordering
 group_cmp q a b = ordering_then (option_cmp int_cmp (measure_of q b) (measure_of q a)) (keys_cmp a.keys b.keys)
 
--- x in its place in a list in order
+-- a list in order with x in its place
 abbrev pub placed : {X : Type 0} → (X → X → Ordering) → X → List X → List X
 placed cmp x [] = x ∷ []
 placed cmp x (y ∷ ys) = if is_lt (cmp y x) then y ∷ placed cmp x ys else x ∷ y ∷ ys
 
--- the same elements in order, and those that are alike as they stood
+-- the elements in order; ties stay as they stood: a stable sort
 abbrev pub in_order : {X : Type 0} → (X → X → Ordering) → List X → List X
 in_order cmp [] = []
 in_order cmp (x ∷ xs) = placed cmp x (in_order cmp xs)

@@ -8,9 +8,9 @@ use crate::print::line;
 use leaf_model::{Group, Groups, Query, Text};
 use std::alloc::{AllocError, Global};
 
-/// The lines that answer a query, from its groups: by key ascending, or by the aggregate at the place `order`, the
-/// greatest first, and then by key; at most `limit` of them. A place where no aggregate stands, or an AVG, orders
-/// nothing. Fails only for want of memory.
+/// The lines that answer a query, one for each of its groups, at most `limit` of them. They are in the order of the
+/// keys, ascending; or, if `order` is the place of an aggregate, by that, the greatest first, and then by key. A place
+/// without an aggregate, or of an AVG, orders nothing.
 pub fn lines(alloc: Global, query: &Query, groups: &Groups) -> Result<Lines, AllocError>
     ensures { IfOk result (λ lines. lines ≡ answer_lines query.now groups.now) }
 {
@@ -19,7 +19,7 @@ pub fn lines(alloc: Global, query: &Query, groups: &Groups) -> Result<Lines, All
     Ok(Lines::of(print_all(alloc, query, shown)?))
 }
 
-/// At most so many groups.
+/// The first `limit` groups.
 fn cut<'a, 'b>(groups: &'a [&'b Group], limit: u32) -> &'a [&'b Group]
     ensures { result.now ≡ take limit groups.now }
 {

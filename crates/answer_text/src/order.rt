@@ -20,7 +20,7 @@ fn measure(agg: &Agg, count: u64, fold: &Fold) -> Option<i128>
     }
 }
 
-/// What a group has of the aggregate that orders the answer.
+/// The value of the aggregate that orders the answer; None if it is missing.
 fn measure_of(query: &Query, group: &Group) -> Option<i128>
     ensures { result ≡ measure_of query.now group.now }
 {
@@ -47,14 +47,14 @@ fn refs_of(alloc: Global, groups: &[Group]) -> Result<Vec<&Group>, AllocError>
     groups.iter().collect(alloc)
 }
 
-/// A stable sort, which is one pass where the groups stand in order.
+/// A stable sort. It is one pass if the groups stand in order.
 fn sort(query: &Query, groups: &mut Vec<&Group>) -> Result<(), AllocError>
     ensures { OnOk result (map (λ g. g.now) groups.new.items ≡ in_order (group_cmp query.now) (map (λ g. g.now) groups.old.items)) }
 {
     groups.sort_by(|a, b| compare_groups(query, a, b))
 }
 
-/// The groups as the answer has them.
+/// The groups in the order of the answer.
 pub fn in_order<'a>(
     alloc: Global,
     query: &Query,
@@ -67,7 +67,7 @@ pub fn in_order<'a>(
     Ok(all)
 }
 
-/// Law: an answer in order has the same groups, and no two that stand side by side are the wrong way round.
+/// Law: an answer in order is a permutation of the groups, and it is sorted.
 pub fn order_meaning()
     ensures same { (q : Query) → (gs : List Group) → IsPermutation gs (in_order (group_cmp q) gs) }
     ensures sorted { (q : Query) → (gs : List Group) → IsSorted (group_cmp q) (in_order (group_cmp q) gs) }

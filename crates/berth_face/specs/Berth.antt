@@ -8,7 +8,7 @@ pub record Pair : Type 0 where
 
 -- all that a berth means
 pub record Meaning : Type 1 where
-  -- whether it tells its contents; where it does not, `held`, `leaves` and `regions` say nothing
+  -- whether it tells its contents; if not, `held`, `leaves` and `regions` say nothing
   pub tells : Bool
   -- what reads give
   pub held : Pair
@@ -16,7 +16,7 @@ pub record Meaning : Type 1 where
   pub clock : ℕ
   -- the pairs that a crash at a moment may leave
   pub leaves : ℕ → Pair → Type 0
-  -- the regions that may stand at a moment: the one that reads give, and inside a call what it may have made by then
+  -- the regions that may be there at a moment: the one that reads give, and inside a call what it may have made by then
   pub regions : ℕ → List ℕ → Type 0
   pub region_faults : ℕ
   pub disk_faults : ℕ
@@ -26,18 +26,18 @@ pub record Meaning : Type 1 where
 abbrev pub IsClosed : List ℕ → Type 0
 IsClosed region = (length region < 16) ⊎ (slice_index region 0 ≢ 1)
 
--- old with these bytes at this place, and a gap before it filled with zeros
+-- `old` with these bytes at this place; a gap before it is filled with zeros
 abbrev pub written : ℕ → List ℕ → List ℕ → List ℕ
 written at bytes old = take at (old ++ replicate (at - length old) 0) ++ bytes ++ drop (at + length bytes) old
 
--- after a write of n bytes that is cut short: any bytes in the range and past the old end, the same elsewhere
+-- a write of n bytes was cut short: any bytes may be in its range and past the old end; elsewhere they are the same
 pub record Torn (at n : ℕ) (old new : List ℕ) : Type 0 where
   pub before : take (min at (length old)) new ≡ take at old
   pub after : drop (at + n) new ≡ drop (at + n) old
   pub no_shorter : length old ≤ length new
   pub no_longer : length new ≤ max (length old) (at + n)
 
--- after a cut to n that is cut short: some length between
+-- a cut to n bytes was cut short: the length is between n and the old one
 pub record Cut (n : ℕ) (old new : List ℕ) : Type 0 where
   pub no_shorter : min n (length old) ≤ length new
   pub front : new ≡ take (length new) old
@@ -51,7 +51,7 @@ pub record Passes (old new : Meaning) : Type 0 where
   pub region_faults : old.region_faults ≤ new.region_faults
   pub disk_faults : old.disk_faults ≤ new.disk_faults
 
--- the contents stay, and so do the present pairs, also at a moment that is added
+-- the contents stay, and so do the pairs of the present, also at a moment that is added
 pub record Stays (old new : Meaning) : Type 0 where
   pub held : new.held ≡ old.held
   pub leaves : (t : ℕ) (p : Pair) → old.clock ≤ t → t ≤ new.clock → new.leaves t p ↔ old.leaves old.clock p
@@ -61,23 +61,24 @@ pub record Stays (old new : Meaning) : Type 0 where
 abbrev pub Ticks : {T E : Type 0} → Result T E → Meaning → Meaning → Type 0
 Ticks result old new = OnOk result (old.clock + 2 ≤ new.clock) × OnErr result ((old.clock + 2 ≤ new.clock) ⊎ Stays old new)
 
--- each pair of a moment inside the call comes from a present pair by a step
+-- each pair of a moment inside the call comes from a pair of the moment before the call, by a step
 abbrev pub Inside : (Pair → Pair → Type 0) → Meaning → Meaning → Type 0
 Inside step old new = (t : ℕ) (p : Pair) → old.clock < t → t < new.clock → new.leaves t p → (q : Pair) × old.leaves old.clock q × step q p
 
--- each pair of the moment at which the call ended comes from a pair before it by a step
+-- each pair of the moment at which the call ended comes from a pair before the call, by a step
 abbrev pub Ended : (Pair → Pair → Type 0) → Meaning → Meaning → Type 0
 Ended step old new = (p : Pair) → new.leaves new.clock p → (q : Pair) × old.leaves old.clock q × step q p
 
--- each region that may stand at a moment inside the call is one that it makes
+-- each region that may be there at a moment inside the call is one that the call makes
 abbrev pub Making : (List ℕ → Type 0) → Meaning → Meaning → Type 0
 Making makes old new = (t : ℕ) (region : List ℕ) → old.clock < t → t < new.clock → new.regions t region → makes region
 
--- a read gives what is there, and fewer bytes than asked where the content ends
+-- a read gives what is there, and fewer bytes than asked only if the content ends
 abbrev pub Gives : {E : Type 0} → ℕ → List ℕ → Result ℕ E → List ℕ → Type 0
 Gives at content result buf = IfOk result (λ n. (n ≡ min (length buf) (length content - at)) × (take n buf ≡ take n (drop at content)))
 
--- Of an unfinished call on the region: the region is one that the call makes, or, where the machine went down, any that is closed. The disk is as it was.
+-- a step of an unfinished call on the region: the region is one that the call makes, or, if the machine went down, any
+-- closed one; the disk is as it was
 abbrev pub RegionStep : (List ℕ → Type 0) → Pair → Pair → Type 0
 RegionStep makes q p = (makes p.region ⊎ IsClosed p.region) × (p.disk ≡ q.disk)
 
@@ -85,7 +86,7 @@ RegionStep makes q p = (makes p.region ⊎ IsClosed p.region) × (p.disk ≡ q.d
 abbrev pub SameDisk : Pair → Pair → Type 0
 SameDisk q p = p.disk ≡ q.disk
 
--- of a call on the disk: the region is as it was
+-- a step of a call on the disk: the region is as it was
 abbrev pub DiskStep : (List ℕ → List ℕ → Type 0) → Pair → Pair → Type 0
 DiskStep makes q p = (p.region ≡ q.region) × makes q.disk p.disk
 
@@ -126,7 +127,7 @@ pub record DiskSynced {T E : Type 0} (result : Result T E) (old new : Meaning) :
   pub durable : OnOk result ((p : Pair) → new.leaves new.clock p → p.disk ≡ old.held.disk)
   pub meanwhile : Making (λ region. region ≡ old.held.region) old new
 
--- what a berth means that tells nothing of its contents
+-- the meaning of a berth that tells nothing of its contents
 abbrev pub untold : ℕ → ℕ → ℕ → Meaning
 untold region_faults disk_faults disk_reads = record {
   tells = false;

@@ -17,7 +17,7 @@ pub trait Berth: Send {
         ensures cause { HasCause (meaning self.old).region_faults (meaning self.new).region_faults result }
         ensures reads { (meaning self.new).disk_reads ≡ (meaning self.old).disk_reads };
 
-    /// Gives the bytes from `at` on, and fewer than asked where the region ends.
+    /// Reads bytes from `at` on into the buffer, and tells how many: fewer than asked only if the region ends there.
     fn region_read(&mut self, at: u64, buf: &mut [u8]) -> Result<usize, Failed>
         ensures bound { ReadsAtMost result buf.new }
         ensures told { IsTrue (meaning self.old).tells → Gives at (meaning self.old).held.region result buf.new × Stays (meaning self.old) (meaning self.new) }
@@ -25,7 +25,7 @@ pub trait Berth: Send {
         ensures cause { HasCause (meaning self.old).region_faults (meaning self.new).region_faults result }
         ensures reads { (meaning self.new).disk_reads ≡ (meaning self.old).disk_reads };
 
-    /// Writes over what is there and past the end, and fills a gap before `at` with zeros.
+    /// Writes the bytes at `at`, over what is there and past the end. A gap before `at` is filled with zeros.
     fn region_write(&mut self, at: u64, bytes: &[u8]) -> Result<(), Failed>
         ensures too_far { 2 ^ 63 ≤ at + length bytes.now → IsErr result }
         ensures told { IsTrue (meaning self.old).tells → RegionWritten at bytes.now result (meaning self.old) (meaning self.new) }
@@ -47,7 +47,7 @@ pub trait Berth: Send {
         ensures cause { HasCause (meaning self.old).disk_faults (meaning self.new).disk_faults result }
         ensures reads { (meaning self.new).disk_reads ≡ (meaning self.old).disk_reads };
 
-    /// Gives the bytes from `at` on, and fewer than asked where the disk ends.
+    /// Reads bytes from `at` on into the buffer, and tells how many: fewer than asked only if the disk ends there.
     fn disk_read(&mut self, at: u64, buf: &mut [u8]) -> Result<usize, Failed>
         ensures bound { ReadsAtMost result buf.new }
         ensures told { IsTrue (meaning self.old).tells → Gives at (meaning self.old).held.disk result buf.new × Stays (meaning self.old) (meaning self.new) }
@@ -55,7 +55,8 @@ pub trait Berth: Send {
         ensures cause { HasCause (meaning self.old).disk_faults (meaning self.new).disk_faults result }
         ensures reads { Rose (meaning self.old).disk_reads (meaning self.new).disk_reads };
 
-    /// Writes over what is there and past the end. Until a sync, a crash may leave any bytes in the range.
+    /// Writes the bytes at `at`, over what is there and past the end. Until a sync, a crash may leave any bytes in the
+    /// range.
     fn disk_write(&mut self, at: u64, bytes: &[u8]) -> Result<(), Failed>
         ensures too_far { 2 ^ 63 ≤ at + length bytes.now → IsErr result }
         ensures told { IsTrue (meaning self.old).tells → DiskWritten at bytes.now result (meaning self.old) (meaning self.new) }
@@ -73,7 +74,8 @@ pub trait Berth: Send {
     /// A crash now may leave what reads give.
     ghost stands: { (b : Self) → IsTrue (meaning b).tells → (meaning b).leaves (meaning b).clock (meaning b).held };
 
-    /// A crash now leaves the region that reads give. If the machine goes down, it may leave any region that is closed instead, of which nothing is used.
+    /// A crash now leaves the region that reads give. If the machine goes down, it may leave any closed region instead.
+    /// Nothing of a closed region is used.
     ghost keeps_region: { (b : Self) (p : Pair) → IsTrue (meaning b).tells → (meaning b).leaves (meaning b).clock p → (p.region ≡ (meaning b).held.region) ⊎ IsClosed p.region };
 
     /// What stands now is the region that reads give.

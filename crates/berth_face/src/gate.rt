@@ -1,12 +1,12 @@
-// A place for tests to hold a command or a turn.
+// The place where tests hold a command or a turn.
 
-/// A place for tests to hold a command before it is played, or a caller inside a table's turn. It changes no answer.
+/// Lets a test hold a command before it is played, or a caller inside a table's turn. It changes no answer.
 pub trait Gate: Sync {
-    /// Called before each command: in a burst with the lane's number and the command's place in the lane, both from 0; outside bursts with
-    /// lane 0 and the command's place among those outside bursts.
+    /// Called before each command. In a burst it is told the lane's number and the command's place in the lane, both
+    /// from 0. Outside bursts it is told lane 0 and the command's place among those outside bursts.
     fn pass(&self, lane: u32, step: u32);
 
-    /// Called inside a turn of that table of that leaf.
+    /// Called inside a turn of this table of this leaf.
     fn within(&self, leaf: u32, table: u32);
 }
 

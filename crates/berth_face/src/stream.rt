@@ -8,15 +8,15 @@ ghost use Rattle.berth_face.specs.Causes.{HasCause};
 #[derive(Clone, Copy, Debug, PartialEq, Eq)]
 pub struct Failed;
 
-/// Where bytes come from.
+/// A source of bytes.
 pub trait Source {
-    /// The bytes that are left, where the source tells them.
+    /// The bytes that are left; None if the source does not tell them.
     ghost left: { Self → Option (List ℕ) };
 
     /// How often a call failed.
     ghost faults: { Self → ℕ };
 
-    /// Gives the next bytes, and none only at the end. A call that fails takes nothing.
+    /// Reads the next bytes into the buffer, and tells how many: 0 only at the end. A call that fails takes nothing.
     fn take(&mut self, buf: &mut [u8]) -> Result<usize, Failed>
         requires { 0 < length buf.old }
         ensures bound { ReadsAtMost result buf.new }
@@ -24,16 +24,16 @@ pub trait Source {
         ensures cause { HasCause (faults self.old) (faults self.new) result };
 }
 
-/// Where bytes go.
+/// A sink of bytes.
 pub trait Sink {
-    /// The bytes that were written, where the sink tells them.
+    /// The bytes that were written; None if the sink does not tell them.
     ghost written: { Self → Option (List ℕ) };
 
     /// How often a call failed.
     ghost faults: { Self → ℕ };
 
-    /// Appends a front of the piece, at least one byte of a piece that has one, and answers its length.
-    /// A call that fails appends nothing.
+    /// Appends a prefix of the piece, and tells its length: at least one byte of a piece that is not empty. A call that
+    /// fails appends nothing.
     fn put(&mut self, bytes: &[u8]) -> Result<usize, Failed>
         ensures bound { WritesAtMost result bytes.now }
         ensures some { 0 < length bytes.now → IfOk result (λ n. 0 < n) }

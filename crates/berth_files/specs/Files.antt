@@ -9,25 +9,25 @@ abbrev pub content : LeafFile → Meaning → List ℕ
 content Region m = m.held.region
 content Disk m = m.held.disk
 
--- the bytes from `at` on, as many as it likes, but one at least where there is one and room for it
+-- the bytes from `at` on, any number of them, but at least one if there is one and room for it
 pub record GivesSome (at : ℕ) (content buf : List ℕ) (n : ℕ) : Type 0 where
   pub within : n ≤ length content - at
   pub some : 0 < length buf → 0 < length content - at → 0 < n
   pub bytes : take n buf ≡ take n (drop at content)
 
--- what a write into this file does, as of a berth
+-- what a write into this file does, as the clauses of a berth say it
 abbrev pub FileWritten : {T E : Type 0} → LeafFile → ℕ → List ℕ → Result T E → Meaning → Meaning → Type 0
 FileWritten Region at bytes result old new = RegionWritten at bytes result old new
 FileWritten Disk at bytes result old new = DiskWritten at bytes result old new
 
--- time goes on, and past moments stay; the counts are not looked at
+-- time goes on, and past moments stay; nothing is said of the counts
 pub record GoesOn (old new : Meaning) : Type 0 where
   pub tells : new.tells ≡ old.tells
   pub later : old.clock ≤ new.clock
   pub past : (t : ℕ) (p : Pair) → t ≤ old.clock → new.leaves t p ↔ old.leaves t p
   pub past_regions : (t : ℕ) (region : List ℕ) → t ≤ old.clock → new.regions t region ↔ old.regions t region
 
--- what files mean, with these counts in place of theirs
+-- the meaning of files, with these counts in place of theirs
 abbrev pub counting : Meaning → ℕ → ℕ → ℕ → Meaning
 counting m region_faults disk_faults disk_reads = record {
   tells = m.tells;

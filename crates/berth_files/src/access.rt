@@ -1,6 +1,6 @@
-// What a leaf's files are opened for.
+// How a leaf's files are opened.
 
-/// What a leaf's files are opened for.
+/// How a leaf's files are opened.
 #[derive(Clone, Copy, Drop)]
 pub enum Access {
     /// Reads and writes. Each file is locked while it is open.

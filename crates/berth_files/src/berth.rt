@@ -119,7 +119,7 @@ impl<F: FileCalls + Send + Drop> Berth for FileBerth<F> {
     }
 }
 
-/// Counts a call that failed, and hands on what it gave.
+/// Counts a call if it failed, and returns its result.
 fn counted<T>(done: Result<T, Failed>, faults: &mut u64) -> Result<T, Failed>
     ensures same { result ≡ done }
     ensures cause { HasCause faults.old faults.new result }
@@ -135,7 +135,7 @@ fn counted<T>(done: Result<T, Failed>, faults: &mut u64) -> Result<T, Failed>
     }
 }
 
-/// Counts one more. At its last value the count stands still.
+/// Adds one to a count. It saturates.
 fn count(number: &mut u64)
     ensures value { number.new ≡ min (number.old + 1) (2 ^ 64 - 1) }
     ensures rose { Rose number.old number.new }

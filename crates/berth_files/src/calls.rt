@@ -7,43 +7,47 @@ ghost use Rattle.berth_files.specs.Files.{GivesSome, FileWritten, GoesOn, conten
 use crate::leaf_file::LeafFile;
 use berth_face::Failed;
 
-/// The two files of a leaf, by six calls. Each clause says what a call gives and keeps where the
-/// files tell what they hold. That the system's files keep these clauses is trusted; all that is
-/// said of a `FileBerth` is proved over every pair of files that keep them.
+/// The two files of a leaf, by six calls. Each clause says what a call gives and keeps, if the files tell what they
+/// hold. We trust that the system's files keep these clauses. All clauses of a `FileBerth` are proved over every pair
+/// of files that keeps them.
 ///
-/// Linux keeps them if the program ends, however it ends. If the machine goes down, it keeps them of
-/// a disk on a device, whether the region is on a device too or in memory, where it is lost. A disk
-/// in memory does not keep `sync_disk` then.
+/// Linux keeps them if the program ends, however it ends. If the machine goes down, it keeps them for a disk on a
+/// device; the region may be on a device too, or in memory, where it is lost. A disk in memory does not keep
+/// `sync_disk` then.
 ///
-/// Asked of a device is that it has what it said is synced, and that a write changes no byte beside
-/// its own. Left out is a sync that fails while a flag is closed: if the machine goes down before a
-/// later call on the region succeeds, the device may have that flag open. Nothing was written to
-/// the disk meanwhile, since the leaf did not come up.
+/// We ask of a device that it has what it said is synced, and that a write changes no byte beside its own. One case is
+/// left out: a sync fails while a flag is closed, and the machine goes down before a later call on the region succeeds.
+/// The device may then have that flag open. Nothing was written to the disk in between, because the leaf did not come
+/// up.
 pub trait FileCalls {
-    /// What the files hold, and what a crash at each moment may leave of them. Its counts of faults and of reads say nothing.
+    /// What the files hold, and what a crash at each moment may leave of them. Its counts of faults and of reads claim
+    /// nothing.
     ghost holds: { Self → Meaning };
 
-    /// How many bytes the file has. One that is not there has none.
+    /// The number of bytes of the file; 0 if it is not there.
     fn len(&mut self, file: LeafFile) -> Result<u64, Failed>
         ensures bound { IfOk result (λ n. n < 2 ^ 63) }
         ensures told { IsTrue (holds self.old).tells → IfOk result (λ n. n ≡ length (content file (holds self.old))) × Stays (holds self.old) (holds self.new) }
         ensures time { GoesOn (holds self.old) (holds self.new) };
 
-    /// Gives bytes from `at` on. It may give fewer than there are, but one at least where there is one and room for it.
+    /// Reads bytes from `at` on into the buffer, and tells how many. They may be fewer than there are, but at least one
+    /// if there is one and room for it.
     fn read_some(&mut self, file: LeafFile, at: u64, buf: &mut [u8]) -> Result<usize, Failed>
         requires { at + length buf.old < 2 ^ 63 }
         ensures bound { ReadsAtMost result buf.new }
         ensures told { IsTrue (holds self.old).tells → IfOk result (λ n. GivesSome at (content file (holds self.old)) buf.new n) × Stays (holds self.old) (holds self.new) }
         ensures time { GoesOn (holds self.old) (holds self.new) };
 
-    /// Writes all of a piece that is not empty, and fills a gap before it with zeros. A file that is not there is made.
+    /// Writes all of a piece, which is not empty, and fills a gap before it with zeros. It makes a file that is not
+    /// there.
     fn write_all(&mut self, file: LeafFile, at: u64, bytes: &[u8]) -> Result<(), Failed>
         requires some { 0 < length bytes.now }
         requires near { at + length bytes.now < 2 ^ 63 }
         ensures told { IsTrue (holds self.old).tells → FileWritten file at bytes.now result (holds self.old) (holds self.new) }
         ensures time { GoesOn (holds self.old) (holds self.new) };
 
-    /// Lengthens the file with zeros, as a write of no bytes at `len` does. A file that is as long stays as it is, and one that is not there is made.
+    /// Lengthens the file with zeros, as a write of no bytes at `len` does. A file that is at least as long stays as it
+    /// is. It makes a file that is not there.
     fn lengthen(&mut self, file: LeafFile, len: u64) -> Result<(), Failed>
         requires { len < 2 ^ 63 }
         ensures told { IsTrue (holds self.old).tells → FileWritten file len [] result (holds self.old) (holds self.new) }
@@ -54,8 +58,8 @@ pub trait FileCalls {
         ensures told { IsTrue (holds self.old).tells → RegionCut len result (holds self.old) (holds self.new) }
         ensures time { GoesOn (holds self.old) (holds self.new) };
 
-    /// Gives the disk's file to the device, and its entry in the folder. After it, a crash leaves the disk that a read gives.
-    /// The folder's own entry in its parent is not synced: that is up to whoever made the folder.
+    /// Syncs the disk's file and its entry in the folder to the device. After it, a crash leaves the disk that a read
+    /// gives. It does not sync the folder's own entry in its parent: whoever made the folder does that.
     fn sync_disk(&mut self) -> Result<(), Failed>
         ensures told { IsTrue (holds self.old).tells → DiskSynced result (holds self.old) (holds self.new) }
         ensures time { GoesOn (holds self.old) (holds self.new) };
@@ -63,8 +67,8 @@ pub trait FileCalls {
     /// A crash now may leave what reads give.
     ghost stands: { (f : Self) → IsTrue (holds f).tells → (holds f).leaves (holds f).clock (holds f).held };
 
-    /// A crash now leaves the region that reads give. If the machine goes down, it may leave any region that is closed instead: none, where it was in
-    /// memory, and on a device any bytes behind a closed flag.
+    /// A crash now leaves the region that reads give. If the machine goes down, it may leave any closed region instead:
+    /// nothing of a region in memory, and on a device any bytes after a closed flag.
     ghost keeps_region: { (f : Self) (p : Pair) → IsTrue (holds f).tells → (holds f).leaves (holds f).clock p → (p.region ≡ (holds f).held.region) ⊎ IsClosed p.region };
 
     /// What stands now is the region that reads give.

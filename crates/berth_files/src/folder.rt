@@ -1,4 +1,4 @@
-// The files of a leaf as the system has them: this is the trusted edge.
+// The files of a leaf on the system: the trusted edge.
 ghost use Rattle.std.specs.Prelude.{◌+◌, ◌^◌, ◌<◌, length, IfOk};
 ghost use Rattle.std.specs.Io.{ReadsAtMost};
 ghost use Rattle.std.proofs.lemmas.Bool.{false≢true};
@@ -14,21 +14,21 @@ use std::alloc::AllocError;
 /// The first byte of a region whose flag is open.
 const OPEN: u8 = 1;
 
-/// Two files of one folder, `leaf-L.region` and `leaf-L.disk`, each made at its first write. They tell nothing of what they hold.
+/// Two files of one folder, `leaf-L.region` and `leaf-L.disk`. Each is made at its first write. They tell nothing of
+/// what they hold.
 ///
-/// Each file is opened when it is first found, and stays open. While it is open it is locked, so the
-/// lock goes when the program ends, however it ends. A file that another program has locked is a fault
-/// at each call, as is one that may not be both read and written. On a file system without locks
-/// nothing keeps two programs apart.
+/// Each file is opened when it is first found, and stays open. While it is open it is locked, so the lock goes when the
+/// program ends, however it ends. If another program has locked a file, or it may not be both read and written, each
+/// call on it fails. On a file system without locks nothing keeps two programs apart.
 ///
-/// The region is changed without syncs only behind a flag that these calls have closed. Each other
-/// change is synced before its call ends, and a write, as of the flag, stands between two syncs. So
-/// if the machine goes down, a region on a disk is what reads give, or its flag is closed.
+/// The region is changed without syncs only after these calls have closed its flag. Each other change is synced before
+/// its call ends; a write, as of the flag, stands between two syncs. So if the machine goes down, a region on a disk is
+/// what reads give, or its flag is closed.
 #[derive(Drop)]
 pub struct FolderFiles {
     region: Kept,
     disk: Kept,
-    /// Whether a call closed the region's flag, and none wrote it since.
+    /// Whether a call closed the region's flag and no later call wrote it.
     is_shut: bool,
 }
 

@@ -22,7 +22,7 @@ pub(crate) struct Kept {
     path: String,
     access: Access,
     file: Option<File>,
-    /// Whether a call was told that the file is not there, and none failed since.
+    /// Whether a call was told that the file is not there, and no later call failed.
     is_missing: bool,
     /// Whether the folder's own entry of the file was synced since the file was opened.
     is_entered: bool,
@@ -82,7 +82,7 @@ impl Kept {
         file.write_all_at(bytes, at).map_err(|_| Failed)
     }
 
-    /// Writes all of a piece between two syncs: it reaches the device behind all that was written before.
+    /// Writes all of a piece between two syncs, so it reaches the device after all that was written before.
     pub(crate) fn write_synced(&mut self, at: u64, bytes: &[u8]) -> Result<(), Failed>
         requires { at + length bytes.now < 2 ^ 63 }
     {
@@ -133,7 +133,7 @@ impl Kept {
         Ok(())
     }
 
-    /// The open file, where it is there.
+    /// The open file; None if it is not there.
     fn found(&mut self) -> Result<Option<&mut File>, Failed> {
         if self.file.is_none() {
             self.file = self.open(false)?;
@@ -142,7 +142,7 @@ impl Kept {
         Ok(self.file.as_mut())
     }
 
-    /// The open file, made where it is not there. It is to be written from this place on.
+    /// The open file, to be written from this place on. It makes one that is not there.
     fn made(&mut self, at: u64) -> Result<&mut File, Failed> {
         if matches!(self.access, Access::Look) {
             return Err(Failed);
@@ -155,10 +155,10 @@ impl Kept {
         self.file.as_mut().ok_or(Failed)
     }
 
-    /// Opens the file, and where it is to be written locks and syncs it. None is a file that is not there.
+    /// Opens the file. If it is to be written, it is locked and synced. None is a file that is not there.
     ///
-    /// One that was told as missing has no bytes: else another program has made it meanwhile. The sync
-    /// gives the device what a program wrote that ended before its own sync.
+    /// A file that was told as missing has no bytes, unless another program has made it since. The sync gives the
+    /// device what a program wrote that ended before its own sync.
     fn open(&mut self, create: bool) -> Result<Option<File>, Failed> {
         let was_missing = mem::replace(&mut self.is_missing, false);
         if matches!(self.access, Access::Look) {
@@ -250,7 +250,7 @@ fn write_again(file: &File, from: u64) -> Result<(), Failed> {
     Err(Failed)
 }
 
-/// Opens a file for reads and writes, and may make it where it is not there. None is a file that is not there.
+/// Opens a file for reads and writes, and may make one that is not there. None is a file that is not there.
 fn find(rt: &HostRuntime, path: &str, create: bool) -> Result<Option<File>, Failed> {
     let mut how = OpenOptions::new();
     match how.read(true).write(true).create(create).open(rt, path) {
@@ -273,7 +273,7 @@ fn look_at(rt: &HostRuntime, path: &str) -> Result<Option<File>, Failed> {
     }
 }
 
-/// Locks an open file until it is closed. Fails where another program has it open and locked.
+/// Locks an open file until it is closed. Fails if another program has it locked.
 fn lock(file: &File) -> Result<(), Failed> {
     match file.try_lock() {
         Err(TryLockError::WouldBlock) => Err(Failed),

@@ -30,7 +30,7 @@ pub(crate) fn read_whole<F: FileCalls>(
     fill(files, file, at, &mut buf[..room])
 }
 
-/// How much of a buffer a file could fill from `at` on.
+/// The number of bytes of a buffer that a file could fill from `at` on.
 fn room_at(at: u64, len: usize) -> usize
     requires { at < 2 ^ 63 }
     ensures { result ≡ min len (2 ^ 63 - 1 - at) }
@@ -64,7 +64,7 @@ fn fill<F: FileCalls>(
     Ok(done)
 }
 
-/// Reads once, behind what was read so far.
+/// Reads once, after what was read so far.
 fn read_on<F: FileCalls>(
     files: &mut F,
     file: LeafFile,
@@ -123,7 +123,7 @@ fn write_here<F: FileCalls>(
     }
 }
 
-/// Whether so many bytes from `at` on come to 2^63 or past it.
+/// Whether `len` bytes from `at` on reach 2^63.
 fn is_far(at: u64, len: usize) -> bool
     ensures { IsTrue result ↔ 2 ^ 63 ≤ at + len }
 {

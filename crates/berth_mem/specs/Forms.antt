@@ -26,7 +26,7 @@ berth_plan berth = berth.plan
 abbrev pub meaning : MemBerth → Meaning
 meaning berth = meaning_of berth.region.items berth.disk.items berth.calls.items berth.region_faults berth.disk_faults berth.disk_reads
 
--- of a call on the region: the plan counts it and may fail it, and a failure is counted and changes nothing else
+-- a call on the region: the plan counts it and may fail it; a failure is counted and changes nothing else
 pub record RegionCalled {T E : Type 0} (method : Method) (result : Result T E) (old new : MemBerth) : Type 0 where
   pub plan : berth_plan new ≡ after_call (berth_plan old) method
   pub fails : IsTrue (fails_next (berth_plan old) method) → IsErr result
@@ -34,7 +34,7 @@ pub record RegionCalled {T E : Type 0} (method : Method) (result : Result T E) (
   pub disk_faults : (meaning new).disk_faults ≡ (meaning old).disk_faults
   pub refused : OnErr result (Stays (meaning old) (meaning new))
 
--- the same of a call on the disk
+-- a call on the disk: the same
 pub record DiskCalled {T E : Type 0} (method : Method) (result : Result T E) (old new : MemBerth) : Type 0 where
   pub plan : berth_plan new ≡ after_call (berth_plan old) method
   pub fails : IsTrue (fails_next (berth_plan old) method) → IsErr result
@@ -42,7 +42,8 @@ pub record DiskCalled {T E : Type 0} (method : Method) (result : Result T E) (ol
   pub region_faults : (meaning new).region_faults ≡ (meaning old).region_faults
   pub refused : OnErr result (Stays (meaning old) (meaning new))
 
--- a berth that was just made on these contents: at moment 0, and all counts at 0; in memory a region that is not kept is lost
+-- a berth that was just made on these contents: it is at moment 0, and all counts are 0. In memory a region that is not
+-- kept is lost.
 pub record FreshOn (region disk : List ℕ) (berth : MemBerth) : Type 0 where
   pub opened : OpenedOn region disk (meaning berth)
   pub loses : (p : Pair) → (meaning berth).leaves (meaning berth).clock p → (p.region ≡ region) ⊎ (p.region ≡ [])

@@ -1,4 +1,4 @@
--- What stands may be left, and the region stays or is lost: the laws of a berth in memory.
+-- The laws of a berth in memory: what is there may be left, and the region stays or is lost.
 use Rattle.std.specs.Prelude.{◌≡◌, ◌⊎◌, ◌↔◌, ℕ, ◌^◌, ◌<◌, List, [], ◌∷◌, length, Vec, refl}
 use mathlib.Core.Logic.{inl, inr}
 use Rattle.std.proofs.Common.{sym, ap, subst, arith, ⊎_elim}

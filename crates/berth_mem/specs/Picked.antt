@@ -22,7 +22,7 @@ abbrev pub breaks_at : List Call → List ℕ → List ℕ → Pair → Type 0
 breaks_at [] region from p = ⊥
 breaks_at (c ∷ calls) region from p = during c (region_before (c ∷ calls) region) (λ d. d ≡ from) p
 
--- how many images are offered of a moment: each with the region and without it, with the writes since the last sync and
--- without them, and inside a call with nothing of its bytes, half of them, all, and others in their place
+-- the number of images of a moment: with the region and without it; with the writes since the last sync and without
+-- them; and inside a call with none of its bytes, half of them, all, and others in their place
 abbrev pub images_at : ℕ → ℕ
 images_at t = if t % 2 == 0 then 4 else 16

@@ -24,7 +24,7 @@ place DiskSync = 9
 abbrev pub fails_at : List Fail → Method → ℕ → Bool
 fails_at fails method n = list_any (λ f. nat_eq (place f.method) (place method) && nat_eq f.count n) fails
 
--- which call of this method comes next, counted from 1; the count stands still at the last value of a u64
+-- the number of the next call of this method, from 1; it saturates at the greatest u64
 abbrev pub next_of : List ℕ → Method → ℕ
 next_of made method = min (slice_index_or made (place method) 0 + 1) (2 ^ 64 - 1)
 

@@ -5,14 +5,14 @@ use Rattle.berth_mem.specs.declared.record.Wrote.{Wrote}
 use Rattle.berth_mem.specs.declared.record.Call.{Call}
 use Rattle.berth_mem.specs.declared.record.Call.TheVariants.{WroteRegion, CutRegion, WroteDisk, SyncedDisk}
 
--- w says of a write what it was given, what it overwrote and how long the content was
+-- w records a write: its place and length, the bytes that it overwrote, and the length of the content before it
 pub record Describes (w : Wrote) (at : ℕ) (bytes old : List ℕ) : Type 0 where
   pub at_is : w.at ≡ at
   pub len_is : w.len ≡ length bytes
   pub was_is : w.was ≡ length old
   pub lost_is : w.lost.items ≡ take (length bytes) (drop at old)
 
--- what stood before a write: what it overwrote is put back
+-- the content before a write: what it overwrote is put back
 abbrev pub undone : Wrote → List ℕ → List ℕ
 undone w new = take w.was (take w.at new ++ w.lost.items ++ drop (w.at + length w.lost.items) new)
 
@@ -37,25 +37,25 @@ abbrev pub disk_before : List Call → List ℕ → List ℕ
 disk_before [] now = now
 disk_before (c ∷ calls) now = disk_undone c (disk_before calls now)
 
--- the disks that a crash may leave after a call, of those before it; `now` is what reads give then
+-- the disks that a crash may leave after a call, by those that it may leave before; `now` is what reads give after it
 abbrev pub disks_after : Call → List ℕ → (List ℕ → Type 0) → List ℕ → Type 0
 disks_after (WroteRegion w) now disks d = disks d
 disks_after (CutRegion c) now disks d = disks d
 disks_after (WroteDisk w) now disks d = ((e : List ℕ) × disks e × Torn w.at w.len e d) ⊎ (d ≡ now)
 disks_after SyncedDisk now disks d = d ≡ now
 
--- between two calls: the region as it is or lost, and any of these disks
+-- the pairs between two calls: the region as it is or lost, and any of these disks
 abbrev pub resting : List ℕ → (List ℕ → Type 0) → Pair → Type 0
 resting region disks p = ((p.region ≡ region) ⊎ (p.region ≡ [])) × disks p.disk
 
--- inside a call on this region and these disks
+-- the pairs inside a call on this region and these disks
 abbrev pub during : Call → List ℕ → (List ℕ → Type 0) → Pair → Type 0
 during (WroteRegion w) region disks p = (Torn w.at w.len region p.region ⊎ (p.region ≡ [])) × disks p.disk
 during (CutRegion c) region disks p = (Cut c.len region p.region ⊎ (p.region ≡ [])) × disks p.disk
 during (WroteDisk w) region disks p = ((p.region ≡ region) ⊎ (p.region ≡ [])) × ((d : List ℕ) × disks d × Torn w.at w.len d p.disk)
 during SyncedDisk region disks p = resting region disks p
 
--- inside a call on this region: what it may have made of it by then
+-- the regions inside a call: what it may have made of this region by then
 abbrev pub made_of : Call → List ℕ → List ℕ → Type 0
 made_of (WroteRegion w) region now = Torn w.at w.len region now
 made_of (CutRegion c) region now = Cut c.len region now
@@ -67,14 +67,14 @@ abbrev pub moments : List Call → ℕ
 moments [] = zero
 moments (c ∷ calls) = suc (suc (moments calls))
 
--- the pairs at a moment, of calls that led to `region` and `disk` from where a crash left one of `disks`
+-- the pairs at a moment of these calls, which led to `region` and `disk`; before them a crash left one of `disks`
 abbrev pub leaves_at : List Call → List ℕ → List ℕ → (List ℕ → Type 0) → ℕ → Pair → Type 0
 leaves_at calls region disk disks zero p = resting (region_before calls region) disks p
 leaves_at [] region disk disks (suc t) p = ⊥
 leaves_at (c ∷ calls) region disk disks (suc zero) p = during c (region_before (c ∷ calls) region) disks p
 leaves_at (c ∷ calls) region disk disks (suc (suc t)) p = leaves_at calls region disk (disks_after c (disk_before calls disk) disks) t p
 
--- the regions that may stand at a moment, of calls that led to `region`
+-- the regions that may be there at a moment of these calls, which led to `region`
 abbrev pub regions_at : List Call → List ℕ → ℕ → List ℕ → Type 0
 regions_at calls region zero now = now ≡ region_before calls region
 regions_at [] region (suc t) now = ⊥

@@ -32,7 +32,7 @@ pub struct MemBerth {
 }
 
 impl MemBerth {
-    /// A berth that fails only where it finds no memory to grow, or a write passes 2^63.
+    /// A berth that fails only if there is no memory to grow, or a write passes 2^63.
     pub fn new(region: Vec<u8>, disk: Vec<u8>) -> MemBerth
         ensures fresh { FreshOn region.items disk.items result }
         ensures plan { berth_plan result ≡ Plain }
@@ -48,7 +48,7 @@ impl MemBerth {
         MemBerth::planned(region, disk, Plan::failing(fails))
     }
 
-    /// A berth that lets so many calls pass, and fails every later one.
+    /// A berth whose first `calls` calls pass, and whose every later one fails.
     pub fn fused(region: Vec<u8>, disk: Vec<u8>, calls: u64) -> MemBerth
         ensures fresh { FreshOn region.items disk.items result }
         ensures plan { berth_plan result ≡ Fused calls }
@@ -68,14 +68,14 @@ impl MemBerth {
         &self.disk
     }
 
-    /// How many moments the record has.
+    /// The number of moments of the record.
     pub fn moments(&self) -> u64
         ensures { result ≡ (meaning self.now).clock + 1 }
     {
         self.calls.len() as u64 * 2 + 1
     }
 
-    /// How many images are offered of a moment.
+    /// The number of crash images that are offered of a moment.
     pub fn images(&self, moment: u64) -> u64
         requires { moment ≤ (meaning self.now).clock }
         ensures { result ≡ images_at moment }
@@ -83,7 +83,7 @@ impl MemBerth {
         if moment % 2 == 0 { 4 } else { 16 }
     }
 
-    /// A plain berth on what a crash at that moment may have left.
+    /// A plain berth on what a crash at this moment may have left: the image of this number.
     pub fn pick(&self, moment: u64, image: u64) -> Result<MemBerth, AllocError>
         requires moment { moment ≤ (meaning self.now).clock }
         requires image { image < images_at moment }

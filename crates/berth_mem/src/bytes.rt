@@ -1,10 +1,10 @@
-// Contents as vectors: what a write makes of them, and what a write and a cut take away.
+// What a write makes of contents, and what a write and a cut take away.
 ghost use Rattle.std.specs.Prelude.{◌≡◌, ◌+◌, ◌-◌, ◌^◌, ◌<◌, ◌≤◌, ◌++◌, length, take, drop, min, true, false, IfOk, OnErr, OnOk};
 ghost use Rattle.berth_face.specs.Berth.{written};
 
 use std::alloc::{AllocError, Global};
 
-// Puts bytes over those that stand from this place on.
+// Overwrites the bytes from this place on.
 fn overwrite(content: &mut [u8], at: usize, bytes: &[u8])
     requires { at + length bytes.now ≤ length content.old }
     ensures { content.new ≡ take at content.old ++ bytes.now ++ drop (at + length bytes.now) content.old }
@@ -12,7 +12,8 @@ fn overwrite(content: &mut [u8], at: usize, bytes: &[u8])
     content[at..at + bytes.len()].copy_from_slice(bytes);
 }
 
-/// Writes bytes at this place, and fills a gap before it with zeros. It takes memory only where it reaches past the end.
+/// Writes bytes at this place, and fills a gap before it with zeros. It takes memory only if it reaches past the end.
+/// After an Err the content is as it was.
 pub fn write_at(content: &mut Vec<u8>, at: u64, bytes: &[u8]) -> Result<(), AllocError>
     requires { at + length bytes.now < 2 ^ 63 }
     ensures ok { OnOk result (content.new.items ≡ written at bytes.now content.old.items) }
@@ -26,7 +27,7 @@ pub fn write_at(content: &mut Vec<u8>, at: u64, bytes: &[u8]) -> Result<(), Allo
     Ok(())
 }
 
-/// What a write of `len` bytes at this place overwrites.
+/// The bytes that a write of `len` bytes at this place overwrites.
 pub fn lost(alloc: Global, old: &[u8], at: u64, len: usize) -> Result<Vec<u8>, AllocError>
     requires { at + len < 2 ^ 63 }
     ensures { IfOk result (λ v. v.items ≡ take len (drop at old.now)) }
@@ -36,7 +37,7 @@ pub fn lost(alloc: Global, old: &[u8], at: u64, len: usize) -> Result<Vec<u8>, A
     old[from..to].to_vec(alloc)
 }
 
-/// Copies what stands from this place on, as far as it goes and there is room.
+/// Copies the bytes from this place on, up to the end of either, and tells how many.
 pub fn copied(from: &[u8], at: u64, buf: &mut [u8]) -> usize
     ensures count { result ≡ min (length buf.old) (length from.now - at) }
     ensures bytes { take result buf.new ≡ take result (drop at from.now) }
@@ -52,7 +53,7 @@ pub fn copied(from: &[u8], at: u64, buf: &mut [u8]) -> usize
     count
 }
 
-/// What stands from this place on.
+/// The bytes from this place on.
 pub fn tail(alloc: Global, old: &[u8], from: u64) -> Result<Vec<u8>, AllocError>
     ensures { IfOk result (λ v. v.items ≡ drop from old.now) }
 {

@@ -42,7 +42,7 @@ impl Method {
     }
 }
 
-/// A call that is to fail: the method, and which of its calls, from 1.
+/// A call that is to fail: its method, and its number among the calls of the method, from 1.
 #[derive(Clone, Copy, PartialEq, Eq)]
 pub struct Fail {
     pub method: Method,
@@ -91,14 +91,14 @@ impl Fails {
     }
 }
 
-/// A list of calls to fail, and how many of each method were made.
+/// The calls that are to fail, and how many calls of each method were made.
 #[derive(Drop)]
 pub struct Counted {
     pub fails: Fails,
     pub made: [u64; 10],
 }
 
-/// Which calls fail: none, those of a list, or each one after so many.
+/// Which calls fail: none, those of a list, or each one after a number of calls.
 #[derive(Drop)]
 pub enum Plan {
     Plain,
@@ -116,7 +116,7 @@ impl Plan {
         })
     }
 
-    /// Counts a call, and says whether it passes.
+    /// Counts a call, and tells whether it passes.
     pub fn passes(&mut self, method: Method) -> bool
         ensures passes { result ≡ not (fails_next self.old method) }
         ensures after { self.new ≡ after_call self.old method }
@@ -145,7 +145,7 @@ impl Counted {
     }
 }
 
-/// Counts one more, as far as it goes.
+/// Adds one to a count. It saturates at the greatest u64.
 pub fn count(n: &mut u64)
     ensures exact { n.new ≡ one_more n.old }
     ensures rose { Rose n.old n.new }

@@ -55,7 +55,7 @@ fn undo_disk(content: &mut Vec<u8>, call: &Call) -> Result<(), AllocError>
     }
 }
 
-/// The region before the calls from the k-th on.
+/// The region as it was before call k and all later ones.
 pub fn region_at(now: &Vec<u8>, calls: &[Call], k: usize) -> Result<Vec<u8>, AllocError>
     requires { k ≤ length calls.now }
     ensures { IfOk result (λ v. v.items ≡ region_before (drop k calls.now) now.now.items) }
@@ -84,7 +84,7 @@ pub fn disk_at(now: &Vec<u8>, calls: &[Call], k: usize) -> Result<Vec<u8>, Alloc
     Ok(content)
 }
 
-// What of a write's bytes a crash left: none, half of them, all, or others in their place.
+// What a crash left of a write's bytes: none, half of them, all, or others in their place.
 fn left_of(
     alloc: Global,
     after: &[u8],
@@ -131,7 +131,7 @@ fn broken(
     Ok(made)
 }
 
-// Where the writes that a crash takes begin: at the k-th call, or just behind the last sync before it.
+// The first call whose write a crash takes: call k, or the one after the last sync before it.
 fn kept(calls: &[Call], k: usize, unsynced_lost: bool) -> usize
     requires { k ≤ length calls.now }
     ensures bound { result ≤ k }
@@ -155,7 +155,7 @@ fn is_sync(call: &Call) -> bool
     }
 }
 
-// The region and the disk that a crash inside the k-th call left, of its shape, where this disk was left before it.
+// The region and the disk that a crash inside call k left, by its shape, if this disk was left before the call.
 fn broken_at(
     region: &Vec<u8>,
     disk: &Vec<u8>,
@@ -185,7 +185,7 @@ fn broken_at(
     }
 }
 
-/// The region and the disk that a crash at this moment left, with the writes since the last sync or without them.
+/// The region and the disk that a crash at this moment left: with the writes since the last sync, or without them.
 pub fn image(
     region: &Vec<u8>,
     disk: &Vec<u8>,

@@ -1,4 +1,4 @@
-// Calls on contents, each with its place on the record. Each changes nothing where there is no memory.
+// Calls on contents, each of which is recorded. Without memory they change nothing.
 ghost use Rattle.std.specs.Prelude.{ℕ, List, ◌≡◌, ◌+◌, ◌^◌, ◌<◌, ◌++◌, ◌∷◌, [], length, take, drop, OnOk, OnErr, IfOk};
 ghost use Rattle.berth_face.specs.Berth.{written};
 ghost use Rattle.berth_mem.specs.Record.{Describes};

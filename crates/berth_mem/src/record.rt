@@ -1,4 +1,4 @@
-/// A write as it was made: what it overwrote, and how long the content was.
+/// A write that was made: its place and length, the bytes that it overwrote, and the length of the content before it.
 #[derive(Drop)]
 pub struct Wrote {
     pub at: u64,

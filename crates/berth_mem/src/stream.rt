@@ -14,7 +14,7 @@ use crate::faults::{Fails, Method, Plan, count};
 use berth_face::{Failed, Sink, Source};
 use std::alloc::Global;
 
-/// Bytes that are read once, from the front.
+/// A source over bytes, which are read once, from the first on.
 #[derive(Drop)]
 pub struct MemSource {
     bytes: Vec<u8>,
@@ -85,7 +85,7 @@ pub struct MemSink {
 }
 
 impl MemSink {
-    /// A sink that fails only where it finds no memory to grow.
+    /// A sink that fails only if there is no memory to grow.
     pub fn new(alloc: Global) -> MemSink
         ensures written { ⟦<MemSink as Sink>⟧.written result ≡ Some [] }
         ensures faults { ⟦<MemSink as Sink>⟧.faults result ≡ 0 }

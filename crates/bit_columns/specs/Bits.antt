@@ -3,16 +3,16 @@ use Rattle.std.specs.Prelude.{◌≡◌, ℕ, zero, suc, ◌+◌, ◌*◌, ◌/�
 use Rattle.std.specs.List.{range_with_len}
 use Rattle.std.specs.Int.{bit_at, div_ceil}
 
--- bit b: the least of a byte first
+-- bit b of the bytes; the bits of a byte count from its least
 abbrev pub bit : List ℕ → ℕ → ℕ
 bit bytes b = bit_at (slice_index bytes (b / 8)) (b % 8)
 
--- the number of the w bits from `from` on, the least first
+-- the w bits from bit `from` on as a number, the least bit first
 unfoldable pub bits_from : List ℕ → ℕ → ℕ → ℕ
 bits_from bytes from zero = 0
 bits_from bytes from (suc w) = bit bytes from + 2 * bits_from bytes (from + 1) w
 
--- the i-th code of w bits
+-- code i of w bits: the bits from i * w on
 abbrev pub code : List ℕ → ℕ → ℕ → ℕ
 code bytes w i = bits_from bytes (i * w) w
 
@@ -28,18 +28,18 @@ is_present bytes b = bit bytes b == 1
 abbrev pub presence : List ℕ → ℕ → List Bool
 presence bytes n = map (is_present bytes) (range_with_len 0 n)
 
--- so many bytes as the bits take, and spare bits are 0
+-- the bytes are as many as `bits` bits take, and the spare bits of the last are 0
 pub record IsBits (bytes : List ℕ) (bits : ℕ) : Type 0 where
   pub whole : length bytes ≡ div_ceil bits 8
   pub spare : (b : ℕ) → bits ≤ b → b < 8 * length bytes → bit bytes b ≡ 0
 
--- bytes that hold so many codes of a width
+-- `count` codes of `width` bits, in these bytes
 pub record PackedCodes : Type 0 where
   pub bytes : List ℕ
   pub count : ℕ
   pub width : ℕ
 
--- bytes that hold so many bits
+-- `count` bits, in these bytes
 pub record BitString : Type 0 where
   pub bytes : List ℕ
   pub count : ℕ

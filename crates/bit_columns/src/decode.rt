@@ -1,4 +1,4 @@
-// Decoding in order: one load for each code, but for the last few, near the end of the bytes.
+// Decodes codes in order. Each code takes one load of eight bytes, but for the last few, near the end of the bytes.
 ghost use Rattle.std.specs.Prelude.{◌≡◌, ℕ, ◌+◌, ◌*◌, ◌/◌, ◌%◌, ◌≤◌, ◌<◌, length, slice_index};
 ghost use Rattle.bit_columns.specs.Bits.{code};
 
@@ -17,7 +17,7 @@ pub(crate) fn loadable(count: u32, width: u32) -> u32
     }
 }
 
-// The code at a place, by one load of eight bytes, past which it does not go.
+// The code at a place, if it lies within one load of eight bytes.
 #[inline(always)]
 pub(crate) fn loaded(bytes: &[u8], i: u32, width: u32) -> u64
     requires width { width ≤ 64 }
@@ -29,7 +29,7 @@ pub(crate) fn loaded(bytes: &[u8], i: u32, width: u32) -> u64
     low_bits(word_at(bytes, from / 8) >> (from % 8), width)
 }
 
-// The first codes, where none goes past the word that it begins in.
+// Writes the first `count` codes. Each has to lie within the eight bytes that it begins in.
 #[inline(always)]
 fn fill_by_words(bytes: &[u8], out: &mut [u64], count: u32, width: u32)
     requires width { width ≤ 64 }
@@ -43,7 +43,8 @@ fn fill_by_words(bytes: &[u8], out: &mut [u64], count: u32, width: u32)
     }
 }
 
-// The first codes by words. A width that is written out gives a loop of its own, which the compiler makes faster.
+// Writes the first `count` codes by words. A width that is written out gets a loop of its own, which the compiler makes
+// faster.
 fn fill_front(bytes: &[u8], out: &mut [u64], count: u32, width: u32)
     requires width { width ≤ 64 }
     requires inside { 0 < count → count * width + 64 ≤ 8 * length bytes.now }
@@ -63,7 +64,7 @@ fn fill_front(bytes: &[u8], out: &mut [u64], count: u32, width: u32)
     }
 }
 
-// All codes in order.
+// Writes all codes in order.
 pub(crate) fn fill_codes(bytes: &[u8], out: &mut [u64], count: u32, width: u32)
     requires width { width ≤ 64 }
     requires inside { count * width ≤ 8 * length bytes.now }

@@ -1,4 +1,5 @@
-// Whether codes keep to a greatest one: a load for four small codes or for each other one, but for the last few, near the end of the bytes.
+// Tests whether codes are at most a number. One load of eight bytes tests four codes of at most 14 bits, or one wider
+// code. The last few, near the end of the bytes, are read one by one.
 ghost use Rattle.std.specs.Prelude.{◌≡◌, ℕ, ◌+◌, ◌*◌, ◌/◌, ◌%◌, ◌^◌, ◌≤◌, ◌<◌, ◌↔◌, IsTrue, length};
 ghost use Rattle.bit_columns.specs.Bits.{code};
 
@@ -15,7 +16,7 @@ fn word_from(bytes: &[u8], i: u32, width: u32) -> u64
     word_at(bytes, from / 8) >> (from % 8)
 }
 
-// Whether none of the four lowest codes of a word is above a number.
+// Whether the four lowest codes of a word are at most a number.
 #[inline(always)]
 fn are_four_at_most(word: u64, width: u32, most: u64) -> bool
     requires { width ≤ 14 }
@@ -31,7 +32,7 @@ fn are_four_at_most(word: u64, width: u32, most: u64) -> bool
     true
 }
 
-// Whether none of the first codes is above a number, by fours.
+// Whether the first `4 * fours` codes are at most a number.
 fn are_fours_at_most(bytes: &[u8], fours: u32, width: u32, most: u64) -> bool
     requires few { width ≤ 14 }
     requires fours { fours * 4 < 2 ^ 32 }
@@ -46,7 +47,7 @@ fn are_fours_at_most(bytes: &[u8], fours: u32, width: u32, most: u64) -> bool
     true
 }
 
-// Whether none of the first codes is above a number, where none goes past the word that it begins in.
+// Whether the first `count` codes are at most a number. Each has to lie within the eight bytes that it begins in.
 #[inline(always)]
 fn are_words_at_most(bytes: &[u8], count: u32, width: u32, most: u64) -> bool
     requires width { width ≤ 64 }
@@ -62,7 +63,7 @@ fn are_words_at_most(bytes: &[u8], count: u32, width: u32, most: u64) -> bool
     true
 }
 
-// The same by a loop of its own for codes of whole bytes, as in decoding.
+// The same, with a loop of its own for codes of whole bytes, as in decoding.
 fn are_front_at_most(bytes: &[u8], count: u32, width: u32, most: u64) -> bool
     requires width { width ≤ 64 }
     requires inside { 0 < count → count * width + 64 ≤ 8 * length bytes.now }
@@ -77,7 +78,7 @@ fn are_front_at_most(bytes: &[u8], count: u32, width: u32, most: u64) -> bool
     }
 }
 
-// Whether none of the codes from a place on is above a number.
+// Whether the codes from the place `from` on are at most a number.
 fn are_others_at_most(bytes: &[u8], from: u32, count: u32, width: u32, most: u64) -> bool
     requires width { width ≤ 64 }
     requires inside { count * width ≤ 8 * length bytes.now }
@@ -91,7 +92,7 @@ fn are_others_at_most(bytes: &[u8], from: u32, count: u32, width: u32, most: u64
     true
 }
 
-// Whether none of the codes is above a number, where four of them fit into a word.
+// Whether all codes are at most a number, if four of them fit into a word.
 fn are_small_at_most(bytes: &[u8], count: u32, width: u32, most: u64) -> bool
     requires few { width ≤ 14 }
     requires inside { count * width ≤ 8 * length bytes.now }
@@ -102,7 +103,7 @@ fn are_small_at_most(bytes: &[u8], count: u32, width: u32, most: u64) -> bool
         && are_others_at_most(bytes, fours * 4, count, width, most)
 }
 
-// Whether none of the codes is above a number, where each fits into the word that it begins in.
+// Whether all codes are at most a number, if each lies within the eight bytes that it begins in.
 fn are_whole_at_most(bytes: &[u8], count: u32, width: u32, most: u64) -> bool
     requires width { width ≤ 64 }
     requires inside { count * width ≤ 8 * length bytes.now }
@@ -114,7 +115,7 @@ fn are_whole_at_most(bytes: &[u8], count: u32, width: u32, most: u64) -> bool
         && are_others_at_most(bytes, front, count, width, most)
 }
 
-// Whether none of the codes is above a number.
+// Whether all codes are at most a number.
 pub(crate) fn are_at_most(bytes: &[u8], count: u32, width: u32, most: u64) -> bool
     requires width { width ≤ 64 }
     requires inside { count * width ≤ 8 * length bytes.now }

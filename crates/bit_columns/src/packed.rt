@@ -7,7 +7,8 @@ use crate::limit::are_at_most;
 use crate::words::{bits_at, is_bits};
 use std::marker::Model;
 
-/// Codes of one width in bytes that are lent. Contracts see the bytes, the number of codes and their width in bits.
+/// Packed codes of one width, over borrowed bytes. Contracts see the bytes, the number of codes and their width in
+/// bits.
 #[derive(Drop)]
 pub struct Packed<'a> {
     bytes: &'a [u8],
@@ -27,7 +28,8 @@ impl<'a> Model for Packed<'a> {
 }
 
 impl<'a> Packed<'a> {
-    /// The `count` codes of `width` bits in the bytes. None where the length is another, or a spare bit is 1.
+    /// Reads the bytes as `count` codes of `width` bits. None if these bits take more or fewer bytes, or a spare bit of
+    /// the last byte is 1.
     pub fn view(bytes: &'a [u8], count: u32, width: u8) -> Option<Packed<'a>>
         requires { width ≤ 64 }
         ensures exact { IsSome result ↔ IsBits bytes.now (count * width) }
@@ -57,14 +59,14 @@ impl<'a> Packed<'a> {
         )
     }
 
-    /// Whether no code is above a number.
+    /// Whether all codes are at most `most`.
     pub fn are_at_most(&self, most: u64) -> bool
         ensures { IsTrue result ↔ ((i : ℕ) → i < self.now.count → code self.now.bytes self.now.width i ≤ most) }
     {
         are_at_most(self.bytes, self.count, u32::from(self.width), most)
     }
 
-    /// Writes all codes in order.
+    /// Writes all codes in order. `out` has one place for each.
     pub fn fill(&self, out: &mut [u64])
         requires { length out.old ≡ self.now.count }
         ensures { out.new ≡ codes self.now.bytes self.now.width self.now.count }

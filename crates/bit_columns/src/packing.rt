@@ -8,7 +8,7 @@ ghost use Rattle.bit_columns.specs.Bits.{IsBits, codes, presence};
 use std::alloc::{AllocError, Global};
 use std::marker::Model;
 
-// The bits that were written so far: whole words in bytes, and fewer than 64 bits that wait.
+// The bits that were written: whole words as bytes, and at most 63 bits that wait for the rest of their word.
 #[derive(Drop)]
 struct BitWriter {
     bytes: Vec<u8>,
@@ -30,7 +30,7 @@ impl Model for BitWriter {
     ghost invariant = { λ writer. AreWaiting writer.bytes.items writer.waiting writer.count };
 }
 
-// A value above so many bits.
+// A value shifted left by `count` bits, above the bits that wait.
 #[inline(always)]
 fn above(waiting: u64, value: u64, count: u32) -> u128
     requires few { count < 64 }
@@ -60,7 +60,7 @@ fn room_for(count: usize, width: u8) -> usize {
 }
 
 impl BitWriter {
-    /// No bits, with room for so many bytes.
+    /// A writer of no bits, with room for `bytes` bytes.
     fn with_room(alloc: Global, bytes: usize) -> Result<BitWriter, AllocError>
         ensures value { IfOk result (λ writer. writer.value ≡ 0) }
         ensures bits { IfOk result (λ writer. writer.bits ≡ 0) }
@@ -107,7 +107,7 @@ impl BitWriter {
     }
 }
 
-/// The bytes whose codes of `width` bits are the values. The spare bits of the last byte are 0.
+/// Packs the values as codes of `width` bits, the least bit first. The spare bits of the last byte are 0.
 pub fn pack(alloc: Global, values: &[u64], width: u8) -> Result<Vec<u8>, AllocError>
     requires width { width ≤ 64 }
     requires fit { All (λ value. value < 2 ^ width) values.now }
@@ -122,7 +122,7 @@ pub fn pack(alloc: Global, values: &[u64], width: u8) -> Result<Vec<u8>, AllocEr
     Ok(bytes)
 }
 
-/// The bytes whose bits are 1 where the bits are true. The spare bits of the last byte are 0.
+/// Packs the bits, eight a byte, the least bit first: 1 is true. The spare bits of the last byte are 0.
 pub fn pack_bits(alloc: Global, bits: &[bool]) -> Result<Vec<u8>, AllocError>
     ensures whole { IfOk result (λ bytes. IsBits bytes.items (length bits.now)) }
     ensures bits { IfOk result (λ bytes. presence bytes.items (length bits.now) ≡ bits.now) }

@@ -5,7 +5,7 @@ ghost use Rattle.bit_columns.specs.Bits.{IsBits, is_present};
 use crate::words::is_bits;
 use std::marker::Model;
 
-/// Bits in bytes that are lent. Contracts see the bytes and the number of bits.
+/// Bits over borrowed bytes. Contracts see the bytes and the number of bits.
 #[derive(Drop)]
 pub struct PresenceBits<'a> {
     bytes: &'a [u8],
@@ -23,7 +23,7 @@ impl<'a> Model for PresenceBits<'a> {
 }
 
 impl<'a> PresenceBits<'a> {
-    /// The `count` bits in the bytes. None where the length is another, or a spare bit is 1.
+    /// Reads the bytes as `count` bits. None if these take more or fewer bytes, or a spare bit of the last byte is 1.
     pub fn view(bytes: &'a [u8], count: u32) -> Option<PresenceBits<'a>>
         ensures exact { IsSome result ↔ IsBits bytes.now count }
         ensures view { IfSome result (λ bits. bits ≡ record { bytes = bytes.now; count = count }) }

@@ -2,7 +2,7 @@
 ghost use Rattle.std.specs.Prelude.{ℕ, ◌≤◌, ◌<◌, ◌^◌};
 ghost use Rattle.std.specs.List.{All};
 
-/// The least number of bits that holds each of the values: 0 for none, and where all are 0.
+/// The least width in bits that holds each value, 0 to 64. It is 0 if there is no value, and if all are 0.
 pub fn width_of(values: &[u64]) -> u8
     ensures fits { All (λ value. value < 2 ^ result) values.now }
     ensures least { (width : ℕ) → All (λ value. value < 2 ^ width) values.now → result ≤ width }

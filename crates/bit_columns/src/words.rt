@@ -3,7 +3,7 @@ ghost use Rattle.std.specs.Prelude.{◌≡◌, ℕ, ◌+◌, ◌-◌, ◌*◌, �
 ghost use Rattle.bit_columns.specs.Number.{number};
 ghost use Rattle.bit_columns.specs.Bits.{bits_from, IsBits};
 
-// The number of the eight bytes from a place on.
+// The eight bytes from `at` on as a number, the least byte first.
 #[inline(always)]
 pub(crate) fn word_at(bytes: &[u8], at: usize) -> u64
     requires { at + 8 ≤ length bytes.now }
@@ -21,7 +21,7 @@ pub(crate) fn word_at(bytes: &[u8], at: usize) -> u64
     ])
 }
 
-// The number of the bytes from a place on, where fewer than eight are left.
+// The bytes from `at` on as a number, the least byte first. At most eight are left.
 fn last_word(bytes: &[u8], at: usize) -> u64
     requires inside { at ≤ length bytes.now }
     requires few { length bytes.now ≤ at + 8 }
@@ -36,7 +36,7 @@ fn last_word(bytes: &[u8], at: usize) -> u64
     word
 }
 
-// The lowest bits of a number.
+// The lowest `width` bits of a number.
 #[inline(always)]
 pub(crate) fn low_bits(number: u64, width: u32) -> u64
     requires { width ≤ 64 }
@@ -50,7 +50,7 @@ pub(crate) fn low_bits(number: u64, width: u32) -> u64
     }
 }
 
-// The number of the bits from a place on, the least first.
+// The `width` bits from bit `from` on as a number, the least bit first.
 #[inline(always)]
 pub(crate) fn bits_at(bytes: &[u8], from: usize, width: u32) -> u64
     requires width { width ≤ 64 }
@@ -69,7 +69,7 @@ pub(crate) fn bits_at(bytes: &[u8], from: usize, width: u32) -> u64
     }
 }
 
-// The upper bits of a word and the byte behind it: those that stand behind the skipped ones.
+// Of a word and the byte after it, the 64 bits that follow the first `skipped` bits.
 #[inline(always)]
 fn crossing(word: u64, next: u8, skipped: u32) -> u64
     requires some { 0 < skipped }
@@ -79,7 +79,7 @@ fn crossing(word: u64, next: u8, skipped: u32) -> u64
     word >> skipped | u64::from(next) << (64 - skipped)
 }
 
-// So many bytes as the bits take, and the spare bits are 0.
+// Whether the bytes are as many as the bits take, and the spare bits are 0.
 pub(crate) fn is_bits(bytes: &[u8], bits: u64) -> bool
     ensures { IsTrue result ↔ IsBits bytes.now bits }
 {

@@ -88,7 +88,7 @@ fn a_sealed_tail_is_handed_over_and_back(rt: HostRuntime) -> Result<(), Fail> {
     seal_three(alloc, &mut table, TIMES)?;
     let table = TableState::from_parts(table.into_parts());
     assert_eq!(rt; standing(&table), (1, 0, 0, 3));
-    let rows = table.to_rows(alloc)?;
-    assert_eq!(rt; rows.first().map(|row| row.time), Some(30));
+    let block = table.blocks().as_slice().first().expect(&rt, "a block");
+    assert_eq!(rt; block.range(), (10, 30));
     Ok(())
 }

@@ -6,13 +6,13 @@ use crate::line::Refusal;
 use run_ends::{Status, fault_text};
 use std::process::ExitCode;
 
-/// How the program ends at this status: it says why on standard error, where not all was done.
+/// The exit code of a status. If not all was done, it says why on standard error.
 pub fn ended<R: AllocGlobal + Eprint>(rt: &R, status: &Status) -> ExitCode {
     tell(rt, status);
     ExitCode::from(status_number(status))
 }
 
-/// Says on standard error why the run was not done. Where there is no memory for that, nothing is said.
+/// Says on standard error why the run was not done. Without memory for that it says nothing.
 fn tell<R: AllocGlobal + Eprint>(rt: &R, status: &Status) {
     if matches!(status, Status::Done) {
         return;
@@ -22,7 +22,7 @@ fn tell<R: AllocGlobal + Eprint>(rt: &R, status: &Status) {
     }
 }
 
-/// The number of a status as the program ends with it.
+/// The exit number of a status.
 fn status_number(status: &Status) -> u8
     ensures { result ≡ exit_number status.now }
 {
@@ -36,7 +36,7 @@ fn status_number(status: &Status) -> u8
     }
 }
 
-/// The status where there is no command line.
+/// The status if no command line was read.
 pub fn refusal_status(refusal: Refusal) -> Status {
     match refusal {
         Refusal::Words => Status::Words,

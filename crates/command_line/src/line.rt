@@ -7,7 +7,7 @@ use clap::{Arg, ArgAction, Command, Error};
 use std::alloc::{AllocError, AllocFailed, Global};
 use std::{env, io};
 
-/// Where the leaves keep what they are to keep, and the words behind it.
+/// The command line: the folder of the leaves' files, or `mem`, and the words after it.
 #[derive(Debug, Drop)]
 pub struct CommandLine {
     pub folder: String,
@@ -17,7 +17,7 @@ pub struct CommandLine {
 /// Why no command line was read.
 #[derive(Clone, Copy, Debug, PartialEq, Eq)]
 pub enum Refusal {
-    /// The words are of no such form, or one is no text.
+    /// The words have another form, or one is no text.
     Words,
     NoMemory,
 }
@@ -58,7 +58,7 @@ impl From<io::Error> for Refusal {
     }
 }
 
-/// Splits the command line, whose first word is the program's name. There is neither a help nor a version flag.
+/// Splits the command line, whose first word is the program's name. It has no flag for help or version.
 fn split(alloc: Global, words: &[String]) -> Result<CommandLine, Refusal> {
     let folder = Arg::new(alloc, "DIR").required(true).action(ArgAction::Set);
     let rest = Arg::new(alloc, "WORD")
@@ -85,7 +85,7 @@ fn split(alloc: Global, words: &[String]) -> Result<CommandLine, Refusal> {
     })
 }
 
-/// The command line, the program's name apart.
+/// Reads the command line, without the program's name.
 pub fn read_line(rt: &HostRuntime) -> Result<CommandLine, Refusal> {
     let words: Vec<String> = env::args(rt)?.collect(rt.alloc())?;
     split(rt.alloc(), words.as_slice())

@@ -15,13 +15,13 @@ use Rattle.crash_moments.specs.Told.{SeenMore}
 use Rattle.crash_states.specs.Standing.{Rests, Copies, Holds, IsContentOf, StandsNow}
 use Rattle.crash_states.specs.Entries.{HandsAll}
 
--- each table is shut, all of it was taken, and its content stands in the same place of these tables
+-- each table is shut, all of its writes were taken, and its content is at the same place of these tables
 pub record AreTaken (ws : List Watched) (tables : List Table) : Type 0 where
   pub count : length tables ≡ length ws
   pub shut : (place : ℕ) (w : Watched) → slice_get ws place ≡ Some w → ((now_of w).live ≡ false) × ((now_of w).taken ≡ length (now_of w).writes)
   pub contents : (place : ℕ) (w : Watched) (t : Table) → slice_get ws place ≡ Some w → slice_get tables place ≡ Some t → IsContentOf (now_of w) t
 
--- the copy of these tables, of which nothing is in the region yet
+-- the copy of these tables was planned, and nothing of it is in the region yet
 pub record IsPlanned (ws : List Watched) (tables : List Table) (log : LogState) (drain : DrainState) : Type 0 where
   pub image : IsAdoptable drain.image (images_of (map (λ (w : Watched). w.name) ws) tables) log.end
   pub begins : drain.next ≡ next.Begin
@@ -36,7 +36,7 @@ pub record DrainStepped (drain : DrainState) (a b : Meaning) : Type 0 where
 abbrev pub LeftAt : List Watched → (List ℕ → List Write) → Meaning → Type 0
 LeftAt ws writes m = (others : NamedStates) → ((name : List ℕ) → IsFoundation (others name)) → Rests ws others writes None m
 
--- its tables were handed over
+-- the leaf's tables were handed over
 pub record HandsOver (ws ws' : List Watched) (writes : List ℕ → List Write) (m : Meaning) : Type 0 where
   pub rests : LeftAt ws' writes m
   pub more : SeenMore m.clock m.clock ws ws'

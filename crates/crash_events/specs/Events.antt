@@ -7,11 +7,11 @@ use Rattle.leaf_model.specs.Content.{content_from}
 use Rattle.leaf_history.specs.History.{Entry, HistoryState, Allowed, after_entry, changed, write_count, first_writes}
 use Rattle.crash_events.specs.Machine.{Machine, Tracked, Hand, Mode, Down, Finding, Scanning, Adopting, Opening, Up, Preparing, Copying, RegionIs, Closed, Whole, Either, Other}
 
--- one table has another state
+-- the machine with another state of one table
 abbrev pub with_state : Machine → ℕ → Tracked → HistoryState → Machine
 with_state m t x s = record m { tables = slice_set m.tables t (record x { state = s }) }
 
--- the record of a table's writes that were not taken, where there are any
+-- the record of a table's writes that were not taken, if there are any
 abbrev pub hand_of : ℕ → Tracked → Option Hand
 hand_of t x = if write_count x.state == x.state.taken then None else Some (record { table = t; writes = write_count x.state - x.state.taken; laid = false; gate = false })
 
@@ -19,11 +19,11 @@ hand_of t x = if write_count x.state == x.state.taken then None else Some (recor
 abbrev pub all_own_live : List Tracked → Bool
 all_own_live ts = list_all (λ (x : Tracked). not x.own || x.state.live) ts
 
--- each was drained
+-- each table of the leaf was drained
 abbrev pub all_own_handed : List Tracked → Bool
 all_own_handed ts = list_all (λ (x : Tracked). not x.own || x.state.handed) ts
 
--- none is open
+-- no table is open
 abbrev pub AllShut : List Tracked → Type 0
 AllShut ts = AllByRecursion (λ (x : Tracked). x.state.live ≡ false) ts
 
@@ -31,7 +31,7 @@ AllShut ts = AllByRecursion (λ (x : Tracked). x.state.live ≡ false) ts
 abbrev pub IsSettled : Tracked → Type 0
 IsSettled x = (x.state.flushed ≡ x.sure) × (x.sure ≡ write_count x.state)
 
--- of each table
+-- the disk is known to hold all that was accepted of each table
 abbrev pub AllSettled : List Tracked → Type 0
 AllSettled ts = AllByRecursion IsSettled ts
 
@@ -39,23 +39,23 @@ AllSettled ts = AllByRecursion IsSettled ts
 abbrev pub IsCallersEntry : Entry → Type 0
 IsCallersEntry e = 0 < e.caller
 
--- how many writes of a table the hand's record may have on the disk already
+-- the number of a table's writes, in the hand's record, that may be on the disk already
 abbrev pub gate_begun : Option Hand → ℕ → ℕ
 gate_begun None t = 0
 gate_begun (Some h) t = if (h.table == t) && h.gate then h.writes else 0
 
--- how many writes a crash leaves: those that are sure, or the hand's too where its gate was begun
+-- a crash leaves n writes of a table: those that are sure, or the hand's too if the write of its gate began
 abbrev pub MayBe : Machine → ℕ → Tracked → ℕ → Type 0
 MayBe m t x n = (n ≡ x.sure) ⊎ (n ≡ x.sure + gate_begun m.hand t)
 
--- the same tables from place t on, each with a number of sure writes that a crash may leave
+-- the same tables from place t on, each with as many sure writes as a crash may leave
 abbrev pub Resettled : Machine → ℕ → List Tracked → List Tracked → Type 0
 Resettled m t [] [] = ⊤
 Resettled m t [] (y ∷ ys) = ⊥
 Resettled m t (x ∷ xs) [] = ⊥
 Resettled m t (x ∷ xs) (y ∷ ys) = ((n : ℕ) × MayBe m t x n × (y ≡ record x { sure = n })) × Resettled m (t + 1) xs ys
 
--- what such a region may be after a crash: where the machine went down it may be closed
+-- what such a region may be after a crash; it may be closed, since the machine may have gone down
 abbrev pub AfterCrash : RegionIs → RegionIs → Type 0
 AfterCrash Closed Closed = ⊤
 AfterCrash Whole Closed = ⊤
@@ -66,7 +66,7 @@ AfterCrash Other Closed = ⊤
 AfterCrash Other Other = ⊤
 AfterCrash _ _ = ⊥
 
--- what it is to a leaf that looks
+-- what such a region may be to a leaf that reads it
 abbrev pub AsRead : RegionIs → RegionIs → Type 0
 AsRead Closed Closed = ⊤
 AsRead Whole Whole = ⊤
@@ -99,27 +99,27 @@ open_call x = call.Open x.sure (content_from x.state.before (first_writes x.stat
 abbrev pub NoneElsewhere : List Tracked → Type 0
 NoneElsewhere ts = AllByRecursion (λ (x : Tracked). x.own ≡ false → x.sure ≡ 0) ts
 
--- tables may be opened: the image was taken over, or a sync was made before the log was read
+-- tables may be opened in this mode: the image was adopted, or a sync was made before the log was read
 abbrev pub MayOpenFrom : Mode → Type 0
 MayOpenFrom Adopting = ⊤
 MayOpenFrom (Scanning made) = made ≡ true
 MayOpenFrom Opening = ⊤
 MayOpenFrom _ = ⊥
 
--- records are settled
+-- records are settled in this mode
 abbrev pub MaySettle : Mode → Type 0
 MaySettle Up = ⊤
 MaySettle Preparing = ⊤
 MaySettle _ = ⊥
 
--- there is something to kill
+-- there is something to kill in this mode
 abbrev pub MayKill : Mode → Type 0
 MayKill Up = ⊤
 MayKill Preparing = ⊤
 MayKill Copying = ⊤
 MayKill _ = ⊥
 
--- a start is going on, and no table was opened yet
+-- in this mode a start goes on, and no table was opened yet
 abbrev pub MayStop : Mode → Type 0
 MayStop (Finding found) = ⊤
 MayStop Adopting = ⊤
@@ -131,34 +131,34 @@ pub data Step (m m' : Machine) : Type 0 where
   -- a caller's turn
   turn : (t : ℕ) (x : Tracked) (e : Entry) → slice_get m.tables t ≡ Some x → x.own ≡ true → IsCallersEntry e
       → Allowed true x.state e.caller e.call e.reply → m' ≡ with_state m t x (after_entry true x.state e) → Step m m'
-  -- the steward takes what was written since the last time: a record to settle, where there is any
+  -- the steward takes what was written since the last time: a record to settle, if there is any
   take_writes : (t : ℕ) (x : Tracked) → slice_get m.tables t ≡ Some x → x.own ≡ true → m.mode ≡ Up → m.hand ≡ None
       → m' ≡ record (with_state m t x (changed true x.state call.Take)) { hand = hand_of t x } → Step m m'
-  -- a table is shut: by a drain, which takes too
+  -- a drain shuts a table, and takes its writes
   close_taking : (t : ℕ) (x : Tracked) → slice_get m.tables t ≡ Some x → x.own ≡ true → x.state.live ≡ true → m.mode ≡ Preparing → m.hand ≡ None
       → m' ≡ record (with_state m t x (changed true x.state call.Shut)) { hand = hand_of t x } → Step m m'
-  -- or by a kill, and after a crash
+  -- a kill shuts a table, and so does a crash
   close : (t : ℕ) (x : Tracked) → slice_get m.tables t ≡ Some x → x.own ≡ true → x.state.live ≡ true → m.mode ≡ Down
       → m' ≡ with_state m t x (changed true x.state call.Shut) → Step m m'
-  -- the record was written behind a closed gate, and synced
+  -- the record was written after a closed gate, and synced
   lay : (h : Hand) → m.hand ≡ Some h → h.laid ≡ false → MaySettle m.mode → m' ≡ record m { hand = Some (record h { laid = true }) } → Step m m'
   -- the write of the open gate begins
   gate : (h : Hand) → m.hand ≡ Some h → h.laid ≡ true → m' ≡ record m { hand = Some (record h { gate = true }) } → Step m m'
   -- the gate was written and synced: the record's writes are sure
   gate_sync : (h : Hand) (x : Tracked) → m.hand ≡ Some h → h.gate ≡ true → slice_get m.tables h.table ≡ Some x
       → m' ≡ record m { tables = slice_set m.tables h.table (record x { sure = x.sure + h.writes }); hand = None } → Step m m'
-  -- the steward says that so many writes are on the disk
+  -- the steward says that n writes are on the disk
   flushed : (t n : ℕ) (x : Tracked) → slice_get m.tables t ≡ Some x → x.own ≡ true → n ≤ x.sure → n ≤ x.state.taken
       → m' ≡ with_state m t x (changed true x.state (call.Flushed n)) → Step m m'
   -- a drain begins
   prepare : m.mode ≡ Up → m' ≡ record m { mode = Preparing } → Step m m'
-  -- all is shut and on the disk: the region may be written
+  -- all tables are shut and on the disk: the region may be written
   plan : m.mode ≡ Preparing → AllShut m.tables → m.hand ≡ None → AllSettled m.tables → m' ≡ record m { mode = Copying } → Step m m'
   -- the first cut, the head, a column or the directory is written under a closed flag
   copy : m.mode ≡ Copying → m.region ≡ Closed → m' ≡ m → Step m m'
   -- the write of the open flag begins
   open_flag : m.mode ≡ Copying → m.region ≡ Closed → m' ≡ record m { region = Either } → Step m m'
-  -- it succeeded
+  -- the write of the open flag succeeded
   flag_open : m.mode ≡ Copying → m.region ≡ Either → m' ≡ record m { region = Whole } → Step m m'
   -- the steward says that a table was drained; after the last one the leaf is Down
   done : (t : ℕ) (x : Tracked) → slice_get m.tables t ≡ Some x → x.own ≡ true → m.mode ≡ Copying → m.region ≡ Whole

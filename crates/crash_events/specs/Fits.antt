@@ -15,7 +15,8 @@ use Rattle.crash_events.specs.Machine.{Machine, Tracked, RegionIs, Whole, Either
 use Rattle.crash_events.specs.Events.{MayBe}
 use Rattle.crash_events.specs.Kept.{AllPlaces}
 
--- the log has the sure writes of each table, and the hand's behind them where its gate was begun: all of its record or nothing
+-- the log has the sure writes of each table, and after them those of the hand, all or none, if the write of its gate
+-- began
 abbrev pub LogFits : Machine → List LogRecord → Type 0
 LogFits m records = AllPlaces (λ t x. (n : ℕ) × MayBe m t x n × (writes_of x.name records ≡ take n x.state.writes)) 0 m.tables
 
@@ -27,16 +28,17 @@ pub data RegionFits (reads : ℕ → Bool) (tables : NamedStates) (pair : Pair) 
   shows_either : RegionFits reads tables pair Whole → RegionFits reads tables pair Either
   shows_other : (version : ℕ) → head_of pair.region ≡ Version version → reads version ≡ false → RegionFits reads tables pair Other
 
--- the state of each name: of one that stands in no table, no writes
+-- the state of each name; a name of no table has no writes
 abbrev pub state_of : List Tracked → NamedStates
 state_of [] name = no_base
 state_of (x ∷ xs) name = if bytes_eq name x.name then x.state else state_of xs name
 
--- the name stands in none of these tables
+-- no table has this name
 abbrev pub IsElsewhere : List ℕ → List Tracked → Type 0
 IsElsewhere name ts = AllByRecursion (λ (x : Tracked). bytes_eq name x.name ≡ false) ts
 
--- A pair fits: its log is sound and has what the machine says of each table and nothing of other names, and its region is what the machine says.
+-- a pair fits: its log is sound, and has what the machine says of each table and nothing of other names; its region is
+-- what the machine says
 pub record FitsPair (reads : ℕ → Bool) (m : Machine) (pair : Pair) : Type 0 where
   pub sound : IsSound pair.disk
   pub logs : LogFits m sound.0

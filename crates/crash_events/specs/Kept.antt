@@ -1,4 +1,4 @@
--- What every event of a leaf's machine keeps.
+-- The invariant of a leaf's machine, which every event keeps.
 use Rattle.std.specs.Prelude.{◌≡◌, ℕ, ◌+◌, ◌≤◌, ◌==◌, Bool, true, false, ◌||◌, not, List, [], ◌∷◌, Some, None, Option, ⊤, if◌then◌else◌}
 use Rattle.leaf_history.specs.History.{write_count}
 use Rattle.crash_events.specs.Machine.{Machine, Tracked, Hand, Mode, Down, Finding, Scanning, Adopting, Opening, Up, Preparing, Copying, RegionIs, Closed, Whole, Either, Other}
@@ -9,7 +9,7 @@ abbrev pub in_hand : Option Hand → ℕ → ℕ
 in_hand None t = 0
 in_hand (Some h) t = if h.table == t then h.writes else 0
 
--- P of each table and its place, from place t on
+-- P holds of each table and its place, from place t on
 abbrev pub AllPlaces : (ℕ → Tracked → Type 0) → ℕ → List Tracked → Type 0
 AllPlaces P t [] = ⊤
 AllPlaces P t (x ∷ xs) = P t x × AllPlaces P (t + 1) xs
@@ -21,7 +21,7 @@ holds_image Whole = true
 holds_image Either = true
 holds_image Other = false
 
--- in these modes a leaf drains or takes over an image
+-- in these modes a leaf drains, or adopts an image
 abbrev pub stays : Mode → Bool
 stays Copying = true
 stays Adopting = true
@@ -47,7 +47,7 @@ is_shut Down = false
 is_shut (Finding found) = false
 is_shut Copying = false
 
--- in these a region may have another version
+-- in these modes a region may have a version that is not read
 abbrev pub may_be_other : Mode → Bool
 may_be_other Down = true
 may_be_other (Finding found) = not found
@@ -65,7 +65,7 @@ is_closed Whole = false
 is_closed Either = false
 is_closed Other = false
 
--- here a table may be open
+-- in these modes a table may be open
 abbrev pub may_be_live : Mode → RegionIs → Bool
 may_be_live Up region = true
 may_be_live Preparing region = true
@@ -76,7 +76,8 @@ may_be_live (Scanning made) region = false
 may_be_live Adopting region = false
 may_be_live Copying region = false
 
--- here all that was taken is sure, but for the hand's record: of open tables, and of each in a leaf that prepares
+-- in these modes all that was taken is sure but for the hand's record: of an open table, and of any table while the
+-- leaf prepares
 abbrev pub is_tight : Mode → Bool → Bool
 is_tight Up live = live
 is_tight Opening live = live
@@ -87,7 +88,7 @@ is_tight (Scanning made) live = false
 is_tight Adopting live = false
 is_tight Copying live = false
 
--- here no record is being settled
+-- in these modes no record is being settled
 abbrev pub has_no_hand : Mode → Bool
 has_no_hand Adopting = true
 has_no_hand (Scanning made) = made
@@ -98,7 +99,7 @@ has_no_hand Up = false
 has_no_hand Preparing = false
 has_no_hand Copying = false
 
--- here each table of the leaf is open
+-- in these modes each table of the leaf is open
 abbrev pub is_up : Mode → Bool
 is_up Up = true
 is_up Opening = false
@@ -109,7 +110,7 @@ is_up (Scanning made) = false
 is_up Adopting = false
 is_up Copying = false
 
--- here a name that the leaf does not have has no writes
+-- in these modes a name that the leaf does not have has no writes
 abbrev pub is_running : Mode → Bool
 is_running Up = true
 is_running Preparing = true
@@ -120,9 +121,10 @@ is_running (Finding found) = false
 is_running (Scanning made) = false
 is_running Adopting = false
 
--- what is kept of one table, of which n writes are in the hand
+-- the invariant of one table, of which n writes are in the hand
 pub record KeptTable (mode : Mode) (region : RegionIs) (n : ℕ) (x : Tracked) : Type 0 where
-  -- what is known to be on the disk is sure, what is sure was taken with the hand's writes behind it, and what was taken was accepted
+  -- what is known to be on the disk is sure; what is sure was taken, and the hand's writes follow it; what was taken
+  -- was accepted
   pub flushed : x.state.flushed ≤ x.sure
   pub sure : x.sure + n ≤ x.state.taken
   pub taken : x.state.taken ≤ write_count x.state

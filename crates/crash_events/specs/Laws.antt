@@ -8,11 +8,11 @@ use Rattle.crash_events.specs.Events.{Reaches, Step}
 use Rattle.crash_events.specs.Kept.{Kept}
 use Rattle.crash_events.specs.Fits.{FitsPair, state_of}
 
--- the tables were handed in nothing, so that the writes that they have are all that they accepted
+-- the tables were handed in nothing, so their writes are all that they accepted
 abbrev pub IsPlain : List Tracked → Type 0
 IsPlain ts = AllByRecursion (λ (x : Tracked). x.state.handed_in ≡ 0) ts
 
--- after each event of a run what is kept holds, since every front of a run is a run
+-- the invariant holds after each event of a run, since each prefix of a run is a run
 abbrev pub KeptThroughout : Type 0
 KeptThroughout = (m m' : Machine) → Kept m → Reaches m m' → Kept m'
 
@@ -24,6 +24,6 @@ PlainThroughout = (m m' : Machine) → IsPlain m.tables → Reaches m m' → IsP
 abbrev pub LeftThroughout : Type 0
 LeftThroughout = (reads : ℕ → Bool) (m m' : Machine) (pair : Pair) → IsPlain m.tables → Kept m → Reaches m m' → FitsPair reads m' pair → Left reads (state_of m'.tables) pair
 
--- a pair that fits is left by a crash, and fits what the leaf then is: down, with nothing in the hand
+-- a crash may leave each pair that fits; the leaf is then down, with nothing in the hand, and the pair fits it
 abbrev pub FittingIsCrash : Type 0
 FittingIsCrash = (reads : ℕ → Bool) (m : Machine) (pair : Pair) → FitsPair reads m pair → (m' : Machine) × (m'.mode ≡ Down) × Step m m' × FitsPair reads m' pair

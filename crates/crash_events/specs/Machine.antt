@@ -20,15 +20,15 @@ pub record Hand : Type 0 where
 pub data Mode : Type 0 where
   -- nothing: it did not start yet, or it was killed
   Down : Mode
-  -- it looks at the head of the region, where an image was found or not
+  -- it looks at the head of the region; `found` tells whether an image was found
   Finding : (found : Bool) → Mode
-  -- it reads the log; whether the sync before was made
+  -- it reads the log; `made` tells whether the sync before was made
   Scanning : (made : Bool) → Mode
-  -- it takes over the image
+  -- it adopts the image
   Adopting : Mode
   -- some of its tables are open
   Opening : Mode
-  -- all are
+  -- all its tables are open
   Up : Mode
   -- it shuts its tables, to drain them
   Preparing : Mode

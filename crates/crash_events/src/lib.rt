@@ -1,4 +1,4 @@
-//! A leaf's life as a machine over events: what every run of it keeps, and what a crash may leave in each state.
+//! A leaf's life as a machine over events: its invariant, and what a crash may leave in each state.
 #![tactic(auto)]
 
 ghost use Rattle.std.specs.Prelude.{ℕ, Bool};
@@ -7,9 +7,8 @@ ghost use Rattle.crash_events.specs.Laws.{FittingIsCrash, KeptThroughout, LeftTh
 
 use berth_face::Berth;
 
-/// After each event of a run, whatever the events are, what is kept holds; no table got writes that were handed in; and a
-/// region and a disk that a crash may leave then belong to the tables as they stand. What a crash may leave is what the
-/// event of a crash leaves.
+/// After each event of every run the invariant holds, no table was handed in writes, and each region and disk that a
+/// crash may leave belong to the tables as they are. What a crash may leave, the event of a crash leaves.
 pub fn kept_always()
     ensures kept { KeptThroughout }
     ensures plain { PlainThroughout }
@@ -17,8 +16,8 @@ pub fn kept_always()
     ensures crash { FittingIsCrash }
 {}
 
-/// Over a berth that is ready a leaf begins: the machine that is down with the base of each name keeps what it has to, and
-/// every region and disk that a crash may leave fits it.
+/// Over a ready berth a leaf begins: the machine that is down, with the base of each name, has the invariant, and every
+/// region and disk that a crash may leave fits it.
 pub fn begins_when_ready<B: Berth>(berth: &B)
     ensures begins { (reads : ℕ → Bool) → LeafBegins reads (B.meaning berth.now) }
 {}

@@ -1,4 +1,4 @@
--- What a berth hands to the leaf that begins there, and over which berths a leaf may begin.
+-- The base of a berth: what a leaf that begins there finds, and over which berths a leaf may begin.
 use Rattle.std.specs.Prelude.{◌≡◌, ◌≢◌, ◌⊎◌, ℕ, ◌≤◌, List, [], length, Bool, true, IsTrue}
 use Rattle.berth_face.specs.Berth.{Pair, Meaning}
 use Rattle.leaf_model.specs.declared.writes.Write.{Write}
@@ -14,23 +14,25 @@ use Rattle.crash_moments.specs.Left.{NamedStates, Left}
 abbrev pub HasWritesOf : List ℕ → List ℕ → List Write → Type 0
 HasWritesOf disk name writes = (records : List LogRecord) × (end : ℕ) × IsLog disk records end × (writes ≡ writes_of name records)
 
--- the base of a name, over the pairs that a crash may leave now: its longest log, of which the shortest is flushed
+-- the base of a name, over the pairs that a crash may leave now: the writes of its longest log; those of the shortest
+-- count as flushed
 pub record IsBaseOf (may_leave : Pair → Type 0) (name : List ℕ) (base : HistoryState) : Type 0 where
   pub is : base ≡ base_of base.writes base.flushed
   pub longest : (pair : Pair) × may_leave pair × HasWritesOf pair.disk name base.writes
   pub least : (pair : Pair) × (writes : List Write) × may_leave pair × HasWritesOf pair.disk name writes × (base.flushed ≡ length writes)
   pub between : (pair : Pair) (writes : List Write) → may_leave pair → HasWritesOf pair.disk name writes → (base.flushed ≤ length writes) × (length writes ≤ length base.writes)
 
--- the logs of a name have one length
+-- all logs of a name have the same length
 abbrev pub IsFixed : (Pair → Type 0) → List ℕ → Type 0
 IsFixed may_leave name = (p q : Pair) (u v : List Write) → may_leave p → may_leave q → HasWritesOf p.disk name u → HasWritesOf q.disk name v → length u ≡ length v
 
--- they have just two
+-- the logs of a name have two lengths
 abbrev pub HasTwoLengths : (Pair → Type 0) → List ℕ → HistoryState → Type 0
 HasTwoLengths may_leave name base = (p : Pair) (u : List Write) → may_leave p → HasWritesOf p.disk name u → (length u ≡ base.flushed) ⊎ (length u ≡ length base.writes)
 
--- A leaf may begin over these pairs, of which reads give `now`: each belongs to the base, and at most one record may still be
--- lost or not. An empty disk was not written. Beside an image that is read each log has all of the base, and ends where the image says.
+-- A leaf may begin over these pairs; reads give `now`. Each pair belongs to the base. At most one record may be lost or
+-- not. An empty disk was not written. Beside an image that is read each log has all of the base, and ends where the
+-- image says.
 pub record PairsMayBegin (reads : ℕ → Bool) (may_leave : Pair → Type 0) (now : Pair) (base : NamedStates) : Type 0 where
   pub base_is : (name : List ℕ) → IsBaseOf may_leave name (base name)
   pub left : (pair : Pair) → may_leave pair → Left reads base pair

@@ -7,14 +7,14 @@ use Rattle.crash_moments.specs.Left.{NamedStates}
 use Rattle.crash_moments.specs.Watched.{Watched, IsFoundation, IsWatched, now_of, state_then}
 use Rattle.crash_moments.specs.Told.{Told}
 
--- a table that was handed in nothing and has at most 2^40 rows at each front of its writes stays so
+-- invariant: a table was handed in nothing, and has at most 2^40 rows after each prefix of its writes
 abbrev pub StaysSound : Type 0
 StaysSound = (base : HistoryState) (es : List Entry) → IsFoundation base → LegalFrom true base es → IsFoundation (after true base es)
 
--- behind the steward's last entry a table has only got writes
+-- after the steward's last entry a table has only got writes
 abbrev pub CutKeeps : Type 0
 CutKeeps = (clock : ℕ) (w : Watched) → IsWatched clock w → CallersKeep (state_then clock w) (now_of w)
 
--- what two calls tell, one after the other, is told of both
+-- what two calls in a row tell of their moments is told of both together
 abbrev pub ToldJoins : Meaning → Meaning → Meaning → Type 0
 ToldJoins a b c = (others : NamedStates) (xs ys zs : List Watched) → Told others xs ys a b → Told others ys zs b c → Told others xs zs a c

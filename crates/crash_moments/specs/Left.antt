@@ -11,16 +11,16 @@ use Rattle.row_records.specs.Records.{LogRecord}
 use Rattle.disk_backup.specs.Logs.{IsSound, writes_of}
 use Rattle.disk_backup.specs.Settling.{HasLog}
 
--- the state of each table, by name: one that is not listed has no writes
+-- the state of each table, by name; a table that is not listed has no writes
 abbrev pub NamedStates : Type 0
 NamedStates = List ℕ → HistoryState
 
--- the log of each table is a front of its writes, with each flushed one
+-- in the log each table has a prefix of its writes, which has each flushed one
 abbrev pub IsFront : NamedStates → List LogRecord → Type 0
 IsFront tables records = (name : List ℕ) → (m : ℕ) × (m ≤ length (tables name).writes) × ((tables name).flushed ≤ m) × (writes_of name records ≡ take m (tables name).writes)
 
--- A region that is closed, or open with a version that is not read, or an image of just the writes of each table: then the log has all of them too,
--- and ends where the image says, at a gate that is not open.
+-- The region is closed; or open, with a version that is not read; or an image of just the writes of each table. In the
+-- last case the log has all of them too, and ends where the image says, at a gate that is not open.
 pub data RegionLeft (reads : ℕ → Bool) (tables : NamedStates) (pair : Pair) : Type 0 where
   closed : IsClosed pair.region → RegionLeft reads tables pair
   other_version : (version : ℕ) → head_of pair.region ≡ Version version → reads version ≡ false → RegionLeft reads tables pair
@@ -31,8 +31,8 @@ pub data RegionLeft (reads : ℕ → Bool) (tables : NamedStates) (pair : Pair) 
       → HasLog (λ name. (tables name).writes) end pair.disk
       → RegionLeft reads tables pair
 
--- The pair belongs to these tables: its log is sound, its records have a front of the writes of each, and its region is one of those: closed, where a table is open.
--- `reads` says which versions of an image are read.
+-- The pair belongs to these tables: its log is sound, its records have a prefix of the writes of each, and its region
+-- is one of those above; it is closed if a table is open. `reads` tells which versions of an image are read.
 pub record Left (reads : ℕ → Bool) (tables : NamedStates) (pair : Pair) : Type 0 where
   pub sound : IsSound pair.disk
   pub front : IsFront tables sound.0

@@ -1,4 +1,4 @@
--- The tables of a leaf as its steward has seen them, and where each stood at each moment of the berth's clock.
+-- The tables of a leaf as its steward has seen them, and the state of each at each moment of the berth's clock.
 use Rattle.std.specs.Prelude.{◌≡◌, ℕ, ◌≤◌, nat_le, Bool, true, false, ◌&&◌, ◌==◌, List, [], ◌∷◌, bytes_eq, if◌then◌else◌, ⊤}
 use Rattle.std.specs.List.{AllByRecursion, list_any}
 use Rattle.leaf_model.specs.Content.{nothing}
@@ -8,28 +8,28 @@ use Rattle.leaf_history.specs.History.{Entry, HistoryState, LegalFrom, after, no
 use Rattle.disk_backup.specs.SoundLogs.{IsShort}
 use Rattle.crash_moments.specs.Left.{NamedStates}
 
--- a table: its name, what it was founded with, and the history as far as the steward has seen it
+-- a table: its name, its base, and the prefix of its history that the steward has seen
 pub record Watched : Type 0 where
   pub name : List ℕ
   pub base : HistoryState
   pub seen : List Entry
 
--- where it stands as far as that
+-- its state after that prefix
 abbrev pub now_of : Watched → HistoryState
 now_of w = after true w.base w.seen
 
--- ---- where it stood at a moment
+-- ---- its state at a moment
 
 -- the steward made the entry, by this moment
 abbrev pub is_made : ℕ → Entry → Bool
 is_made t e = (e.caller == 0) && nat_le e.clock t
 
--- the history up to the last entry that the steward made by this moment: nothing where there is none
+-- the history up to the last entry that the steward made by this moment; empty if there is none
 abbrev pub cut : ℕ → List Entry → List Entry
 cut t [] = []
 cut t (e ∷ es) = if list_any (is_made t) (e ∷ es) then e ∷ cut t es else []
 
--- where the table stood then
+-- the state of the table at this moment
 abbrev pub state_then : ℕ → Watched → HistoryState
 state_then t w = after true w.base (cut t w.seen)
 
@@ -45,21 +45,21 @@ is_opening e = is_open_call e.call
 abbrev pub was_opened : ℕ → List Watched → Bool
 was_opened t ws = list_any (λ (w : Watched). list_any is_opening (cut t w.seen)) ws
 
--- names that the leaf does not have stand as these say, until it has opened a table: from then on they have no writes
+-- the states of names that the leaf does not have: these, until the leaf has opened a table, and then no writes
 abbrev pub others_then : Bool → NamedStates → NamedStates
 others_then true others name = no_base
 others_then false others name = others name
 
--- where each name stands, by the state of each of the leaf's own tables
+-- the state of each name, by the states of the leaf's own tables
 abbrev pub by_name : (Watched → HistoryState) → NamedStates → List Watched → NamedStates
 by_name state others [] name = others name
 by_name state others (w ∷ ws) name = if bytes_eq name w.name then state w else by_name state others ws name
 
--- where each name stood at a moment
+-- the state of each name at a moment
 abbrev pub tables_then : NamedStates → ℕ → List Watched → NamedStates
 tables_then others t ws = by_name (state_then t) (others_then (was_opened t ws) others) ws
 
--- one of the leaf's names
+-- whether the name is one of the leaf's
 abbrev pub is_watched : List Watched → List ℕ → Bool
 is_watched ws name = list_any (λ (w : Watched). bytes_eq name w.name) ws
 
@@ -69,20 +69,21 @@ is_watched ws name = list_any (λ (w : Watched). bytes_eq name w.name) ws
 abbrev pub Between : ℕ → ℕ → List Entry → Type 0
 Between from to = AllByRecursion (λ (e : Entry). e.caller ≡ 0 → (from ≤ e.clock) × (e.clock ≤ to))
 
--- what holds of a founded table at any time: it was handed in nothing, no more was taken than it has, and at no front of its writes had it more than 2^40 rows
+-- invariant of a table with a known base: it was handed in nothing, no more was taken than it has, and it has at most
+-- 2^40 rows after each prefix of its writes
 pub record IsFoundation (s : HistoryState) : Type 0 where
   pub before : s.before ≡ nothing
   pub handed_in : s.handed_in ≡ 0
   pub taken : s.taken ≤ write_count s
   pub short : IsShort s.writes
 
--- Its history is legal, and no entry of the steward was made later than now.
+-- the table's history is legal, and the steward made no entry later than now
 pub record IsWatched (clock : ℕ) (w : Watched) : Type 0 where
   pub base : IsFoundation w.base
   pub legal : LegalFrom true w.base w.seen
   pub made : Between 0 clock w.seen
 
--- no name stands twice
+-- the names are distinct
 abbrev pub AreApart : List Watched → Type 0
 AreApart [] = ⊤
 AreApart (w ∷ ws) = (is_watched ws w.name ≡ false) × AreApart ws

@@ -24,7 +24,7 @@ use Rattle.crash_states.specs.Entries.{OpensAll}
 abbrev pub names_of : List Watched → List (List ℕ)
 names_of ws = map (λ (w : Watched). w.name) ws
 
--- what opening the tables of a leaf does to its berth, whatever comes of it
+-- what opening the tables of a leaf does to its berth, whatever the result
 pub record OpeningMade (a b : Meaning) (result : Result Opened OpenFault) : Type 0 where
   pub passes : Passes a b
   pub stands : StandsNow b
@@ -37,27 +37,27 @@ pub record HasContent (writes : List Write) (t : Table) : Type 0 where
   pub contents : t.contents ≡ content writes
   pub count : t.writes ≡ length writes
 
--- the tables that were found, which come to so many columns at most, may be opened: each log has just their writes
+-- the tables that were found may be opened: each log has just their writes; `columns` bounds the columns of each
 pub record Finds (ws : List Watched) (log : LogState) (tables : List Table) (columns : List ℕ) (writes : List ℕ → List Write) (m : Meaning) : Type 0 where
   pub may : StandsToOpen ws log writes m
   pub contents : (place : ℕ) (w : Watched) (t : Table) → slice_get ws place ≡ Some w → slice_get tables place ≡ Some t → HasContent (writes w.name) t
   pub few : (place : ℕ) (w : Watched) (n : ℕ) → slice_get ws place ≡ Some w → slice_get columns place ≡ Some n → n ≤ added_count (writes w.name)
 
--- they were opened
+-- the tables were opened
 pub record Opens (ws ws' : List Watched) (owner : ℕ) (log : LogState) (writes : List ℕ → List Write) (m : Meaning) : Type 0 where
   pub runs : Runs ws' owner log writes m
   pub more : SeenMore m.clock m.clock ws ws'
 
--- tables that their steward has not seen yet, founded with the base of a berth
+-- tables with the base of a berth, of which their steward has seen nothing yet
 pub record AreUnseen (base : NamedStates) (ws : List Watched) : Type 0 where
   pub apart : AreApart ws
   pub each : (place : ℕ) (w : Watched) → slice_get ws place ≡ Some w → (w.base ≡ base w.name) × (w.seen ≡ [])
 
--- over a berth that is ready a leaf rests with its base
+-- over a ready berth a leaf rests with the berth's base
 abbrev pub ReadyRests : Meaning → Type 0
 ReadyRests m = (base : NamedStates) (ws : List Watched) → IsReady reads m base → AreUnseen base ws → (least : List ℕ → List Write) × (next : Option LogRecord) × Rests ws base least next m
 
--- what is found may be opened, each table with the writes that its logs have, and opened it runs
+-- the tables that are found may be opened, each with the writes that the logs have of it, and then the leaf runs
 pub record FoundRuns (m : Meaning) : Type 0 where
   pub openable : (ws : List Watched) (log : LogState) (writes : List ℕ → List Write) (place : ℕ) (w : Watched)
       → StandsToOpen ws log writes m → slice_get ws place ≡ Some w → history.MayOpen (now_of w) (length (writes w.name)) (content (writes w.name))

@@ -1,4 +1,4 @@
--- What a seat learns by an entry of the steward, or at a meeting.
+-- What a seat learns by the steward's entry, or at a meeting.
 use Rattle.std.specs.Prelude.{◌≡◌, ◌⊎◌, ℕ, true, false, List, [], ◌∷◌, ◌++◌, length, ⊤}
 use Rattle.leaf_model.specs.declared.writes.Write.{Write}
 use Rattle.leaf_model.specs.Content.{content}
@@ -32,7 +32,7 @@ pub record Learns (w w' : Watched) : Type 0 where
   pub seen : w'.seen ≡ w.seen ++ more
   pub legal : LegalFrom true w'.base w'.seen
 
--- each table that is open is shut, and the others are left as they are
+-- each open table is shut, and the others stay
 abbrev pub ShutsAll : ℕ → List Watched → List Watched → Type 0
 ShutsAll clock [] [] = ⊤
 ShutsAll clock [] (w' ∷ ws') = ⊥

@@ -1,4 +1,4 @@
--- Laws of what stands, as statements.
+-- Laws of what region and disk hold, as statements.
 use Rattle.std.specs.Prelude.{ℕ, List, Option}
 use Rattle.region_layout.specs.Region.{reads}
 use Rattle.leaf_model.specs.declared.writes.Write.{Write}

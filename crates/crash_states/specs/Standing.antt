@@ -17,25 +17,27 @@ use Rattle.disk_backup.specs.SoundLogs.{HasSoundLog}
 use Rattle.crash_moments.specs.Left.{NamedStates, RegionLeft}
 use Rattle.crash_moments.specs.Watched.{Watched, AreWatched, IsFoundation, by_name, is_watched, now_of, others_then, was_opened}
 
--- what every berth promises now: what reads give may be left, and the region is that or closed
+-- what every berth promises now: a crash may leave what reads give, and leaves that region or a closed one
 pub record StandsNow (m : Meaning) : Type 0 where
   pub reads : m.leaves m.clock m.held
   pub regions : KeepsRegion m
 
 -- ---- a leaf that serves or shuts its tables
 
--- the log has these writes of a table, and with what it is owed just those that were taken; no more were noted as flushed than it has
+-- the log has these writes of a table, and with the owed record just those that were taken; no more were noted as
+-- flushed than it has
 pub record IsLogged (logged taken : List Write) (s : HistoryState) : Type 0 where
   pub front : take s.taken s.writes ≡ taken
   pub enough : s.taken ≤ length s.writes
   pub flushed : s.flushed ≤ length logged
   pub handed : s.handed ≡ false
 
--- what the log is owed is of the owner
+-- the owed record is of the table at this place
 abbrev pub IsOwned : List Watched → ℕ → LogRecord → Type 0
 IsOwned ws owner r = (w : Watched) × (slice_get ws owner ≡ Some w) × (w.name ≡ r.name)
 
--- Each disk that a crash may leave has one and the same log, with these writes of each name, and behind it what is owed. Each region is closed.
+-- Each disk that a crash may leave has the same log, with these writes of each name, and after it the owed record. Each
+-- region is closed.
 pub record Runs (ws : List Watched) (owner : ℕ) (log : LogState) (writes : List ℕ → List Write) (m : Meaning) : Type 0 where
   pub watched : AreWatched m.clock ws
   pub opened : was_opened m.clock ws ≡ true
@@ -48,8 +50,8 @@ pub record Runs (ws : List Watched) (owner : ℕ) (log : LogState) (writes : Lis
 
 -- ---- a leaf at rest
 
--- A shut table: each log has the first of its writes, the shortest these and the longest those; each flushed one is in all of them, and of a drained table
--- each of its writes.
+-- A shut table. Each log has a prefix of its writes: the shortest has `least`, and the longest `most`. Each log has
+-- each flushed write, and of a drained table each write.
 pub record IsKept (least most : List Write) (s : HistoryState) : Type 0 where
   pub shut : s.live ≡ false
   pub flushed : s.flushed ≤ length least
@@ -57,16 +59,17 @@ pub record IsKept (least most : List Write) (s : HistoryState) : Type 0 where
   pub longest : most ≡ take (length most) s.writes
   pub handed : s.handed ≡ true → (least ≡ s.writes) × (most ≡ s.writes)
 
--- where each name stands now: of a leaf's tables, and of names that it does not have
+-- the state of each name now: of the leaf's tables, and of names that it does not have
 abbrev pub tables_of : NamedStates → List Watched → Meaning → NamedStates
 tables_of others ws m = by_name now_of (others_then (was_opened m.clock ws) others) ws
 
--- the region as it reads is left of the tables, beside each disk that a crash may leave
+-- the region that reads give belongs to the tables, beside each disk that a crash may leave
 abbrev pub RegionRests : NamedStates → Meaning → Type 0
 RegionRests tables m = EachNow (λ p. RegionLeft reads tables (record { region = m.held.region; disk = p.disk })) m
 
--- Each disk that a crash may leave has a log with the least writes of each name, or with those of the next record too. Each table is shut.
--- Names that the leaf does not have stand as `others` say until it was first opened.
+-- Each disk that a crash may leave has a log with the least writes of each name, or with those of the next record too.
+-- Each table is shut. Names that the leaf does not have are as `others` says, until a table is opened for the first
+-- time.
 pub record Rests (ws : List Watched) (others : NamedStates) (least : List ℕ → List Write) (next : Option LogRecord) (m : Meaning) : Type 0 where
   pub watched : AreWatched m.clock ws
   pub stands : StandsNow m
@@ -85,8 +88,8 @@ pub record IsTreated (writes : List Write) (s : HistoryState) : Type 0 where
   pub flushed : s.flushed ≤ length writes
   pub handed : s.handed ≡ false
 
--- The image that is copied has these writes of each name, and so has each log, which ends where the image says, at a gate that is not open;
--- each table has just these, and each region is closed.
+-- The image that is copied has these writes of each name. So has each log, which ends where the image says, at a gate
+-- that is not open. Each table has just these writes, and each region is closed.
 pub record Copies (ws : List Watched) (drain : DrainState) (writes : List ℕ → List Write) (m : Meaning) : Type 0 where
   pub watched : AreWatched m.clock ws
   pub opened : was_opened m.clock ws ≡ true
@@ -101,7 +104,8 @@ pub record Copies (ws : List Watched) (drain : DrainState) (writes : List ℕ �
   pub each : (place : ℕ) (w : Watched) → slice_get ws place ≡ Some w → IsTreated (writes w.name) (now_of w)
   pub others : (name : List ℕ) → is_watched ws name ≡ false → writes name ≡ []
 
--- a table's content as it was when it was shut: what its writes come to, in at most a column for each row and each cell that they add
+-- the content of a table when it was shut: what its writes come to, in at most one column for each row and each cell
+-- that they add
 pub record IsContentOf (s : HistoryState) (t : Table) : Type 0 where
   pub contents : t.contents ≡ content s.writes
   pub writes : t.writes ≡ length s.writes
@@ -130,7 +134,8 @@ pub record MayHave (writes : List Write) (s : HistoryState) : Type 0 where
   pub front : writes ≡ take (length writes) s.writes
   pub handed : s.handed ≡ true → writes ≡ s.writes
 
--- Each disk that a crash may leave has one and the same log, which is owed nothing and has these writes of each name, and each region is closed.
+-- Each disk that a crash may leave has the same log, which is owed nothing and has these writes of each name. Each
+-- region is closed.
 pub record StandsToOpen (ws : List Watched) (log : LogState) (writes : List ℕ → List Write) (m : Meaning) : Type 0 where
   pub watched : AreWatched m.clock ws
   pub stands : StandsNow m

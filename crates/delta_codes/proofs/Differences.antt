@@ -1,7 +1,7 @@
 -- Codes of differences: they fit 64 bits, they stand for one difference each, and what they do to a value.
-use Rattle.std.proofs.Common.{◌≡◌, ℕ, ◌^◌, ◌<◌, ℤ, pos, negsuc, ◌+ℤ◌, ◌-ℤ◌, FitsSigned, w64, ap, ◌∙◌, arith}
+use Rattle.std.proofs.Common.{◌≡◌, ℤ, pos, negsuc, ◌+ℤ◌, ◌-ℤ◌, FitsSigned, w64, ap, ◌∙◌, arith}
 use Rattle.std.specs.Int.{int_wrap}
-use Rattle.std.proofs.lemmas.Int.{ints, int_wrap-add_right, int_wrap_fits, SFits-int_wrap}
+use Rattle.std.proofs.lemmas.Int.{ints, int_wrap-add_right, int_wrap_fits}
 use Rattle.delta_codes.specs.Slots.{zigzag, unzigzag, after}
 
 pub unzigzag_zigzag : (d : ℤ) → unzigzag (zigzag d) ≡ d

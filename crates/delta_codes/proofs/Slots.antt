@@ -1,11 +1,10 @@
 -- The rule of a slot, place by place, and that what is written for values means them.
-use Rattle.std.proofs.Common.{◌≡◌, ◌≢◌, ℕ, zero, suc, ◌+◌, ◌-◌, ◌*◌, ◌/◌, ◌%◌, ◌<◌, List, length, map, ℤ, pos, ◌-ℤ◌, FitsSigned, w64, slice_index, slice_index_or, slice_set, to_z, of_z, [], ◌∷◌, ◌++◌, refl, ap, sym, ◌∙◌, inl, inr, arith}
+use Rattle.std.proofs.Common.{◌≡◌, ◌≢◌, ℕ, zero, suc, ◌+◌, ◌-◌, ◌*◌, ◌/◌, ◌%◌, ◌<◌, List, length, map, ℤ, pos, ◌-ℤ◌, FitsSigned, w64, slice_index, slice_index_or, to_z, of_z, [], ◌∷◌, ◌++◌, refl, ap, sym, ◌∙◌, inl, inr, arith}
 use Rattle.std.specs.List.{range_with_len}
 use Rattle.std.specs.Int.{int_wrap, div_ceil}
 use Rattle.std.proofs.lemmas.Bool.{cases_eq, cases_lt}
-use Rattle.std.proofs.lemmas.Int.{SFits-int_wrap, to_z-of_z}
+use Rattle.std.proofs.lemmas.Int.{to_z-of_z}
 use Rattle.std.proofs.lemmas.List.{get_or_past}
-use Rattle.std.proofs.lemmas.List.Edits.{fill_by_more}
 use Rattle.std.proofs.lemmas.List.FromFn.{length-map-range_with_len, get_or-map-range_with_len, map-range_with_len_more, fill_by_all}
 use Rattle.delta_codes.specs.Slots.{zigzag, after, slot, slots, anchors_of, code_of, codes_of}
 use Rattle.delta_codes.proofs.Differences.{after_difference}
@@ -64,10 +63,6 @@ written values fits =
     rw count (sym (fill_by_all (slot (anchors_of values) (codes_of values)) values (length values) (pos 0) refl (λ k within. sym (written_at values fits k within))))
 
 -- ---- steps of loops that write a place after the other
-
-pub filled_more : (f : ℕ → ℤ) (xs : List ℤ) (i : ℕ) (x : ℤ) → i < length xs → ((k : ℕ) → k < i → slice_index_or xs k (pos 0) ≡ f k) → x ≡ f i
-    → (k : ℕ) → k < i + 1 → slice_index_or (slice_set xs i x) k (pos 0) ≡ f k
-filled_more f xs i x within below e = rw e (fill_by_more f xs i (pos 0) within below)
 
 pub length_anchors_of : (values : List ℤ) → length (anchors_of values) ≡ div_ceil (length values) 64
 length_anchors_of values = length-map-range_with_len (λ k. slice_index_or values (64 * k) (pos 0)) 0 (div_ceil (length values) 64)

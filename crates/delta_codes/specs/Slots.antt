@@ -16,7 +16,7 @@ unzigzag code = if code % 2 == 0 then pos (code / 2) else negsuc (code / 2)
 abbrev pub after : ℤ → ℕ → ℤ
 after before code = int_wrap w64 (before +ℤ unzigzag code)
 
--- slot i: an anchor at each 64th place, and else the slot before plus the difference of code i
+-- slot i: an anchor if i is a multiple of 64, else slot i - 1 plus the difference of code i
 abbrev pub slot : List ℤ → List ℕ → ℕ → ℤ
 slot anchors codes zero = slice_index_or anchors 0 (pos 0)
 slot anchors codes (suc i) = if suc i % 64 == 0
@@ -33,7 +33,7 @@ slots anchors codes = map (slot anchors codes) (range_with_len 0 (length codes))
 abbrev pub anchors_of : List ℤ → List ℤ
 anchors_of values = map (λ k. slice_index_or values (64 * k) (pos 0)) (range_with_len 0 (div_ceil (length values) 64))
 
--- the code of place i: 0 at an anchor, and else that of the difference from the value before, wrapping at 64 bits
+-- code i: 0 at an anchor, else the code of the difference from value i - 1, wrapping at 64 bits
 abbrev pub code_of : List ℤ → ℕ → ℕ
 code_of values i = if i % 64 == 0 then 0
     else zigzag (int_wrap w64 (slice_index_or values i (pos 0) -ℤ slice_index_or values (i - 1) (pos 0)))

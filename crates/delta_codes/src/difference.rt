@@ -18,7 +18,7 @@ fn unzigzag(code: u64) -> i64
     if code & 1 == 0 { half } else { !half }
 }
 
-/// The value before plus the difference that the code stands for, wrapping at 64 bits.
+/// The next value: the one before plus the difference that the code stands for, wrapping at 64 bits.
 pub fn undo(anchor: i64, code: u64) -> i64
     ensures { result ≡ after anchor code }
 {

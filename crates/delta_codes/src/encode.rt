@@ -1,4 +1,4 @@
-// From values to anchors and codes.
+// Codes values as anchors and differences.
 ghost use Rattle.std.specs.Prelude.{◌≡◌, ◌<◌, ◌%◌, ℕ, pos, length, slice_index, slice_index_or, FitsSigned, IfOk};
 ghost use Rattle.std.specs.Int.{w64, div_ceil};
 ghost use Rattle.delta_codes.specs.Slots.{anchors_of, code_of, codes_of, slots};
@@ -7,14 +7,15 @@ use crate::difference::zigzag;
 use crate::lists::{Anchors, Codes};
 use std::alloc::{AllocError, Global};
 
-/// Values as anchors and codes. The code of a place that has an anchor means nothing.
+/// Values in delta form: an anchor for each 64 of them, and a code for each. The code at an anchor means nothing.
 #[derive(Drop)]
 pub struct Deltas {
     pub anchors: Anchors,
     pub codes: Codes,
 }
 
-/// The values as an anchor for each 64 begun and a code for each. A code at an anchor is 0, so that it takes no width.
+/// Codes the values: an anchor for each 64 of them, rounded up, and a code for each. The code at an anchor is 0, so
+/// that it takes no width.
 pub fn delta(alloc: Global, values: &[i64]) -> Result<Deltas, AllocError>
     ensures coded { IfOk result (λ deltas. length deltas.codes ≡ length values.now) }
     ensures anchored { IfOk result (λ deltas. length deltas.anchors ≡ div_ceil (length values.now) 64) }

@@ -1,12 +1,10 @@
 //! Integers as anchors, one for each 64, and codes of the differences between them.
 #![tactic(auto)]
 
-mod decode;
 mod difference;
 mod encode;
 mod lists;
 
-pub use decode::undo_all;
 pub use difference::{undo, zigzag};
 pub use encode::{Deltas, delta};
 pub use lists::{Anchors, Codes};

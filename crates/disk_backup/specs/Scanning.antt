@@ -12,15 +12,15 @@ use Rattle.disk_backup.specs.declared.step.LogStep.TheVariants.{Record, Ended}
 
 -- ---- before the first read
 
--- the pair comes from one before: its region is the same or closed, and its disk comes from that one's by a step
+-- the pair comes from an earlier one: its region is the same or closed, and its disk is one step after the earlier disk
 pub record StepsFrom (step : List ℕ → List ℕ → Type 0) (old : Meaning) (p : Pair) : Type 0 where
   pub from : Pair
   pub was : old.leaves old.clock from
   pub region : (p.region ≡ from.region) ⊎ IsClosed p.region
   pub disk : step from.disk p.disk
 
--- while the first gate is written on a disk that read as `len` bytes: its first byte may be any, and where there was one byte,
--- a sync came before, so that there is no more than one
+-- A disk of `len` bytes while its first gate is written. Its first byte may be any. If it had one byte, a sync came
+-- before, so it has no more than one.
 pub record FirstByte (len : ℕ) (before now : List ℕ) : Type 0 where
   pub short : len ≤ 1
   pub synced : len ≡ 1 → length before ≤ 1
@@ -30,7 +30,7 @@ pub record FirstByte (len : ℕ) (before now : List ℕ) : Type 0 where
 abbrev pub BeginsScan : ℕ → List ℕ → List ℕ → Type 0
 BeginsScan len before now = (now ≡ before) ⊎ FirstByte len before now
 
--- the disk that is read: one of at most one byte has become one gate that is not open
+-- the disk that is read: a disk of at most one byte has become one gate that is not open
 abbrev pub begun : List ℕ → List ℕ
 begun [] = 0 ∷ []
 begun (b ∷ []) = 0 ∷ []
@@ -38,7 +38,7 @@ begun (b ∷ c ∷ rest) = b ∷ c ∷ rest
 
 -- ---- record by record
 
--- these records stand behind open gates up to here, and something stands here
+-- these records, each after an open gate, fill the disk up to `at`, and there is a byte at `at`
 pub record Scanned (disk : List ℕ) (records : List LogRecord) (at : ℕ) : Type 0 where
   pub rest : List ℕ
   pub each : AllByRecursion IsRecord records
@@ -46,15 +46,15 @@ pub record Scanned (disk : List ℕ) (records : List LogRecord) (at : ℕ) : Typ
   pub at_is : at ≡ length (open_records records)
   pub some : 0 < length rest
 
--- how many bytes the record at the front has, its length included, where there is one
+-- the number of bytes of the record that the bytes begin with, its length field included, if there is one
 abbrev pub size_at : List ℕ → ℕ
 size_at bytes = 8 + from_le_bytes w64 (take 8 bytes)
 
--- no record with a gate after it stands at the front
+-- the bytes do not begin with a record and a gate
 abbrev pub NoRecord : List ℕ → Type 0
 NoRecord bytes = (r : LogRecord) (gate : ℕ) (rest : List ℕ) → IsRecord r → bytes ≡ record_bytes r ++ gate ∷ rest → ⊥
 
--- an open gate with no record and gate behind it
+-- the gate at `at` is open, and no record and gate follow it
 pub record Damaged (disk : List ℕ) (at : ℕ) : Type 0 where
   pub rest : List ℕ
   pub opened : drop at disk ≡ 1 ∷ rest
@@ -64,18 +64,18 @@ pub record Damaged (disk : List ℕ) (at : ℕ) : Type 0 where
 abbrev pub record_is : FlushRecord → LogRecord
 record_is flush = record { sets = flush.sets; name = flush.table; writes = flush.writes }
 
--- the whole record at the front, behind which something stands
+-- the bytes begin with this whole record, and a byte follows it
 pub record Found (bytes : List ℕ) (r : LogRecord) : Type 0 where
   pub is : IsRecord r
   pub front : take (length (record_bytes r)) bytes ≡ record_bytes r
   pub more : length (record_bytes r) < length bytes
 
--- what one step of a scan is: the next record, or the end of a log that is owed nothing, at a gate that is not open
+-- one step of a scan: the next record; or the end, at a gate that is not open, of a log that is owed nothing
 abbrev pub StepIs : List ℕ → List LogRecord → ℕ → LogStep → Type 0
 StepIs disk records len (Record scan flush) = Scanned disk (records ++ record_is flush ∷ []) scan.at × (scan.len ≡ len)
 StepIs disk records len (Ended log) = ClosedLog records log.end disk
 
--- what was scanned is a front of the disk's log
+-- what was scanned is a prefix of the disk's log
 abbrev pub ScannedIsFront : Type 0
 ScannedIsFront = (disk : List ℕ) (records all : List LogRecord) (at end : ℕ) → Scanned disk records at → IsLog disk all end → (rest : List LogRecord) × (all ≡ records ++ rest)
 
@@ -83,12 +83,12 @@ ScannedIsFront = (disk : List ℕ) (records all : List LogRecord) (at end : ℕ)
 abbrev pub LogIsWhole : Type 0
 LogIsWhole = (disk : List ℕ) (records all : List LogRecord) (at end : ℕ) → 1 < length disk → IsLog disk all end → Scanned disk records at → Damaged disk at → ⊥
 
--- Of each berth, whether it tells its contents or not: what a step gives is a record.
+-- whatever the berth tells: what a step gives is a record
 abbrev pub GivesRecord : LogStep → Type 0
 GivesRecord (Record later flush) = IsRecord (record_is flush)
 GivesRecord (Ended log) = ⊤
 
--- Of each berth, whether it tells its contents or not: a step passes a byte at least for each write, and stays below 2^63.
+-- whatever the berth tells: a step passes at least one byte for each write, and stays below 2^63
 abbrev pub ScansOn : ScanState → LogStep → Type 0
 ScansOn scan (Record later flush) = (scan.at + length flush.writes < later.at) × (later.at < 2 ^ 63)
 ScansOn scan (Ended log) = (log ≡ record { end = scan.at; owed = None; laid = false }) × (scan.at < 2 ^ 63)

@@ -9,7 +9,7 @@ use Rattle.berth_face.specs.Moments.{EachNow, Throughout}
 use Rattle.disk_backup.specs.Logs.{ClosedLog, open_records, writes_of}
 use Rattle.disk_backup.specs.State.{LogState}
 
--- these records, at `end` a gate of any kind, and behind it the next record with a closed gate
+-- these records, a gate of any kind at `end`, and after it the next record with a closed gate
 pub record LaidLog (records : List LogRecord) (next : LogRecord) (end : ℕ) (disk : List ℕ) : Type 0 where
   pub gate : ℕ
   pub rest : List ℕ
@@ -18,13 +18,13 @@ pub record LaidLog (records : List LogRecord) (next : LogRecord) (end : ℕ) (di
   pub is : disk ≡ open_records records ++ gate ∷ (pending_bytes (Some next) ++ rest)
   pub end_is : end ≡ length (open_records records)
 
--- a disk of these records, by what is owed and whether that is laid
+-- a disk of these records, by the record that is owed and whether it is laid
 abbrev pub HoldsOwing : Option LogRecord → Bool → ℕ → List LogRecord → List ℕ → Type 0
 HoldsOwing None laid end records disk = ClosedLog records end disk
 HoldsOwing (Some next) false end records disk = ClosedLog records end disk × IsRecord next
 HoldsOwing (Some next) true end records disk = LaidLog records next end disk
 
--- a disk that holds the log of these records: it ends at the log's end, and what is owed and laid is behind that
+-- a disk that holds the log of these records: they end at the log's end, and a record that is owed and laid follows
 abbrev pub HoldsLog : LogState → List LogRecord → List ℕ → Type 0
 HoldsLog log records disk = HoldsOwing log.owed log.laid log.end records disk
 
@@ -33,7 +33,7 @@ abbrev pub with_owed : Option LogRecord → List LogRecord → List LogRecord
 with_owed None records = records
 with_owed (Some next) records = records ++ next ∷ []
 
--- where the log ends with what is owed: behind a gate and the record
+-- where the log ends with the record that is owed: after a gate and the record
 abbrev pub end_with : LogState → ℕ
 end_with log = log.end + length (pending_bytes log.owed)
 
@@ -45,21 +45,21 @@ WithOwed log records disk = ClosedLog (with_owed log.owed records) (end_with log
 abbrev pub WithOrWithout : LogState → List LogRecord → List ℕ → Type 0
 WithOrWithout log records disk = ClosedLog records log.end disk ⊎ WithOwed log records disk
 
--- The pair comes from one before: its region is the same or closed, and whichever records that one's disk held as the log had it,
--- of these its disk is as `after` says. Disks that a crash may leave may hold different records.
+-- The pair comes from an earlier one. Its region is the same or closed. Whichever records the earlier disk held as the
+-- log had it, its disk is as `after` says of these. The disks that a crash may leave may hold different records.
 pub record Comes (log : LogState) (after : List LogRecord → List ℕ → Type 0) (old : Meaning) (p : Pair) : Type 0 where
   pub from : Pair
   pub before : old.leaves old.clock from
   pub region : (p.region ≡ from.region) ⊎ IsClosed p.region
   pub disk : (records : List LogRecord) → HoldsLog log records from.disk → after records p.disk
 
--- what settling does where the berth tells
+-- what settling does, if the berth tells its contents
 pub record Settled {T E : Type 0} (log later : LogState) (result : Result T E) (old new : Meaning) : Type 0 where
   -- at every moment a crash leaves the log with or without what was owed
   pub moments : Throughout (Comes log (WithOrWithout log) old) old new
   -- then every crash leaves it with what was owed
   pub ok : OnOk result (EachNow (Comes log (WithOwed log) old) new)
-  -- or it is still owed, and the next call goes on
+  -- or the record is still owed, and the next call goes on
   pub err : OnErr result (EachNow (Comes log (HoldsLog later) old) new)
 
 -- ---- where each disk that a crash may leave has the same log
@@ -73,8 +73,8 @@ with_writes (Some r) writes name = if bytes_eq name r.name then writes name ++ r
 abbrev pub HasLog : (List ℕ → List Write) → ℕ → List ℕ → Type 0
 HasLog writes end disk = (records : List LogRecord) × ClosedLog records end disk × ((name : List ℕ) → writes_of name records ≡ writes name)
 
--- Each disk that a crash may leave now holds records with these writes for each name, which are one and the same log:
--- until what is owed is laid, its end is at a gate that is not open, and then what is owed is behind that.
+-- Each disk that a crash may leave now holds the same log, with these writes for each name. It ends at a gate that is
+-- not open until the owed record is laid; then that record follows its end.
 abbrev pub HaveLog : LogState → (List ℕ → List Write) → Meaning → Type 0
 HaveLog log writes m = EachNow (λ p. (records : List LogRecord) × HoldsLog log records p.disk × ((name : List ℕ) → writes_of name records ≡ writes name)) m
 

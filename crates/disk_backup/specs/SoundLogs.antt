@@ -1,10 +1,10 @@
--- Which writes a sound log has of each name, and of which writes a table may be made.
+-- Which writes a sound log has of each name, and which writes a table may be made of.
 use Rattle.std.specs.Prelude.{◌≡◌, ℕ, ◌≤◌, ◌^◌, List, length, take}
 use Rattle.leaf_model.specs.declared.writes.Write.{Write}
 use Rattle.leaf_model.specs.Content.{content}
 use Rattle.disk_backup.specs.Logs.{IsSound, writes_of}
 
--- after no write of the list has a table more than 2^40 rows
+-- a table has at most 2^40 rows after any prefix of the writes
 abbrev pub IsShort : List Write → Type 0
 IsShort writes = (k : ℕ) → length (content (take k writes)).rows ≤ 2 ^ 40
 

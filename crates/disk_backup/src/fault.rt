@@ -15,8 +15,8 @@ impl From<Failed> for DiskFault {
     }
 }
 
-/// Why a log was not read further: the disk refused a call, an open gate is followed by no record with a gate after it,
-/// or memory ran out.
+/// Why a log was not read on: the disk refused a call; an open gate is not followed by a record and a gate; or memory
+/// ran out.
 #[derive(Clone, Copy, Debug, PartialEq, Eq)]
 pub enum LogFault {
     DiskFault,

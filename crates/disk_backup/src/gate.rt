@@ -7,7 +7,7 @@ ghost use Rattle.disk_backup.specs.Scanning.{StepsFrom, BeginsScan};
 
 use berth_face::{Berth, Failed};
 
-/// Makes a disk of at most one byte one gate that is not open.
+/// Makes a disk of at most one byte a disk of one gate that is not open.
 pub fn first_gate<B: Berth>(len: u64, berth: &mut B) -> Result<(), Failed>
     requires { len ≤ 1 }
     ensures gate { IsTrue (B.meaning berth.old).tells → length (B.meaning berth.old).held.disk ≤ 1 → OnOk result ((B.meaning berth.new).held.disk ≡ 0 ∷ []) }

@@ -1,4 +1,4 @@
-// The two halves of settling, for disks that need not be the same.
+// The two halves of settling. The disks that a crash may leave need not be the same.
 ghost use Rattle.std.specs.Prelude.{◌≡◌, ◌+◌, ◌^◌, ◌<◌, ℕ, List, IsTrue, OnOk, OnErr, length, true};
 ghost use Rattle.berth_face.specs.Causes.{HasCause};
 ghost use Rattle.berth_face.specs.Berth.{Passes};
@@ -8,7 +8,7 @@ ghost use Rattle.disk_backup.specs.Came.{Came};
 
 use berth_face::{Berth, Failed};
 
-/// Brings an owed record onto the disk. After an Err it goes on where it stopped.
+/// Brings an owed record onto the disk. After an Err the next call goes on where this one stopped.
 pub fn bring<B: Berth>(end: u64, owed: &[u8], laid: &mut bool, berth: &mut B) -> Result<(), Failed>
     requires bound { end < 2 ^ 63 }
     requires room { IsTrue laid.old → end + 1 + length owed.now < 2 ^ 63 }
@@ -50,7 +50,7 @@ fn lay_once<B: Berth>(end: u64, owed: &[u8], laid: &mut bool, berth: &mut B) -> 
     Ok(())
 }
 
-// Writes a record behind the gate that is not open.
+// Writes a record after the gate that is not open.
 fn lay<B: Berth>(end: u64, owed: &[u8], berth: &mut B) -> Result<(), Failed>
     requires { end < 2 ^ 63 }
     ensures room { OnOk result (end + 1 + length owed.now < 2 ^ 63) }

@@ -2,8 +2,9 @@
 ghost use Rattle.disk_backup.specs.Logs.{OneLog, OneRecordMore, ClosedIsLog, LogIsClosed};
 ghost use Rattle.disk_backup.specs.Scanning.{ScannedIsFront, LogIsWhole};
 
-/// A disk has one log. A record with a gate that is not open after it, behind the log's end, where the gate is now open, is one record more.
-/// A log with a gate at its end that is not open is what settling speaks of. What was scanned is a front of the disk's log, which is not damaged.
+/// A disk has one log. If the gate at its end is opened, and a record and a gate that is not open follow, the log has
+/// that record more. Settling speaks of logs that end at a gate that is not open. What was scanned is a prefix of the
+/// disk's log, which is not damaged.
 pub fn logs_are_read_once()
     ensures one { OneLog }
     ensures more { OneRecordMore }

@@ -1,4 +1,4 @@
-//! The gated log on a berth's disk: records behind open gates, up to the first gate that is not open.
+//! The gated log on a berth's disk: records, each after an open gate, up to the first gate that is not open.
 #![tactic(auto)]
 
 mod fault;

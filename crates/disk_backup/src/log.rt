@@ -1,4 +1,4 @@
-// The log that records are written to, and the record that it is owed.
+// The log that records are written to, and the record that is owed to it.
 ghost use Rattle.std.specs.Prelude.{◌≡◌, ◌+◌, ◌^◌, ◌<◌, ℕ, List, length, IsTrue, true, false, None, OnOk, OnErr, IsOk, IsSome, is_some};
 ghost use Rattle.leaf_model.specs.declared.writes.Write.{Write};
 ghost use Rattle.row_records.specs.Pending.{pending_bytes};
@@ -14,8 +14,8 @@ use row_records::Pending;
 use std::alloc::Global;
 use std::marker::Model;
 
-/// A log on a berth's disk that ends at a gate that is not open, and the record that is owed to it. Contracts see where it ends, the record,
-/// and whether that is known to be on the disk.
+/// A log on a berth's disk, which ends at a gate that is not open, and the record that is owed to it. Contracts see the
+/// place of that gate, the record, and whether the record is known to be on the disk.
 #[derive(Drop)]
 pub struct BackupLog {
     end: u64,
@@ -34,7 +34,7 @@ impl Model for BackupLog {
 }
 
 impl BackupLog {
-    /// A log that ends here and is owed nothing. It may be settled where a byte that is not 1 stands there.
+    /// A log that ends at the byte `end` and is owed nothing. It may be settled if the byte there is not 1.
     pub fn at(alloc: Global, end: u64) -> BackupLog
         requires { end < 2 ^ 63 }
         ensures { result ≡ record { end = end; owed = None; laid = false } }
@@ -61,7 +61,7 @@ impl BackupLog {
         !self.owed.bytes().is_empty()
     }
 
-    /// Gives the log a record that is to be settled.
+    /// Gives the log a record to settle. The log was owed none.
     pub fn offer(&mut self, pending: Pending)
         requires nothing { self.old.owed ≡ None }
         requires some { IsSome pending }
@@ -71,8 +71,9 @@ impl BackupLog {
         self.owed = pending;
     }
 
-    /// Brings what is owed onto the disk: it writes the record with a closed gate after it, syncs, opens the gate before it, and syncs.
-    /// After an Err the next call goes on at the write that failed or whose sync failed, and a record is not written again once its first sync has succeeded.
+    /// Brings the owed record onto the disk: writes it with a closed gate after it, syncs, opens the gate before it,
+    /// and syncs. No-op if nothing is owed. After an Err the next call goes on at the write that failed or whose sync
+    /// failed. A record is not written again once its first sync has succeeded.
     pub fn settle<B: Berth>(&mut self, berth: &mut B) -> Result<(), DiskFault>
         ensures nothing { self.old.owed ≡ None → IsOk result × (self.new ≡ self.old) × (berth.new ≡ berth.old) }
         ensures done { OnOk result ((self.new.owed ≡ None) × (self.new.end ≡ end_with self.old)) }

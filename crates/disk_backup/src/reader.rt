@@ -14,7 +14,8 @@ use berth_face::Berth;
 use row_records::read_record;
 use std::alloc::Global;
 
-/// The record behind the gate at a place of a disk of `len` bytes, or the end of the log at that gate.
+/// Reads the gate at the byte `at` of a disk of `len` bytes: the record after it, or the end of the log if it is not
+/// open.
 pub fn step<B: Berth>(alloc: Global, at: u64, len: u64, berth: &mut B) -> Result<LogStep, LogFault>
     requires inside { at < len }
     requires short { len < 2 ^ 63 }
@@ -49,7 +50,7 @@ fn is_open<B: Berth>(at: u64, berth: &mut B) -> Result<bool, LogFault>
     Ok(gate[0] == 1)
 }
 
-// The record at a place, and the place behind it.
+// The record at a place, and the place after it.
 fn record_at<B: Berth>(
     alloc: Global,
     at: u64,
@@ -80,7 +81,7 @@ fn record_at<B: Berth>(
     }
 }
 
-// How many bytes the record at a place has, its length included, where there is room for it and a gate.
+// The number of bytes of the record at a place, its length field included. There has to be room for it and a gate.
 #[tactic(auto, using(berth_face::proofs::Moments::stays_none))]
 fn record_size<B: Berth>(at: u64, len: u64, berth: &mut B) -> Result<u64, LogFault>
     ensures stays { IsTrue (B.meaning berth.old).tells → Stays (B.meaning berth.old) (B.meaning berth.new) }
@@ -104,7 +105,7 @@ fn record_size<B: Berth>(at: u64, len: u64, berth: &mut B) -> Result<u64, LogFau
     Ok(size + 8)
 }
 
-// So many bytes of the disk.
+// `size` bytes of the disk from `at` on.
 #[tactic(auto, using(berth_face::proofs::Moments::stays_none))]
 fn bytes_at<B: Berth>(alloc: Global, at: u64, size: u64, berth: &mut B) -> Result<Vec<u8>, LogFault>
     ensures stays { IsTrue (B.meaning berth.old).tells → Stays (B.meaning berth.old) (B.meaning berth.new) }

@@ -16,8 +16,8 @@ use berth_face::Berth;
 use std::alloc::Global;
 
 impl LogScan {
-    /// Makes a disk of at most one byte one gate that is not open, and syncs before anything is read,
-    /// so that every crash leaves what is read from here on.
+    /// Begins a scan. A disk of at most one byte becomes one gate that is not open. It syncs before anything is read,
+    /// so that every later crash leaves what is read.
     pub fn begin<B: Berth>(berth: &mut B) -> Result<LogScan, LogFault>
         ensures start { IfOk result (λ scan. scan.at ≡ 0) }
         ensures len { IsTrue (B.meaning berth.old).tells → IfOk result (λ scan. scan.len ≡ length (B.meaning berth.new).held.disk) }
@@ -41,7 +41,8 @@ impl LogScan {
         Ok(LogScan { at: 0, len: 1 })
     }
 
-    /// The next record, or the log at its end: the first gate that is not open. An Err uses the scan up.
+    /// Gives the next record, or the log if the scan is at its end: the first gate that is not open. An Err uses the
+    /// scan up.
     pub fn next<B: Berth>(self, alloc: Global, berth: &mut B) -> Result<LogStep, LogFault>
         ensures step { (records : List LogRecord) → IsTrue (B.meaning berth.old).tells → self.len ≡ length (B.meaning berth.old).held.disk → Scanned (B.meaning berth.old).held.disk records self.at
             → IfOk result (StepIs (B.meaning berth.old).held.disk records self.len) }

@@ -13,7 +13,7 @@ pub struct FlushRecord {
     pub writes: Writes,
 }
 
-/// A log that is being read. Contracts see the place of the gate that comes next, and how many bytes the disk has.
+/// A log that is being read. Contracts see the place of the next gate, and the number of bytes of the disk.
 #[derive(Drop)]
 pub struct LogScan {
     pub(crate) at: u64,
@@ -30,7 +30,7 @@ impl Model for LogScan {
     ghost view = { λ scan. record { at = scan.at; len = scan.len } };
 }
 
-/// The next record and the scan behind it, or the log at whose end the scan is.
+/// A record and the scan after it, or the log at its end.
 #[derive(Drop)]
 pub enum LogStep {
     Record(LogScan, FlushRecord),

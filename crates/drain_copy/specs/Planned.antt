@@ -52,7 +52,7 @@ abbrev pub tables_count : List DrainTable → ℕ
 tables_count [] = 0
 tables_count (t ∷ tables) = columns_count t.parts.blocks + tables_count tables
 
--- what it takes that no image can be made of tables: 2^25 columns, or a table with 2^63 writes
+-- no image can be made of the tables only if they have 2^25 columns or one has 2^63 writes
 abbrev pub NeedRoom : List DrainTable → Type 0
 NeedRoom tables = (2 ^ 25 ≤ tables_count tables) ⊎ ((place : ℕ) × (t : DrainTable) × (slice_get tables place ≡ Some t) × (2 ^ 63 ≤ t.parts.writes))
 
@@ -75,7 +75,7 @@ tables_entries (t ∷ tables) = (25 + length t.name + blocks_entries t.parts.blo
 abbrev pub capped : ℕ → ℕ
 capped n = min n (2 ^ 64 - 1)
 
--- so many columns more, so many bytes, and so many bytes of entries
+-- the sizes grew by `columns` columns, `bytes` bytes, and `entries` bytes of the directory
 pub record Grew (old new : Sizes) (columns bytes entries : ℕ) : Type 0 where
   pub more_columns : capped new.columns ≡ capped (old.columns + columns)
   pub more_bytes : capped new.bytes ≡ capped (old.bytes + bytes)
@@ -107,6 +107,6 @@ abbrev pub tables_from : ℕ → List DrainTable → List TablePlaces
 tables_from at [] = []
 tables_from at (t ∷ tables) = table_from at t ∷ tables_from (at + blocks_size t.parts.blocks) tables
 
--- the columns stand behind the head
+-- the directory of an image whose columns follow the head
 abbrev pub planned_directory : List DrainTable → ℕ → Directory
 planned_directory tables log_end = record { log_end = log_end; tables = tables_from 16 tables }

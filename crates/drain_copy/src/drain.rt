@@ -31,7 +31,8 @@ use std::collections::VecDeque;
 use std::marker::Model;
 use std::snapshot::Snapshot;
 
-/// The columns that are still on the heap, the directory, and how far it has come. What was planned takes no bytes: contracts alone see it.
+/// A drain: the columns that are still on the heap, the directory, and how far it has come. Its plan takes no bytes:
+/// contracts alone see it.
 #[derive(Drop)]
 pub struct Drain {
     columns: VecDeque<ColumnBytes>,
@@ -62,7 +63,8 @@ impl Model for Drain {
 }
 
 impl Drain {
-    /// The drain of tables of distinct names. It takes all the memory that a drain takes.
+    /// Plans the drain of at most 16 tables of distinct names. It takes all the memory that a drain takes. An Err gives
+    /// the tables back.
     pub fn plan(
         alloc: Global,
         tables: DrainTables,
@@ -76,9 +78,9 @@ impl Drain {
         ensures image { IfOk result (λ d. IsAdoptable d.image (images_of tables) log_end) }
         ensures begins { IfOk result (λ d. (d.next ≡ next.Begin) × (d.heap ≡ all_columns tables)) }
         ensures back { IfErr result (λ e. e.0 ≡ tables) }
-        // NoRoom exactly where the tables make no image.
+        // NoRoom if and only if no image can be made of the tables.
         ensures room { IfErr result (λ e. e.1 ≡ plan_fault.NoRoom ↔ IsTrue (has_no_room tables)) }
-        // A column is shorter than 2^37 bytes, so that takes many of them, or many writes.
+        // A column is shorter than 2^37 bytes, so NoRoom takes many columns, or many writes.
         ensures large { IfErr result (λ e. e.1 ≡ plan_fault.NoRoom → NeedRoom tables) }
         ensures fits { IfOk result (λ d. has_no_room tables ≡ false) }
     {
@@ -118,8 +120,9 @@ impl Drain {
         }
     }
 
-    /// Makes the next step: it empties the region and puts a closed head there; it writes a column at the region's end and frees it; it writes the
-    /// directory and the head behind the flag; it writes the flag. A drain of which a step failed is given up. It takes no memory.
+    /// Makes the next step, and takes no memory. The steps: empty the region and write a closed head; write a column at
+    /// the region's end and free it, once for each; write the directory, and the head after the flag; write the flag.
+    /// After an Err the drain is given up.
     #[tactic(auto, using(crate::proofs::Standing::begun_step, crate::proofs::Standing::opened_step))]
     pub fn step<B: Berth>(&mut self, berth: &mut B) -> Result<DrainStep, RegionFault>
         requires more { self.old.next ≢ next.Nothing }
@@ -132,12 +135,12 @@ impl Drain {
             → OnErr result (IsClosed (B.meaning berth.new).held.region ⊎ ((B.meaning berth.new).held.region ≡ self.old.image)) }
         ensures disk { IsTrue (B.meaning berth.old).tells → (B.meaning berth.new).held.disk ≡ (B.meaning berth.old).held.disk }
         ensures disks { IsTrue (B.meaning berth.old).tells → Ended SameDisk (B.meaning berth.old) (B.meaning berth.new) }
-        // What a crash leaves at each moment, and how long the region is meanwhile.
+        // What a crash leaves at each moment, and how long the region is during the step.
         ensures moments { IsTrue (B.meaning berth.old).tells → Draining self.old (B.meaning berth.old).held.region → AllClosed (B.meaning berth.old)
             → Throughout (DrainsFrom self.old (B.meaning berth.old)) (B.meaning berth.old) (B.meaning berth.new) }
         ensures inside { IsTrue (B.meaning berth.old).tells → Draining self.old (B.meaning berth.old).held.region → self.old.next ≢ next.Begin
             → Meanwhile (IsInRoom self.old) (B.meaning berth.old) (B.meaning berth.new) }
-        // At every moment of the first step the region is a front of what it was, as one that is being cut, or has at most 16 bytes.
+        // At every moment of the first step the region is a prefix of what it was, or has at most 16 bytes.
         ensures begun { IsTrue (B.meaning berth.old).tells → self.old.next ≡ next.Begin
             → Meanwhile (IsCutOrBegun (B.meaning berth.old).held.region) (B.meaning berth.old) (B.meaning berth.new) }
         ensures time { Passes (B.meaning berth.old) (B.meaning berth.new) }
@@ -161,7 +164,7 @@ impl Drain {
         }
     }
 
-    // Writes the next column, or behind the last one the directory.
+    // Writes the next column, or the directory after the last one.
     #[tactic(auto, using(crate::proofs::Standing::column_step, crate::proofs::Standing::directory_step))]
     fn copy<B: Berth>(&mut self, berth: &mut B) -> Result<DrainStep, RegionFault>
         requires copies { self.old.next ≡ next.Copy }
@@ -174,7 +177,7 @@ impl Drain {
             → OnErr result (IsClosed (B.meaning berth.new).held.region ⊎ ((B.meaning berth.new).held.region ≡ self.old.image)) }
         ensures disk { IsTrue (B.meaning berth.old).tells → (B.meaning berth.new).held.disk ≡ (B.meaning berth.old).held.disk }
         ensures disks { IsTrue (B.meaning berth.old).tells → Ended SameDisk (B.meaning berth.old) (B.meaning berth.new) }
-        // What a crash leaves at each moment, and how long the region is meanwhile.
+        // What a crash leaves at each moment, and how long the region is during the step.
         ensures moments { IsTrue (B.meaning berth.old).tells → Draining self.old (B.meaning berth.old).held.region → AllClosed (B.meaning berth.old)
             → Throughout (DrainsFrom self.old (B.meaning berth.old)) (B.meaning berth.old) (B.meaning berth.new) }
         ensures inside { IsTrue (B.meaning berth.old).tells → Draining self.old (B.meaning berth.old).held.region → self.old.next ≢ next.Begin
@@ -200,7 +203,7 @@ impl Drain {
         }
     }
 
-    // What every drain keeps of its image.
+    // No-op; states the invariant of a drain and its image.
     #[tactic(auto, using(crate::proofs::Standing::image_flag, crate::proofs::Standing::image_length, crate::proofs::Standing::whole_image))]
     fn is_planned(&self)
         ensures flag { take 1 self.now.image ≡ 1 ∷ [] }
@@ -219,7 +222,7 @@ impl Drain {
         self.next = later;
     }
 
-    // The head behind its flag.
+    // The head after its flag.
     #[tactic(auto, using(crate::proofs::Standing::image_behind))]
     fn head(&self) -> [u8; 15]
         ensures length { length result ≡ 15 }
@@ -234,7 +237,7 @@ impl Drain {
         self.directory.as_slice()
     }
 
-    // Where the columns that were written end.
+    // The place in the region where the written columns end.
     #[tactic(auto, using(crate::proofs::Standing::held_fits, crate::proofs::Standing::ends_where, crate::proofs::Standing::short_image))]
     fn written_to(&self) -> u64
         ensures place { result + held self.now + length (directory_of self.now.image) ≡ length self.now.image }
@@ -261,14 +264,14 @@ impl Drain {
         }
     }
 
-    /// The lengths of the columns that were not freed yet, together.
+    /// The total length in bytes of the columns that were not freed yet.
     pub fn held(&self) -> u64
         ensures { result ≡ held self.now }
     {
         self.held
     }
 
-    /// The length of the whole image.
+    /// The length of the whole image in bytes.
     #[tactic(auto, using(crate::proofs::Standing::image_length))]
     pub fn image_len(&self) -> u64
         ensures { result ≡ length self.now.image }

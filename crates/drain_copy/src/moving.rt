@@ -1,4 +1,4 @@
-// Columns moved out of their tables. There is room for them, so that nothing can fail.
+// Moves the columns out of their tables. There is room for them, so nothing can fail.
 ghost use Rattle.std.specs.Prelude.{◌≡◌, ◌+◌, ◌≤◌, ◌++◌, length};
 ghost use Rattle.std.specs.VecDeque.{deque_capacity, deque_len};
 ghost use Rattle.row_blocks.specs.Held.{columns_count};

@@ -9,7 +9,7 @@ use region_layout::{
 use row_blocks::{BlockColumn, RowBlock};
 use std::alloc::{AllocError, Global};
 
-/// The directory of tables whose columns stand behind a head, one behind the other.
+/// The directory of an image whose columns follow the head, one after another, in the order of the tables.
 pub fn directory_of(
     alloc: Global,
     tables: &[DrainTable],

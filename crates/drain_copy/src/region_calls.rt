@@ -8,7 +8,8 @@ ghost use Rattle.drain_copy.specs.Regions.{LeftFrom, ClosedOrOpened, EndsAt, IsC
 
 use berth_face::{Berth, Failed};
 
-/// Empties the region, and puts a closed head into it. The flag goes first, so that a write that is cut short leaves it closed.
+/// Empties the region and writes a closed head, 16 bytes of 0. The flag goes first, so a write that is cut short leaves
+/// the region closed.
 pub fn begin<B: Berth>(berth: &mut B) -> Result<(), Failed>
     ensures done { IsTrue (B.meaning berth.old).tells → OnOk result ((B.meaning berth.new).held.region ≡ replicate 16 0) }
     ensures failed { IsTrue (B.meaning berth.old).tells → IsClosed (B.meaning berth.old).held.region → OnErr result (IsClosed (B.meaning berth.new).held.region) }
@@ -25,7 +26,7 @@ pub fn begin<B: Berth>(berth: &mut B) -> Result<(), Failed>
     berth.region_write(1, &[0; 15])
 }
 
-/// Writes bytes at the region's end, behind a closed flag.
+/// Appends bytes to a region that ends at `at` and whose flag is closed.
 pub fn append<B: Berth>(bytes: &[u8], at: u64, berth: &mut B) -> Result<(), Failed>
     requires { 1 ≤ at }
     ensures done { IsTrue (B.meaning berth.old).tells → EndsAt at (B.meaning berth.old).held.region
@@ -44,7 +45,7 @@ pub fn append<B: Berth>(bytes: &[u8], at: u64, berth: &mut B) -> Result<(), Fail
     berth.region_write(at, bytes)
 }
 
-/// Writes the directory at the region's end, and then the head but for its flag.
+/// Appends the directory to a region that ends at `at`, and then writes the head but for its flag.
 pub fn finish<B: Berth>(directory: &[u8], head: &[u8], at: u64, berth: &mut B) -> Result<(), Failed>
     requires at { 16 ≤ at }
     requires fits { at + length directory.now < 2 ^ 63 }

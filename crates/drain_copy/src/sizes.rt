@@ -1,4 +1,4 @@
-// How large an image will be, reckoned before it is made.
+// The size of an image, computed before it is made.
 ghost use Rattle.std.specs.Prelude.{◌≡◌, ◌+◌, ◌<◌, ◌≤◌, ◌^◌, ℕ, nat_le, length, IfSome, IfNone, IsTrue};
 ghost use Rattle.std.specs.List.{AllByRecursion, list_any};
 ghost use Rattle.row_blocks.specs.Columns.{MeanCells};
@@ -16,7 +16,8 @@ const TOO_MANY: u64 = 1 << 32;
 
 const TOO_LONG: u64 = 1 << 63;
 
-/// How many columns there are, how long they are together, and how long the directory is. A number that would pass a u64 stays at its last value.
+/// The number of columns, their total length in bytes, and the length of the directory. A number saturates at the
+/// greatest u64.
 #[derive(Clone, Copy)]
 pub struct Sizes {
     pub columns: u64,
@@ -24,7 +25,7 @@ pub struct Sizes {
     pub entries: u64,
 }
 
-/// The sizes of an image of tables, or None where there can be none.
+/// The sizes of the image of the tables. None if no image can be made of them.
 #[tactic(auto, using(crate::proofs::Reckoned::wide_has_none, crate::proofs::Reckoned::has_room, crate::proofs::Reckoned::lacks_room, crate::proofs::Large::wide_needs))]
 pub fn room(tables: &[DrainTable]) -> Option<Sizes>
     requires few { length tables.now ≤ 16 }
@@ -53,7 +54,7 @@ fn any_is_wide(tables: &[DrainTable]) -> bool
     tables.iter().any(|table| is_wide(table))
 }
 
-/// Whether a directory has no place for one of its numbers.
+/// Whether a number of the table does not fit its field in a directory.
 fn is_wide(table: &DrainTable) -> bool
     ensures { result ≡ is_wide table.now }
 {
@@ -143,7 +144,8 @@ fn with_column(start: Sizes, column: &BlockColumn) -> Sizes
     }
 }
 
-// A slice's elements are bytes: so a number in it has a bound, and a column whose parts are counted by such numbers too.
+// The length of a column. A slice holds bytes, so the numbers in it are bounded, and so is a column that they count the
+// parts of.
 #[tactic(auto, using(crate::proofs::Large::column_short))]
 fn column_len(bytes: &[u8]) -> u64
     ensures length { result ≡ length bytes.now }

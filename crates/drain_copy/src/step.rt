@@ -11,15 +11,15 @@ impl From<Failed> for RegionFault {
     }
 }
 
-/// Why a drain cannot be planned: its image or a number in it would be too large, or there is no memory.
+/// Why a drain cannot be planned: its image, or a number in it, would be too large; or memory ran out.
 #[derive(Clone, Copy, Debug, PartialEq, Eq)]
 pub enum PlanFault {
     NoRoom,
     NoMemory,
 }
 
-/// What a step did: it put a closed head into an empty region, or wrote a column of so many bytes, or the directory and the head
-/// behind the flag, or it opened the flag.
+/// What a step did: it wrote a closed head into an empty region; or a column, of `bytes` bytes; or the directory, and
+/// the head after the flag; or it opened the flag.
 #[derive(Clone, Copy, PartialEq, Eq)]
 pub enum DrainStep {
     Begun,
@@ -28,7 +28,7 @@ pub enum DrainStep {
     Finished,
 }
 
-/// What comes next: the beginning; a column, or behind the last one the directory; the flag; or nothing.
+/// The next step: the beginning; a column, or the directory after the last one; the flag; or none.
 #[derive(Clone, Copy, PartialEq, Eq)]
 pub enum Next {
     Begin,

@@ -1,13 +1,13 @@
--- Masks: for each of some rows, whether it stays.
+-- Masks: whether each of a list of rows stays.
 use Rattle.std.specs.Prelude.{ℕ, List, [], ◌∷◌, length, map, Bool, ◌&&◌, if◌then◌else◌, ℤ, pos, nat_le, int_le, slice_index_or}
 use Rattle.std.specs.List.{range_with_len}
 use Rattle.leaf_model.specs.declared.rows.Row.{Row}
 
--- a row stays where it is none of the first `skip`, and its time is at least the horizon
+-- a row stays if it is not among the first `skip`, and its time is at least the horizon
 abbrev pub stays_at : List ℤ → ℕ → ℤ → ℕ → Bool
 stays_at times skip horizon place = nat_le skip place && int_le horizon (slice_index_or times place (pos 0))
 
--- for each of the rows that have these times, whether it stays
+-- the mask of rows with these times
 abbrev pub mask_of : List ℤ → ℕ → ℤ → List Bool
 mask_of times skip horizon = map (stays_at times skip horizon) (range_with_len 0 (length times))
 

@@ -1,4 +1,4 @@
-//! Which rows of a table stay: a horizon as a mask, and a keep as a cut of the front.
+//! Which rows of a table stay: a horizon as a mask, and a keep as a cut of the first rows.
 #![tactic(auto)]
 
 mod cut;

@@ -4,7 +4,8 @@ ghost use Rattle.expiry.specs.Masks.{mask_of};
 
 use std::alloc::{AllocError, Global};
 
-/// For each of the rows that have these times, whether it stays: it is none of the first `skip`, and its time is at least the horizon.
+/// The mask of rows with these times: true for each that is not among the first `skip` and whose time is at least the
+/// horizon.
 pub fn stays(alloc: Global, times: &[i64], skip: u32, horizon: i64) -> Result<Vec<bool>, AllocError>
     ensures { IfOk result (λ mask. mask.items ≡ mask_of times.now skip horizon) }
 {

@@ -1,4 +1,4 @@
--- What is asked of a table: the first four by callers, the others by the leaf's steward.
+-- The calls of a table: the first four are callers', the others the leaf's steward's.
 use Rattle.std.specs.Prelude.{ℕ, List, ℤ}
 use Rattle.leaf_model.specs.declared.rows.Row.{Row}
 use Rattle.leaf_model.specs.declared.queries.Query.{Query}
@@ -9,7 +9,7 @@ pub data Call : Type 0 where
   Add : (rows : List Row) → Call
   -- a caller raises the horizon
   Expire : (horizon : ℤ) → Call
-  -- a caller leaves the last rows alone
+  -- a caller keeps the last `count` rows, and removes the others
   Keep : (count : ℕ) → Call
   -- a caller asks
   Ask : (query : Query) → Call
@@ -21,5 +21,5 @@ pub data Call : Type 0 where
   Shut : Call
   -- the steward says that the shut table was handed over whole
   Done : Call
-  -- the steward opens the table with what so many writes came to
+  -- the steward opens the table with the contents that so many writes came to
   Open : (writes : ℕ) → (contents : Contents) → Call

@@ -18,8 +18,8 @@ pub record Entry : Type 0 where
   pub reply : Reply
   pub clock : ℕ  -- of a steward's entry, the clock of the leaf's berth at the call; no rule looks at it
 
--- Where a table stands. W is its accepted writes: those that were handed in with `before`, and then `writes`.
--- A table of a berth's base is handed in nothing, so that W is `writes`.
+-- The state of a table. W is its accepted writes: first those that were handed in with `before`, then `writes`. A table
+-- with a known base is handed in nothing, so W is `writes`.
 pub record HistoryState : Type 0 where
   pub before : Contents  -- what the writes handed in come to
   pub handed_in : ℕ  -- how many those are
@@ -41,7 +41,7 @@ untaken s = drop (s.taken - s.handed_in) s.writes
 abbrev pub held : HistoryState → Contents
 held s = content_from s.before s.writes
 
--- a shut table of these writes, of which the disk is known to hold so many
+-- a shut table of these writes; the disk is known to hold the first n of them
 abbrev pub base_of : List Write → ℕ → HistoryState
 base_of writes flushed = record {
   before = nothing;
@@ -53,7 +53,7 @@ base_of writes flushed = record {
   handed = false;
 }
 
--- a table of which nothing is known begins shut and with no writes
+-- a table without a known base begins shut and with no writes
 abbrev pub no_base : HistoryState
 no_base = base_of [] 0
 
@@ -65,7 +65,8 @@ written s w = record s { writes = s.writes ++ w ∷ [] }
 abbrev pub first_writes : HistoryState → ℕ → List Write
 first_writes s n = take (n - s.handed_in) s.writes
 
--- opened again: a founded table with the first n of its writes, any other with what is handed in
+-- the state once the table is opened again: a table with a known base (`founded`) has the first n of its writes, any
+-- other has what is handed in
 abbrev pub opened : Bool → HistoryState → ℕ → Contents → HistoryState
 opened true s n contents = record s {
   writes = first_writes s n;
@@ -84,7 +85,7 @@ opened false s n contents = record {
   handed = false;
 }
 
--- what a call that was accepted changes
+-- the state after a call that was accepted
 abbrev pub changed : Bool → HistoryState → Call → HistoryState
 changed founded s (call.Add rows) = written s (write.Add rows)
 changed founded s (call.Expire horizon) = written s (write.Expire horizon)
@@ -117,7 +118,7 @@ IsFull s rows = 2 ^ 40 < length (held s).rows + kept_count (held s) rows
 abbrev pub HasRoom : HistoryState → List Row → Type 0
 HasRoom s rows = length (held s).rows + kept_count (held s) rows ≤ 2 ^ 40
 
--- which replies an add may have
+-- the replies that an add may have
 abbrev pub AddReply : HistoryState → List Row → Reply → Type 0
 AddReply s rows reply.Shut = s.live ≡ false
 AddReply s rows reply.NoMemory = s.live ≡ true
@@ -125,14 +126,14 @@ AddReply s rows reply.Full = (s.live ≡ true) × IsFull s rows
 AddReply s rows (reply.Added kept late) = (s.live ≡ true) × HasRoom s rows × (kept ≡ kept_count (held s) rows) × (late ≡ late_count (held s) rows)
 AddReply s rows _ = ⊥
 
--- which replies an expiry or a keep may have
+-- the replies that an expiry or a keep may have
 abbrev pub RemoveReply : HistoryState → Write → Reply → Type 0
 RemoveReply s w reply.Shut = s.live ≡ false
 RemoveReply s w reply.NoMemory = s.live ≡ true
 RemoveReply s w (reply.Removed n) = (s.live ≡ true) × (n ≡ removed_count (held s) w)
 RemoveReply s w _ = ⊥
 
--- which replies a query may have
+-- the replies that a query may have
 abbrev pub AskReply : HistoryState → Query → Reply → Type 0
 AskReply s q reply.Shut = s.live ≡ false
 AskReply s q reply.NoMemory = s.live ≡ true
@@ -144,7 +145,8 @@ abbrev pub CountReply : HistoryState → Reply → Type 0
 CountReply s (reply.Counted n) = n ≡ write_count s
 CountReply s _ = ⊥
 
--- a founded table is opened with the first n of its writes, among them each flushed one, and with all of them where it was drained
+-- a table with a known base is opened with a prefix, of n writes, of its writes, which has each flushed one; after a
+-- drain with all of them
 pub record MayOpen (s : HistoryState) (n : ℕ) (contents : Contents) : Type 0 where
   pub flushed : s.flushed ≤ n
   pub accepted : n ≤ write_count s
@@ -155,7 +157,7 @@ abbrev pub OpenAllowed : Bool → HistoryState → ℕ → Contents → Type 0
 OpenAllowed true s n contents = MayOpen s n contents
 OpenAllowed false s n contents = ⊤
 
--- what may come next: who calls, and which reply agrees with the state
+-- the entries that may come next: who may call, and the replies that agree with the state
 abbrev pub Allowed : Bool → HistoryState → ℕ → Call → Reply → Type 0
 Allowed founded s caller (call.Add rows) r = (0 < caller) × AddReply s rows r
 Allowed founded s caller (call.Expire horizon) r = (0 < caller) × RemoveReply s (write.Expire horizon) r
@@ -172,6 +174,6 @@ abbrev pub LegalFrom : Bool → HistoryState → List Entry → Type 0
 LegalFrom founded s [] = ⊤
 LegalFrom founded s (e ∷ es) = Allowed founded s e.caller e.call e.reply × LegalFrom founded (after_entry founded s e) es
 
--- of a founded table
+-- a legal history of a table with a known base
 abbrev pub Legal : HistoryState → List Entry → Type 0
 Legal base entries = LegalFrom true base entries

@@ -4,11 +4,11 @@ use Rattle.std.specs.List.{AllByRecursion}
 use Rattle.leaf_model.specs.declared.writes.Write.{Write}
 use Rattle.leaf_history.specs.History.{HistoryState, Entry, LegalFrom, Allowed, after, after_entry, write_count}
 
--- a front of a legal history is legal
+-- each prefix of a legal history is legal
 abbrev pub FrontsAreLegal : Type 0
 FrontsAreLegal = (founded : Bool) (s : HistoryState) (xs ys : List Entry) → LegalFrom founded s (xs ++ ys) → LegalFrom founded s xs
 
--- a legal history goes on with what is legal after it
+-- a legal history and what is legal after it are one legal history
 abbrev pub HistoriesGoOn : Type 0
 HistoriesGoOn = (founded : Bool) (s : HistoryState) (xs ys : List Entry) → LegalFrom founded s xs → LegalFrom founded (after founded s xs) ys → LegalFrom founded s (xs ++ ys)
 
@@ -20,7 +20,7 @@ ShutStaysShut = (founded : Bool) (s : HistoryState) (e : Entry) → s.live ≡ f
 abbrev pub AreCallers : List Entry → Type 0
 AreCallers es = AllByRecursion (λ (e : Entry). 0 < e.caller) es
 
--- what callers leave as it is: they append writes where the table is open, and change nothing where it is shut
+-- callers append writes to a table that is open, and change nothing of one that is shut
 pub record CallersKeep (s now : HistoryState) : Type 0 where
   pub live : now.live ≡ s.live
   pub taken : now.taken ≡ s.taken
@@ -42,6 +42,6 @@ pub record HasSoundCounts (s : HistoryState) : Type 0 where
 abbrev pub CountsStay : Type 0
 CountsStay = (founded : Bool) (s : HistoryState) (es : List Entry) → LegalFrom founded s es → HasSoundCounts s → HasSoundCounts (after founded s es)
 
--- the state after a history is the state after its front, and then after the rest
+-- the state after two histories in a row is the state after the second from the state after the first
 abbrev pub OneState : Type 0
 OneState = (founded : Bool) (s : HistoryState) (xs ys : List Entry) → after founded s (xs ++ ys) ≡ after founded (after founded s xs) ys

@@ -9,13 +9,13 @@ pub data Reply : Type 0 where
   Removed : (rows : ℕ) → Reply
   -- to a query
   Groups : (groups : List Group) → Reply
-  -- to a caller, where the table is shut
+  -- to a caller, if the table is shut
   Shut : Reply
   -- to an add that would pass the most rows of a table
   Full : Reply
-  -- to a caller, where memory was refused
+  -- to a caller, if memory was refused
   NoMemory : Reply
   -- to the steward: how many writes the table accepted
   Counted : (writes : ℕ) → Reply
-  -- to the steward, where there is nothing to tell
+  -- to the steward, if there is nothing to tell
   Noted : Reply

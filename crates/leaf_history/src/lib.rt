@@ -3,8 +3,8 @@
 
 ghost use Rattle.leaf_history.specs.Laws.{CountsStay, FrontsAreLegal, HistoriesGoOn, OneState, OthersKeep, ShutStaysShut};
 
-/// A front of a legal history is legal, and a legal history goes on with what is legal after it.
-/// One history leads to one state. What callers do leaves what the steward knows.
+/// Each prefix of a legal history is legal. A legal history that is followed by entries which are legal after it is
+/// legal. A history leads to one state. Entries of callers leave what the steward knows.
 pub fn histories_go_on()
     ensures fronts { FrontsAreLegal }
     ensures on { HistoriesGoOn }

@@ -126,12 +126,6 @@ fn compare_texts(a: &[Text], b: &[Text]) -> Ordering
     a.len().cmp(&b.len())
 }
 
-fn is_one_of(texts: &[Text], text: &str) -> bool
-    ensures { result ≡ is_among texts.now text.now }
-{
-    texts.iter().any(|other| other.as_str() == text)
-}
-
 /// Texts. Contracts see them as the list.
 #[derive(Drop)]
 pub struct Texts {
@@ -181,13 +175,6 @@ impl Texts {
         ensures { result ≡ texts_cmp self.now other.now }
     {
         compare_texts(self.inner.as_slice(), other.inner.as_slice())
-    }
-
-    /// Whether it is one of them.
-    pub fn holds(&self, text: &str) -> bool
-        ensures { result ≡ is_among self.now text.now }
-    {
-        is_one_of(self.inner.as_slice(), text)
     }
 
     /// Whether they are a set: ascending by their bytes, each once, few and short enough.

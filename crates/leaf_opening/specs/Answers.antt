@@ -1,4 +1,4 @@
--- What a start answers, by the bytes of region and disk and the names of the leaf: one answer for any bytes.
+-- What a start answers: the bytes of region and disk and the names of the leaf decide it.
 use Rattle.std.specs.Prelude.{◌≡◌, ◌⊎◌, ℕ, List, None, Result, Ok, Err}
 use Rattle.table_state.specs.Tables.{Table}
 use Rattle.region_layout.specs.Images.{TableImage}
@@ -20,7 +20,8 @@ use Rattle.leaf_opening.specs.declared.ways.OpenFault.TheVariants.{RegionFault, 
 abbrev pub GoesToLog : List (List ℕ) → List ℕ → Type 0
 GoesToLog names region = (w : WhyDisk) × IsWhyFor names region w
 
--- What the bytes decide: the image; or, with the reason, the log, which is read to its end; or a stranger of the image or of the log; or a log that is damaged.
+-- what the bytes decide: the way of the image; or that of the log, with the reason, if it is read to its end; or a
+-- stranger of the image or of the log; or that the log is damaged
 abbrev pub IsAnswer : List (List ℕ) → List ℕ → List ℕ → Result Way OpenFault → Type 0
 IsAnswer names region disk (Ok Memory) = (images : List TableImage) × (log_end : ℕ) × IsAdoptable region images log_end × (stranger_of names (image_names images) ≡ None)
 IsAnswer names region disk (Ok (Disk w)) = IsWhyFor names region w × (tables : List Table) × (log : LogState) × IsRecovered names (begun disk) tables log
@@ -35,13 +36,14 @@ abbrev pub way_of : Result Opened OpenFault → Result Way OpenFault
 way_of (Ok o) = Ok o.way
 way_of (Err e) = Err e
 
--- What a start answers is what the bytes decide, unless memory runs out or the berth fails: its disk only where the region gave no tables.
+-- a start answers what the bytes decide, unless memory runs out or the berth fails; its disk may fail only if the
+-- region gave no tables
 abbrev pub IsExact : List (List ℕ) → List ℕ → List ℕ → Result Way OpenFault → Type 0
 IsExact names region disk (Err RegionFault) = Unit {0}
 IsExact names region disk (Err DiskFault) = GoesToLog names region
 IsExact names region disk (Err NoMemory) = Unit {0}
 IsExact names region disk answer = IsAnswer names region disk answer
 
--- bytes decide one answer
+-- the same bytes and names decide at most one answer
 abbrev pub OneAnswer : Type 0
 OneAnswer = (names : List (List ℕ)) (region disk : List ℕ) (a b : Result Way OpenFault) → IsAnswer names region disk a → IsAnswer names region disk b → a ≡ b

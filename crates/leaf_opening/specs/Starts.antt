@@ -22,7 +22,7 @@ use Rattle.leaf_opening.specs.declared.ways.OpenFault.TheVariants.{RegionFault, 
 use Rattle.leaf_opening.specs.declared.opening.Opened.{Opened}
 use Rattle.leaf_opening.specs.OpenedLeaf.{OpenedLeaf}
 
--- the way of a start that finds these bytes and is not refused
+-- the way of a start that finds this region and is not refused
 abbrev pub IsWayOf : List ℕ → Way → Type 0
 IsWayOf region Memory = (images : List TableImage) × (log_end : ℕ) × IsAdoptable region images log_end
 IsWayOf region (Disk w) = IsWhy region w
@@ -35,13 +35,14 @@ way_after (Disk (why.Closed flag)) = Disk (why.Closed flag)
 way_after (Disk (why.OtherVersion version)) = Disk (why.Closed 0)
 way_after (Disk why.NoImage) = Disk (why.Closed 0)
 
--- how a leaf of these names comes to its tables and its log: those of the region's image; or those of the disk, as it reads then
+-- how a leaf of these names comes to its tables and its log: they are those of the region's image, or those of the
+-- disk, as it reads then
 abbrev pub IsCome : List (List ℕ) → List ℕ → List ℕ → OpenedLeaf → Way → Type 0
 IsCome names region disk s Memory = (images : List TableImage) × (log_end : ℕ) × IsAdoptable region images log_end × (stranger_of names (image_names images) ≡ None)
     × (record { each = s.tables; columns = s.columns } ≡ held_of names images) × (s.log ≡ record { end = log_end; owed = None; laid = false })
 IsCome names region disk s (Disk w) = IsWhy region w × (x : IsRecovered names disk s.tables s.log) × AreFew names x.records s.columns
 
--- what a start by this way leaves of the disk: a disk of at most one byte is begun before it is read
+-- the disk after a start by this way; a disk of at most one byte becomes one gate before it is read
 abbrev pub disk_after : Way → List ℕ → List ℕ
 disk_after Memory disk = disk
 disk_after (Disk w) disk = begun disk
@@ -71,20 +72,21 @@ opened_leaf names o = record { names = names; tables = o.tables.each; columns = 
 
 -- ---- what a crash leaves while a leaf starts
 
--- A pair of a moment of a start comes from one before. The region is closed, or as it was, or, where its flag was open, as it was but for the flag.
--- The disk is the same; or, once the region is closed, the first byte of one that read as at most one byte was written, before which one of one byte was synced.
+-- A pair of a moment of a start comes from an earlier one. The region is as it was, or closed, or as it was but for a
+-- flag that was open. The disk is the same; or, once the region is closed, the first byte was written of a disk that
+-- read as at most one byte. A disk of one byte was synced before that.
 pub record OpensFrom (old : Meaning) (p : Pair) : Type 0 where
   pub from : Pair
   pub was : old.leaves old.clock from
   pub region : IsClosed p.region ⊎ IsBroken old.held.region p.region
   pub disk : (p.disk ≡ from.disk) ⊎ (IsClosed p.region × BeginsScan (length old.held.disk) from.disk p.disk)
 
--- the disks are those of before where nothing of the disk was called: an image was adopted, or the region failed
+-- the disks are as before if the start made no call on the disk: an image was adopted, or the region failed
 abbrev pub KeepsDisks : Meaning → Meaning → Result Opened OpenFault → Type 0
 KeepsDisks old new (Ok o) = o.way ≡ Memory → Ended SameDisk old new
 KeepsDisks old new (Err RegionFault) = Ended SameDisk old new
 KeepsDisks old new (Err fault) = ⊤
 
--- a log that was read to its end is what every crash leaves
+-- every crash leaves a log that was read to its end
 abbrev pub IsDurable : Meaning → Opened → Type 0
 IsDurable new o = (w : WhyDisk) → o.way ≡ Disk w → EachNow (λ p. p.disk ≡ new.held.disk) new

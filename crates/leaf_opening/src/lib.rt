@@ -1,4 +1,4 @@
-//! How a leaf comes to its tables: from its region, or from its log.
+//! How a leaf comes to its tables: from its region, else from its log.
 #![tactic(auto)]
 
 mod laws;

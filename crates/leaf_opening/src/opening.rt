@@ -22,7 +22,8 @@ use log_recovery::{Recovered, recover};
 use std::alloc::Global;
 use table_state::Tables;
 
-/// One table for each name, in their order; the log, which is owed nothing; and where they come from.
+/// What a start opened: one table for each name, in their order; the log, which is owed nothing; and the way by which
+/// the tables came.
 #[derive(Drop)]
 pub struct Opened {
     pub tables: Tables,
@@ -30,8 +31,8 @@ pub struct Opened {
     pub way: Way,
 }
 
-/// Adopts the tables of the region's image, and cuts each column off the region once it was read; where the region is none, it reads the log to its end and
-/// applies each record to its table. An open flag is closed before anything else. A table that neither names is empty.
+/// Adopts the tables of the region's image, and cuts each column off the region once it was read. If the region is no
+/// image, it replays the log. An open flag is closed before anything else. A table without a write is empty.
 pub fn open_tables<B: Berth>(
     alloc: Global,
     names: &Names,
@@ -41,15 +42,16 @@ pub fn open_tables<B: Berth>(
     ensures one { IfOk result (λ o. length o.tables.each ≡ length names.now) }
     ensures fresh { IfOk result (λ o. AreFresh o.tables.each × (o.log.owed ≡ None)) }
     ensures room { IfOk result (λ o. AllByRecursion (λ t. t.writes < 2 ^ 63) o.tables.each) }
-    // Where the berth tells its contents.
+    // If the berth tells its contents.
     ensures told { IsTrue (B.meaning berth.old).tells → IfOk result (λ o. Started names.now (B.meaning berth.old) (B.meaning berth.new) (opened_leaf names.now o) o.way) }
     ensures way { IsTrue (B.meaning berth.old).tells → IfOk result (λ o. IsWayOf (B.meaning berth.old).held.region o.way) }
     ensures refused { IsTrue (B.meaning berth.old).tells → IfErr result (IsOpeningRefusal names.now (B.meaning berth.old) (B.meaning berth.new)) }
-    // What it answers is what the bytes of region and disk decide, unless the berth fails or memory runs out. A fault of the disk comes only where the region gave no tables.
+    // The answer is what the bytes of region and disk decide, unless the berth fails or memory runs out. A fault of the
+    // disk comes only if the region gave no tables.
     ensures exact { IsTrue (B.meaning berth.old).tells → IsExact names.now (B.meaning berth.old).held.region (B.meaning berth.old).held.disk (way_of result) }
     // A log that is sound is never damaged.
     ensures sound { IsTrue (B.meaning berth.old).tells → IsSound (B.meaning berth.old).held.disk → result ≢ Err fault.DiskDamaged }
-    // What a crash leaves at each moment, and behind the call.
+    // What a crash leaves at each moment, and after the call.
     ensures moments { IsTrue (B.meaning berth.old).tells → Throughout (OpensFrom (B.meaning berth.old)) (B.meaning berth.old) (B.meaning berth.new) }
     ensures disks { IsTrue (B.meaning berth.old).tells → KeepsDisks (B.meaning berth.old) (B.meaning berth.new) result }
     ensures durable { IsTrue (B.meaning berth.old).tells → IfOk result (IsDurable (B.meaning berth.new)) }
@@ -72,7 +74,7 @@ pub fn open_tables<B: Berth>(
     }
 }
 
-/// The tables of an image. The log goes on where that says it ended.
+/// The tables of an image. The log goes on at the place where the image says that it ended.
 fn from_image(alloc: Global, adopted: Adopted) -> Opened
     requires { adopted.log_end < 2 ^ 63 }
     ensures tables { result.tables ≡ adopted.tables }
@@ -86,7 +88,7 @@ fn from_image(alloc: Global, adopted: Adopted) -> Opened
     }
 }
 
-/// The tables of a log that was read to its end, since the region was no image.
+/// The tables of a log that was read to its end, because the region was no image.
 fn from_log(why: WhyDisk, recovered: Recovered) -> Opened
     ensures tables { result.tables ≡ recovered.tables }
     ensures log { result.log ≡ recovered.log }

@@ -13,9 +13,9 @@ pub enum OpenFault {
     RegionFault,
     /// A call on the disk failed.
     DiskFault,
-    /// The log has an open gate with no record and gate behind it, or a record that takes a table past 2^40 rows.
+    /// The log has an open gate that no record and gate follow, or a record that takes a table past 2^40 rows.
     DiskDamaged,
-    /// The directory of the region's image or the log has a table of this name, and the leaf has none.
+    /// The directory of the region's image, or the log, has a table of this name, which the leaf does not have.
     Stranger(Text),
     NoMemory,
 }

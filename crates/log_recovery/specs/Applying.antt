@@ -14,14 +14,14 @@ use Rattle.log_recovery.specs.declared.fault.RecoveryFault.{RecoveryFault}
 use Rattle.log_recovery.specs.declared.fault.RecoveryFault.TheVariants.{DiskFault, DiskDamaged, Stranger, NoMemory}
 use Rattle.log_recovery.specs.Recovery.{AreFew, IsTooLong, stranger_in, tables_of}
 
--- so many writes more: after none of them has the table more than 2^40 rows, or after some of them it would have
+-- the writes are replayed: after each the table has at most 2^40 rows, or a prefix of them would take it past that
 abbrev pub ReplaysAll : Table → List Write → Result (Unit {0}) AddFault → Table → Type 0
 ReplaysAll t writes (Ok done) now = ((k : ℕ) → length (content_from t.contents (take k writes)).rows ≤ 2 ^ 40)
     × (bare now ≡ record { contents = content_from t.contents writes; writes = t.writes + length writes; pending = t.pending; store = no_store })
 ReplaysAll t writes (Err add.Full) now = (k : ℕ) × (2 ^ 40 < length (content_from t.contents (take k writes)).rows)
 ReplaysAll t writes (Err add.NoMemory) now = ⊤
 
--- these tables have the writes of the records, each of which is of one of them, and none grew too long
+-- each record is of one of these tables, they have the writes of the records, and none grew too long
 pub record HasApplied (names : List (List ℕ)) (records : List LogRecord) (tables : List Table) : Type 0 where
   pub known : stranger_in names records ≡ None
   pub bounded : IsBounded records
@@ -32,13 +32,13 @@ abbrev pub count_of : List LogRecord → ℕ
 count_of [] = 0
 count_of (r ∷ records) = length r.writes + count_of records
 
--- some records were applied, and their writes with so many more can be counted
+-- some records were applied, and their writes and `more` can be counted together
 pub record MayApply (names : List (List ℕ)) (more : ℕ) (tables : List Table) : Type 0 where
   pub records : List LogRecord
   pub applied : HasApplied names records tables
   pub room : count_of records + more < 2 ^ 63
 
--- one record more is applied; or it is of none of the tables, or takes its table past 2^40 rows
+-- one record more: it is applied; or it is of none of the tables; or it takes its table past 2^40 rows
 abbrev pub Applies : List (List ℕ) → List LogRecord → LogRecord → Result (Unit {0}) RecoveryFault → List Table → Type 0
 Applies names records r (Ok done) now = HasApplied names (records ++ r ∷ []) now
 Applies names records r (Err (Stranger name)) now = (r.name ≡ name) × (list_any (bytes_eq name) names ≡ false)
@@ -46,7 +46,7 @@ Applies names records r (Err DiskDamaged) now = (list_any (bytes_eq r.name) name
 Applies names records r (Err DiskFault) now = ⊥
 Applies names records r (Err NoMemory) now = ⊤
 
--- some records were applied: where the berth tells its disk, those up to the scan's place
+-- some records were applied; if the berth tells its disk, those up to the scan's place
 pub record Reached (names : List (List ℕ)) (tells : Bool) (disk : List ℕ) (scan : ScanState) (tables : List Table) (columns : List ℕ) : Type 0 where
   pub records : List LogRecord
   pub applied : HasApplied names records tables

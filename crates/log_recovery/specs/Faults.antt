@@ -11,7 +11,7 @@ told_of_log log.DiskFault = DiskFault
 told_of_log log.DiskDamaged = DiskDamaged
 told_of_log log.NoMemory = NoMemory
 
--- a table that would grow too long tells of a damaged log
+-- if a table would grow too long, the log is damaged
 abbrev pub told_of_add : AddFault → RecoveryFault
 told_of_add add.Full = DiskDamaged
 told_of_add add.NoMemory = NoMemory

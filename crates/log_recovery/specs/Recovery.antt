@@ -38,7 +38,7 @@ pub record IsRecovered (names : List (List ℕ)) (disk : List ℕ) (tables : Lis
   pub tables_are : tables ≡ tables_of names records
   pub log_is : log ≡ record { end = log.end; owed = None; laid = false }
 
--- up to the record r, which stands next, each record was of one of the tables, and none grew too long
+-- the next record is r; each record before it was of one of the tables, and no table grew too long
 pub record ComesTo (names : List (List ℕ)) (disk : List ℕ) (records : List LogRecord) (r : LogRecord) : Type 0 where
   pub at : ℕ
   pub scanned : Scanned disk (records ++ r ∷ []) at
@@ -58,14 +58,15 @@ pub record IsDamagedLog (names : List (List ℕ)) (disk : List ℕ) : Type 0 whe
   pub bounded : IsBounded records
   pub damaged : Damaged disk at
 
--- why a log that reads as this disk was not read to its end: the first record or gate at fault decides, and of one record a stranger's name comes first
+-- why a log that reads as this disk was not read to its end: the first record or gate at fault decides; of one record a
+-- stranger's name comes first
 abbrev pub IsRecoveryRefusal : List (List ℕ) → List ℕ → RecoveryFault → Type 0
 IsRecoveryRefusal names disk (Stranger name) = (records : List LogRecord) × (r : LogRecord) × ComesTo names disk records r × (r.name ≡ name) × (list_any (bytes_eq name) names ≡ false)
 IsRecoveryRefusal names disk DiskDamaged = IsDamagedLog names disk ⊎ ((records : List LogRecord) × (r : LogRecord) × ComesTo names disk records r × (list_any (bytes_eq r.name) names ≡ true) × IsTooLong records r)
 IsRecoveryRefusal names disk DiskFault = ⊤
 IsRecoveryRefusal names disk NoMemory = ⊤
 
--- of a refusal that the log's bytes decide
+-- a claim about the refusals that the log's bytes decide
 abbrev pub IfRead : RecoveryFault → Type 0 → Type 0
 IfRead (Stranger name) P = P
 IfRead DiskDamaged P = P

@@ -16,7 +16,7 @@ use std::alloc::{AllocError, Global};
 use std::collections::VecDeque;
 use table_state::{AddFault, TableState};
 
-/// A table that had no write for each name.
+/// One table for each name, in their order, each without a write.
 pub fn empty_tables(alloc: Global, names: &Names) -> Result<Vec<TableState>, AllocError>
     ensures empty { IfOk result (λ tables. tables.items ≡ tables_of names.now []) }
     ensures columns { IfOk result (λ tables. AreFew names.now [] (map (λ (t : Table). columns_most t.store) tables.items)) }
@@ -28,7 +28,7 @@ pub fn empty_tables(alloc: Global, names: &Names) -> Result<Vec<TableState>, All
     Ok(tables)
 }
 
-/// Applies a record to the table of its name.
+/// Applies a record to the table of its name. Each of its writes is replayed, in their order.
 #[tactic(auto, using(crate::proofs::Places::stands_nowhere))]
 pub fn apply(
     tables: &mut Vec<TableState>,

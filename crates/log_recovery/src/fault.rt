@@ -13,9 +13,9 @@ use table_state::AddFault;
 pub enum RecoveryFault {
     /// A call on the disk failed.
     DiskFault,
-    /// An open gate has no record and gate behind it, or a record takes a table past 2^40 rows.
+    /// An open gate is not followed by a record and a gate, or a record takes a table past 2^40 rows.
     DiskDamaged,
-    /// The next record is of a table of this name, and there is none.
+    /// The next record is of a table of this name, which the leaf does not have.
     Stranger(Text),
     NoMemory,
 }

@@ -20,20 +20,22 @@ use leaf_model::Names;
 use std::alloc::Global;
 use table_state::{TableState, Tables};
 
-/// Reads the berth's log to its end, and applies each record to the table of its name. A table that the log does not name is empty.
-/// Before the first read a disk of at most one byte is made one gate that is not open, and is synced; a longer one is synced.
+/// Reads the berth's log to its end, and applies each record to the table of its name. A table that the log does not
+/// name is empty. Before the first read it syncs the disk; a disk of at most one byte becomes one gate that is not open
+/// before that.
 pub fn recover<B: Berth>(
     alloc: Global,
     names: &Names,
     berth: &mut B,
 ) -> Result<Recovered, RecoveryFault>
     requires distinct { AreDistinct names.now }
-    // What was read, and each answer that is a refusal, where the berth tells its contents.
+    // What was read, and why it is refused, if the berth tells its contents.
     ensures told { IsTrue (B.meaning berth.old).tells → IfOk result (λ r. (x : IsRecovered names.now (B.meaning berth.new).held.disk r.tables.each r.log) × AreFew names.now x.records r.tables.columns) }
     ensures refused { IsTrue (B.meaning berth.old).tells → IfErr result (IsRecoveryRefusal names.now (B.meaning berth.new).held.disk) }
     // A log that is sound is never damaged.
     ensures sound { IsTrue (B.meaning berth.old).tells → IsSound (B.meaning berth.old).held.disk → result ≢ Err fault.DiskDamaged }
-    // What is left of the berth, and what a crash leaves of it at each moment; after Ok a crash leaves the disk that was read.
+    // What is left of the berth, and what a crash leaves of it at each moment. After Ok a crash leaves the disk that
+    // was read.
     ensures disk { IsTrue (B.meaning berth.old).tells → OnOk result ((B.meaning berth.new).held.disk ≡ begun (B.meaning berth.old).held.disk) }
     ensures begun { IsTrue (B.meaning berth.old).tells → IfErr result (λ e. IfRead e ((B.meaning berth.new).held.disk ≡ begun (B.meaning berth.old).held.disk)) }
     ensures held { IsTrue (B.meaning berth.old).tells → BeginsScan (length (B.meaning berth.old).held.disk) (B.meaning berth.old).held.disk (B.meaning berth.new).held.disk }
@@ -57,7 +59,7 @@ pub fn recover<B: Berth>(
     })
 }
 
-/// Applies each record that a scan gives, to its end.
+/// Applies each record that a scan gives, up to its end.
 fn read_on<B: Berth>(
     alloc: Global,
     names: &Names,

@@ -50,7 +50,7 @@ name_at [] place = []
 name_at (name ∷ names) zero = name
 name_at (name ∷ names) (suc place) = name_at names place
 
--- how a command ended, of a fleet whose tables have these names
+-- how a command ended; the fleet's tables have these names
 abbrev pub ending_text : List (List ℕ) → Ending → List ℕ
 ending_text names Done = codes "done"
 ending_text names Stopped = codes "stopped"
@@ -83,7 +83,7 @@ abbrev pub answer_head : ℕ → ℕ → ℕ → List ℕ
 answer_head named leaves count =
     codes "answer named " ++ (decimal named ++ (codes " of " ++ (decimal leaves ++ (codes " lines " ++ (decimal count ++ 10 ∷ [])))))
 
--- an answer, with its own lines behind the first
+-- an answer: its first line, and its own lines after it
 abbrev pub answer_text : ℕ → ℕ → List (List ℕ) → List ℕ
 answer_text named leaves rows = answer_head named leaves (length rows) ++ flat_map row_line rows
 
@@ -100,7 +100,7 @@ declared_text standing = codes "standing " ++ (decimal standing ++ 10 ∷ [])
 abbrev pub told_head : ℕ → ℕ → ℕ → List ℕ
 told_head standing number count = codes "standing " ++ (decimal standing ++ (codes " at #" ++ (decimal number ++ (codes " lines " ++ (decimal count ++ 10 ∷ [])))))
 
--- the same with its own lines behind the first
+-- what a standing query tells: its first line, and its own lines after it
 abbrev pub told_text : ℕ → ℕ → List (List ℕ) → List ℕ
 told_text standing number rows = told_head standing number (length rows) ++ flat_map row_line rows
 
@@ -121,11 +121,11 @@ ended_text names deed leaf ending = deed_text deed ++ (32 ∷ (decimal leaf ++ (
 abbrev pub lane_text : ℕ → List ℕ
 lane_text number = codes "lane " ++ (decimal number ++ 10 ∷ [])
 
--- a leaf behind those of the same wave
+-- a leaf, after those of the same wave
 abbrev pub leaf_text : ℕ → List ℕ
 leaf_text leaf = 32 ∷ decimal leaf
 
--- the line of a wave of so many, with its leaves
+-- the line of a wave: its number, the number of waves, and its leaves
 abbrev pub wave_text : ℕ → ℕ → List ℕ → List ℕ
 wave_text number total leaves = codes "wave " ++ (decimal number ++ (codes " of " ++ (decimal total ++ (codes " leaves" ++ (flat_map leaf_text leaves ++ 10 ∷ [])))))
 
@@ -141,7 +141,7 @@ rolled_text halted waves total = codes "rollover " ++ (rolled_word halted ++ (de
 abbrev pub watch_text : List ℕ → List ℕ
 watch_text text = codes "watch " ++ (text ++ 10 ∷ [])
 
--- the text of a line, of a fleet whose tables have these names
+-- the text of a line; the fleet's tables have these names
 abbrev pub line_text : List (List ℕ) → Line → List ℕ
 line_text names (Entry leaf table number said) = entry_text leaf (name_at names table) number said
 line_text names (Worn leaf table) = worn_text leaf (name_at names table)

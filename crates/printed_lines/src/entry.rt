@@ -1,4 +1,5 @@
-// The line of an entry. Entries are most of what a script prints, so each is written into a buffer, from its end to its beginning, and appended at once.
+// The line of an entry. Entries are most of what a script prints. So each is written into a buffer, from its end to its
+// beginning, and appended at once.
 ghost use Rattle.std.specs.Prelude.{◌≡◌, ◌+◌, ◌≤◌, ◌∷◌, ◌++◌, [], codes, decimal, length, drop, OnOk, OnErr};
 ghost use Rattle.printed_lines.specs.Lines.{entry_text, said_text};
 
@@ -6,13 +7,13 @@ use crate::line::Said;
 use itoa::write_digits;
 use std::alloc::AllocError;
 
-/// How long the name in a buffer may be. A table's name is never longer.
+/// The longest name that fits the buffer. No table's name is longer.
 const LONGEST_NAME: usize = 64;
 
-/// Room for a line: 85 bytes up to the end of such a name, and 76 behind it.
+/// Room for a line: 85 bytes up to the end of such a name, and 76 after it.
 const ROOM: usize = 176;
 
-/// Puts the line of an entry, of the table of this name, behind what is there.
+/// Appends the line of an entry of the table of this name. After an Err the bytes are as they were.
 pub fn append_entry(
     out: &mut Vec<u8>,
     leaf: u32,
@@ -32,7 +33,7 @@ pub fn append_entry(
     out.extend_from_slice(&buffer[start..])
 }
 
-// The same of a name for which the buffer has no room.
+// The same for a name that does not fit the buffer.
 fn append_long(out: &mut Vec<u8>, leaf: u32, name: &str, told: &[u8]) -> Result<(), AllocError>
     ensures put { OnOk result (out.new.items ≡ out.old.items ++ (decimal leaf ++ (32 ∷ (name.now ++ told.now)))) }
     ensures unchanged { OnErr result (out.new.items ≡ out.old.items) }
@@ -43,7 +44,7 @@ fn append_long(out: &mut Vec<u8>, leaf: u32, name: &str, told: &[u8]) -> Result<
     out.extend_from_slice(line.as_slice())
 }
 
-// What stands in front of an entry's number.
+// The part of a line before the entry's number.
 fn write_place(buffer: &mut [u8; ROOM], end: usize, leaf: u32, name: &[u8]) -> usize
     requires { (85 ≤ end) × (end ≤ 176) × (length name.now ≤ 64) }
     ensures written { drop result buffer.new ≡ decimal leaf ++ (32 ∷ (name.now ++ drop end buffer.old)) }
@@ -106,7 +107,7 @@ fn write_counted(buffer: &mut [u8; ROOM], end: usize, words: &[u8], count: u64) 
     write_bytes(buffer, digits, words)
 }
 
-// A number's digits in front of what stands from `end` on. It tells where they begin.
+// Writes a number's digits so that they end at `end`, and returns where they begin.
 fn write_number(buffer: &mut [u8; ROOM], end: usize, number: u64) -> usize
     requires { (20 ≤ end) × (end ≤ 176) }
     ensures written { drop result buffer.new ≡ decimal number ++ drop end buffer.old }
@@ -115,7 +116,7 @@ fn write_number(buffer: &mut [u8; ROOM], end: usize, number: u64) -> usize
     write_digits(number, buffer, end)
 }
 
-// Bytes in front of what stands from `end` on. It tells where they begin.
+// Writes bytes so that they end at `end`, and returns where they begin.
 #[tactic(auto, using(crate::proofs::Backward::drop_placed))]
 fn write_bytes(buffer: &mut [u8; ROOM], end: usize, bytes: &[u8]) -> usize
     requires { (length bytes.now ≤ end) × (end ≤ 176) }

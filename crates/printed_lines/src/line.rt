@@ -6,50 +6,50 @@ use rollover_plan::Wave;
 /// What an entry's line says after its number.
 #[derive(Clone, Copy, PartialEq, Eq)]
 pub enum Said {
-    /// An add kept so many rows, and so many came late.
+    /// An add: `kept` rows were kept, and `late` rows came late.
     Added { kept: u64, late: u64 },
-    /// An expiry or a keep removed so many rows.
+    /// An expiry or a keep: the number of rows that it removed.
     Removed(u64),
     Asked,
     RefusedShut,
     RefusedFull,
     RefusedMemory,
-    /// The table was opened with so many writes.
+    /// The table was opened; the number of its writes.
     Opened(u64),
-    /// So many writes, all that the table had accepted, were taken for the log.
+    /// All writes that the table had accepted were taken for the log; their number.
     Took(u64),
-    /// So many writes are in the log, and on the disk.
+    /// Writes are in the log, and on the disk; their number.
     Flushed(u64),
-    /// The table was closed after so many writes.
+    /// The table was closed; the number of its writes.
     Closed(u64),
     /// The closed table was handed to the region.
     Handed,
 }
 
-/// What a leaf's steward is told to do.
+/// A deed: what a leaf's steward is told to do.
 #[derive(Clone, Copy, PartialEq, Eq)]
 pub enum Deed {
     Start,
-    /// Of the table in that place.
+    /// The flush of the table in this place.
     Flush(u32),
-    /// Stopped after so many steps, where a number is told.
+    /// A drain. It is stopped after this number of steps, if one is given.
     Drain(Option<u32>),
     Kill,
 }
 
-/// How such a deed ended.
+/// How a deed ended.
 #[derive(Drop)]
 pub enum Ending {
     Done,
-    /// A drain made as many steps as it was to make, and the leaf was killed.
+    /// A drain made the steps that it was to make, and the leaf was killed.
     Stopped,
     NotUp,
     NotDown,
-    /// The seat of a table that was to be taken has seen 2^62 entries, so the table isn't taken.
+    /// The seat of a table that was to be taken has seen 2^62 entries, so the table is not taken.
     Worn,
     Started(Way),
     FaultRegion,
-    /// A table has more writes than the image of the tables has room for.
+    /// No image can be made of the tables: it, or a number in it, would be too large.
     FaultRoom,
     FaultDisk,
     /// The log of the disk is damaged.
@@ -60,7 +60,7 @@ pub enum Ending {
     FaultWorn(u32),
 }
 
-/// Why a standing query that was stale told nothing: how its table refused to be asked.
+/// Why a stale standing query told nothing: its table refused to be asked.
 #[derive(Clone, Copy, PartialEq, Eq)]
 pub enum WhyUntold {
     Shut,
@@ -68,17 +68,17 @@ pub enum WhyUntold {
     Memory,
 }
 
-/// A printed line, and behind an answer and what a standing query tells the answer's own lines.
+/// A printed line. An answer, and what a standing query tells, has its own lines after it.
 #[derive(Drop)]
 pub enum Line {
-    /// One entry of a table's history; the table is its place among the fleet's.
+    /// An entry of a table's history. The table is given by its place among the fleet's.
     Entry {
         leaf: u32,
         table: u32,
         number: u64,
         said: Said,
     },
-    /// A call whose seat has seen 2^62 entries of its table: it is refused, and makes no entry.
+    /// A call that was refused, because its seat has seen 2^62 entries of its table. It makes no entry.
     Worn {
         leaf: u32,
         table: u32,
@@ -92,7 +92,7 @@ pub enum Line {
     Tailed(Option<u32>),
     /// The standing query of this number was declared.
     Declared(u32),
-    /// What a standing query tells, which holds up to the entry of that number.
+    /// What a standing query tells, as of the entry of this number.
     Told {
         standing: u32,
         number: u64,
@@ -108,20 +108,20 @@ pub enum Line {
         leaf: u32,
         ending: Ending,
     },
-    /// The lines of a burst's lane of this number, from 0, are those behind it.
+    /// The lines of a burst's lane follow. Lanes are numbered from 0.
     Lane(u32),
-    /// A wave of a rollover begins, of so many, numbered from 1.
+    /// A wave of a rollover begins, of `of` waves, numbered from 1.
     Wave {
         number: u32,
         of: u32,
         leaves: Wave,
     },
-    /// A rollover began so many of its waves; it was halted where one was left out.
+    /// A rollover ended: the number of waves that it began, and whether it was halted, so that one was left out.
     Rolled {
         halted: bool,
         waves: u32,
         of: u32,
     },
-    /// The line of a watch behind a rollover.
+    /// The line of a watch after a rollover.
     Watch(rollover_watch::Line),
 }

@@ -1,4 +1,4 @@
-// Lines behind what was printed before.
+// Appends lines to what was printed before.
 ghost use Rattle.std.specs.Prelude.{◌≡◌, ◌<◌, ◌∷◌, ◌++◌, [], codes, decimal, length, take, IfOk, OnOk, OnErr, string_bytes};
 ghost use Rattle.std.specs.List.{flat_map, AllByRecursion};
 ghost use Rattle.printed_lines.specs.Lines.{EndsOf, IsOf, row_line, worn_text, answer_head, answer_text, ended_text, lane_text, leaf_text, line_text, lines_text, rolled_text, rolled_word, declared_text, tailed_text, told_head, told_text, untold_text, untold_word, watch_text, wave_text};
@@ -9,7 +9,7 @@ use crate::parts::{deed_str, ending_string, name_of, untold_str};
 use leaf_model::{Names, Text};
 use std::alloc::{AllocError, Global};
 
-/// Puts a line behind what is there; `names` are those of the fleet's tables, in their order.
+/// Appends a line. `names` are those of the fleet's tables, in their order. After an Err the bytes are as they were.
 pub fn put_line(out: &mut Vec<u8>, names: &Names, line: &Line) -> Result<(), AllocError>
     requires table_is_known { IsOf names.now line.now }
     ensures put { OnOk result (out.new.items ≡ out.old.items ++ line_text names.now line.now) }
@@ -44,7 +44,7 @@ pub fn put_line(out: &mut Vec<u8>, names: &Names, line: &Line) -> Result<(), All
     }
 }
 
-/// Puts lines, all or none, behind what is there.
+/// Appends lines, all of them or, after an Err, none.
 pub fn put_lines(out: &mut Vec<u8>, names: &Names, lines: &[Line]) -> Result<(), AllocError>
     requires tables_are_known { AllByRecursion (IsOf names.now) lines.now }
     ensures put { OnOk result (out.new.items ≡ out.old.items ++ lines_text names.now lines.now) }
@@ -58,7 +58,7 @@ pub fn put_lines(out: &mut Vec<u8>, names: &Names, lines: &[Line]) -> Result<(),
     put
 }
 
-// For want of memory the first of them may stand there.
+// If memory runs out, a prefix of the lines may be appended.
 #[tactic(auto, using(crate::proofs::Backward::still_front))]
 fn put_some(out: &mut Vec<u8>, names: &Names, lines: &[Line]) -> Result<(), AllocError>
     requires { AllByRecursion (IsOf names.now) lines.now }

@@ -1,4 +1,4 @@
--- The grammar: by what tokens a query is spelled, part by part. Each part is given with what follows it.
+-- The grammar: the tokens that spell a query, part by part. Each part is given with what follows it.
 use Rattle.std.specs.Prelude.{if◌then◌else◌, nat_lt, ◌&&◌, ◌≡◌, ◌≤◌, ◌<◌, ℕ, Bool, true, false, List, [], ◌∷◌, ◌++◌, length, map, ℤ, pos, Option, Some, None, codes, slice_get}
 use Rattle.std.specs.List.{position_from}
 use Rattle.leaf_model.specs.declared.rows.Value.{Value}
@@ -20,19 +20,19 @@ use Rattle.query_text.specs.Printing.{ordering_agg}
 
 -- ---- what is written at one place
 
--- one token, any token that gives that name, plain or quoted, or what no token says
+-- a sign stands for one token, for any token that gives a name, plain or quoted, or for no token
 pub data Sign : Type 0 where
   Exactly : (token : Token) → Sign
   TheName : (name : List ℕ) → Sign
   Never : Sign
 
--- that token, or one of those that give the name
+-- a token is one that the sign stands for
 abbrev pub Says : Sign → Token → Type 0
 Says (Exactly u) t = t ≡ u
 Says (TheName name) t = name_of t ≡ Some name
 Says Never t = ⊥
 
--- tokens, one for each place
+-- the tokens are those that the signs stand for, one for each
 abbrev pub Spells : List Sign → List Token → Type 0
 Spells [] [] = Unit {0}
 Spells [] (t ∷ ts) = ⊥
@@ -53,7 +53,7 @@ int n = Exactly (token.Int (Some n))
 abbrev pub call : List ℕ → List ℕ → List Sign → List Sign
 call word name further = keyword word ∷ Exactly token.Open ∷ TheName name ∷ Exactly token.Close ∷ further
 
--- COUNT ( * ), or the word of the others with a name
+-- COUNT ( * ), or another aggregate's word with a name
 abbrev pub agg_signs : Agg → List Sign → List Sign
 agg_signs Count further = keyword (codes "COUNT") ∷ Exactly token.Open ∷ Exactly token.Star ∷ Exactly token.Close ∷ further
 agg_signs (Sum name) further = call (codes "SUM") name further
@@ -66,7 +66,7 @@ abbrev pub names_signs : List (List ℕ) → List Sign → List Sign
 names_signs [] further = further
 names_signs (name ∷ names) further = TheName name ∷ Exactly token.Comma ∷ names_signs names further
 
--- more aggregates, each behind a comma
+-- more aggregates, each after a comma
 abbrev pub more_aggs_signs : List Agg → List Sign → List Sign
 more_aggs_signs [] further = further
 more_aggs_signs (a ∷ aggs) further = Exactly token.Comma ∷ agg_signs a (more_aggs_signs aggs further)
@@ -103,22 +103,22 @@ abbrev pub conds_signs : List Cond → List Sign → List Sign
 conds_signs [] further = further
 conds_signs (c ∷ conds) further = keyword (codes "AND") ∷ TheName c.name ∷ Exactly (token.Compare c.op) ∷ asked_sign c.op c.value ∷ conds_signs conds further
 
--- more names, each behind a comma
+-- more names, each after a comma
 abbrev pub more_names_signs : List (List ℕ) → List Sign → List Sign
 more_names_signs [] further = further
 more_names_signs (name ∷ names) further = Exactly token.Comma ∷ TheName name ∷ more_names_signs names further
 
--- GROUP BY and the selected names in the same order, where there are any
+-- GROUP BY and the selected names in the same order, if there are any
 abbrev pub group_signs : List (List ℕ) → List Sign → List Sign
 group_signs [] further = further
 group_signs (name ∷ names) further = keyword (codes "GROUP") ∷ keyword (codes "BY") ∷ TheName name ∷ more_names_signs names further
 
--- ORDER BY and an aggregate, where the answer has an order
+-- ORDER BY and an aggregate, if the answer has an order
 abbrev pub order_signs : Option Agg → List Sign → List Sign
 order_signs None further = further
 order_signs (Some a) further = keyword (codes "ORDER") ∷ keyword (codes "BY") ∷ agg_signs a further
 
--- LIMIT and an integer, where it is written
+-- LIMIT and an integer, if it is written
 abbrev pub limit_signs : Bool → ℕ → List Sign
 limit_signs false n = []
 limit_signs true n = keyword (codes "LIMIT") ∷ int (pos n) ∷ []
@@ -131,7 +131,7 @@ query_signs is_limited q =
 
 -- ---- queries
 
--- the place of the first aggregate that is equal to one, which is no AVG
+-- the order is none, or the place of an aggregate that is no AVG and equal to none before it
 abbrev pub IsOrder : Option ℕ → List Agg → Type 0
 IsOrder None aggs = Unit {0}
 IsOrder (Some i) aggs = (a : Agg) × ((slice_get aggs i ≡ Some a) × ((is_orderable a ≡ true) × (position_from (same_agg a) 0 aggs ≡ Some i)))
@@ -143,7 +143,7 @@ pub record IsQuery (q : Query) : Type 0 where
   pub order : IsOrder q.order q.aggs
   pub limit : q.limit ≤ 100000
 
--- the tokens spell the query; LIMIT may be left out where it is 100,000
+-- the tokens spell the query; LIMIT may be left out if it is 100,000
 pub record IsSpelled (q : Query) (ts : List Token) : Type 0 where
   pub query : IsQuery q
   pub is_limited : Bool
@@ -160,7 +160,7 @@ plain_tokens ps = map (λ (p : Placed). p.token) ps
 abbrev pub IsBegun : List Token → Type 0
 IsBegun ts = (more : List Token) × ((q : Query) × IsSpelled q (ts ++ more))
 
--- no query goes on: none ends here where no token is left, and else none begins with the next token as well
+-- no query goes on: if no token is left, none ends here; else none begins with these tokens and the next
 abbrev pub IsStuck : List Token → List Placed → Type 0
 IsStuck before [] = (q : Query) → IsSpelled q before → ⊥
 IsStuck before (p ∷ ps) = IsBegun (before ++ (p.token ∷ [])) → ⊥
@@ -175,12 +175,12 @@ abbrev pub IsSize : List Token → List Placed → Type 0
 IsSize before [] = ⊥
 IsSize before (p ∷ ps) = (is_int p.token ≡ true) × ((n : ℤ) × IsBegun (before ++ (token.Int (Some n) ∷ [])))
 
--- how many tokens stand behind the first FROM that is not quoted
+-- the number of tokens after the first FROM that is not quoted
 abbrev pub behind_from : List Token → Option ℕ
 behind_from [] = None
 behind_from (t ∷ ts) = if is_word (codes "FROM") t then Some (length ts) else behind_from ts
 
--- the table stands there, and the eight tokens of the range behind it do not yet
+-- the table is there, and fewer than the eight tokens of the range follow it
 abbrev pub is_ranging : Option ℕ → Bool
 is_ranging None = false
 is_ranging (Some n) = nat_lt 0 n && nat_lt n 9
@@ -192,7 +192,8 @@ IsFault NoTime before rest end = (IsSize before rest → ⊥) × (is_ranging (be
 IsFault (Syntax at) before rest end = (at ≡ next_offset end rest) × ((IsSize before rest → ⊥) × (is_ranging (behind_from before) ≡ false))
 IsFault NoMemory before rest end = ⊥
 
--- the tokens before the fault begin some query, with what stands there none goes on, and the fault is told by these
+-- the tokens before the fault begin some query; with the token at the fault, or the end, none goes on; and they decide
+-- the fault
 pub record IsQueryRefused (text : List ℕ) (fault : QueryFault) : Type 0 where
   pub before : List Placed
   pub rest : List Placed

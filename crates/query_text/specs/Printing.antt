@@ -1,5 +1,5 @@
--- The one text that a query is written as: one space between tokens, none before a comma, and none at an aggregate's parentheses.
--- Each part is given with what follows it.
+-- The one text that a query is printed as: one space between tokens, none before a comma, and none at an aggregate's
+-- parentheses. Each part is given with what follows it.
 use Rattle.std.specs.Prelude.{ℕ, Bool, false, ◌&&◌, not, List, [], ◌∷◌, ◌++◌, Option, Some, None, if◌then◌else◌, codes, decimal, slice_get}
 use Rattle.std.specs.List.{flat_map, list_all}
 use Rattle.std.specs.Bool.{◌==◌}
@@ -28,7 +28,7 @@ doubled mark b = if b == mark then b ∷ b ∷ [] else b ∷ []
 abbrev pub in_quotes : ℕ → List ℕ → List ℕ
 in_quotes mark bs = mark ∷ (flat_map (doubled mark) bs ++ (mark ∷ []))
 
--- a name is plain where it may be
+-- a name without quotes, if it may be plain
 abbrev pub name_text : List ℕ → List ℕ
 name_text name = if is_plain name then name else in_quotes 34 name
 
@@ -61,7 +61,7 @@ abbrev pub names_then : List (List ℕ) → List ℕ → List ℕ
 names_then [] further = further
 names_then (name ∷ names) further = name_text name ++ (codes ", " ++ names_then names further)
 
--- more aggregates, each behind a comma
+-- more aggregates, each after a comma
 abbrev pub more_aggs_then : List Agg → List ℕ → List ℕ
 more_aggs_then [] further = further
 more_aggs_then (a ∷ aggs) further = codes ", " ++ agg_then a (more_aggs_then aggs further)
@@ -80,12 +80,12 @@ abbrev pub conds_then : List Cond → List ℕ → List ℕ
 conds_then [] further = further
 conds_then (c ∷ conds) further = cond_then c (conds_then conds further)
 
--- more names, each behind a comma
+-- more names, each after a comma
 abbrev pub more_names_then : List (List ℕ) → List ℕ → List ℕ
 more_names_then [] further = further
 more_names_then (name ∷ names) further = codes ", " ++ (name_text name ++ more_names_then names further)
 
--- GROUP BY, where a name is selected
+-- GROUP BY, if a name is selected
 abbrev pub group_then : List (List ℕ) → List ℕ → List ℕ
 group_then [] further = further
 group_then (name ∷ names) further = codes " GROUP BY " ++ (name_text name ++ more_names_then names further)
@@ -95,7 +95,7 @@ abbrev pub ordering_agg : Option ℕ → List Agg → Option Agg
 ordering_agg None aggs = None
 ordering_agg (Some i) aggs = slice_get aggs i
 
--- ORDER BY, where the answer has an order
+-- ORDER BY, if the answer has an order
 abbrev pub order_then : Option Agg → List ℕ → List ℕ
 order_then None further = further
 order_then (Some a) further = codes " ORDER BY " ++ agg_then a further

@@ -1,4 +1,4 @@
--- What a query's text means: the tokens one by one, each of which some query goes on with, or the fault of the first that none does.
+-- What a query's text means. Its tokens are read one by one. The first that no query goes on with is the fault.
 use Rattle.std.specs.Prelude.{ℕ, ◌+◌, Bool, true, false, ◌&&◌, not, List, [], ◌∷◌, ◌++◌, length, pos, Option, Some, None, option_and_then, Result, Ok, Err, if◌then◌else◌, nat_lt, codes, bytes_eq, slice_get}
 use Rattle.std.specs.List.{list_any, position_from}
 use Rattle.leaf_model.specs.declared.rows.Value.{Value}
@@ -33,12 +33,12 @@ with_cond q name op v = record q { conds = q.conds ++ (record { name = name; op 
 
 -- ---- one token more
 
--- on where a test holds
+-- go on if a test holds
 abbrev pub on_if : Bool → Query → Place → Move
 on_if true q place = On q place
 on_if false q place = Stuck
 
--- on with what a token gives, or as the other move says where it gives nothing
+-- go on with what a token gives; if it gives nothing, the other move
 abbrev pub goes_with : {A : Type 0} → Option A → (A → Move) → Move → Move
 goes_with None f other = other
 goes_with (Some x) f other = f x
@@ -54,7 +54,7 @@ abbrev pub is_key : Option (List ℕ) → Option (List ℕ) → Bool
 is_key (Some a) (Some b) = bytes_eq a b
 is_key a b = false
 
--- ORDER where an aggregate is there that it takes, or LIMIT
+-- ORDER, if there is an aggregate that it takes, or LIMIT
 abbrev pub order_or_limit : Query → Token → Move
 order_or_limit q t = if is_word (codes "ORDER") t && list_any is_orderable q.aggs then On q OrderBy else on_if (is_word (codes "LIMIT") t) q LimitNumber
 
@@ -62,7 +62,7 @@ order_or_limit q t = if is_word (codes "ORDER") t && list_any is_orderable q.agg
 abbrev pub has_keys : Query → Bool
 has_keys q = nat_lt 0 (length q.keys)
 
--- what a token does where it stands: Stuck where no query goes on with it
+-- what a token does at a place: Stuck if no query goes on with it
 abbrev pub goes_on : Query → Place → Token → Move
 goes_on q Select t = on_if (is_word (codes "SELECT") t) q Item
 goes_on q Item t = goes_with (kind_of t) (λ kind. On q (Opening kind)) (goes_with (name_of t) (λ name. On (with_key q name) NameEnd) Stuck)
@@ -99,7 +99,8 @@ goes_on q Ordered t = on_if (is_word (codes "LIMIT") t) q LimitNumber
 goes_on q LimitNumber t = goes_with (limit_from (int_of t)) (λ n. On (record q { limit = n }) Last) Stuck
 goes_on q Last t = Stuck
 
--- where the text may end: behind the conditions where no name is selected, behind the last name of GROUP BY, behind ORDER BY, and behind LIMIT
+-- the places where the text may end: after the conditions if no name is selected, after the last name of GROUP BY,
+-- after ORDER BY, and after LIMIT
 abbrev pub may_end : Query → Place → Bool
 may_end q CondEnd = not (has_keys q)
 may_end q (GroupEnd i) = not (nat_lt i (length q.keys))
@@ -129,22 +130,22 @@ is_in_range HighSign = true
 is_in_range HighBound = true
 is_in_range place = false
 
--- of a token that no query goes on with, or of the text's end
+-- the fault of a token that no query goes on with, whatever its size, and of the text's end
 abbrev pub plain_fault : Place → ℕ → QueryFault
 plain_fault place at = if is_in_range place then NoTime else Syntax at
 
--- of a token that no query goes on with: TooLarge where only its size is wrong
+-- the fault of a token that no query goes on with: TooLarge if only its size is wrong
 abbrev pub fault_of : Place → ℕ → Token → QueryFault
 fault_of place at t = if takes_int place && is_int t then TooLarge at else plain_fault place at
 
 -- ---- the whole text
 
--- what a move leads to, where the reading of what follows is given
+-- what a move leads to, by the reading of what follows
 abbrev pub led : Move → (Query → Place → Result Query QueryFault) → QueryFault → Result Query QueryFault
 led (On q place) further fault = further q place
 led Stuck further fault = Err fault
 
--- the tokens that are left, from what was read on, and the offset of the text's end
+-- the reading of the tokens that are left, after what was read; `end` is the offset of the text's end
 abbrev pub read_from : ℕ → Query → Place → List Placed → Result Query QueryFault
 read_from end q place [] = if may_end q place then Ok q else Err (plain_fault place end)
 read_from end q place (p ∷ ps) = led (goes_on q place p.token) (λ r next. read_from end r next ps) (fault_of place p.at p.token)

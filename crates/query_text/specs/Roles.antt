@@ -16,7 +16,7 @@ use Rattle.query_text.specs.declared.places.Kind.TheVariants.{Count, Sum, Min, M
 abbrev pub is_keyword : List ℕ → Bool
 is_keyword w = list_any (bytes_eq w) (map codes ("HAS" ∷ "SELECT" ∷ "FROM" ∷ "WHERE" ∷ "AND" ∷ "GROUP" ∷ "BY" ∷ "ORDER" ∷ "LIMIT" ∷ "COUNT" ∷ "SUM" ∷ "MIN" ∷ "MAX" ∷ "AVG" ∷ []))
 
--- that very word, which is not quoted
+-- the token is this word, without quotes
 abbrev pub is_word : List ℕ → Token → Bool
 is_word w (token.Word v) = bytes_eq v w
 is_word w other = false
@@ -37,12 +37,12 @@ kind_of (token.Word w) =
     else (if bytes_eq w (codes "AVG") then Some Avg else None))))
 kind_of other = None
 
--- a word that fits a table's name
+-- a word that may be a table's name
 abbrev pub table_of : Token → Option (List ℕ)
 table_of (token.Word w) = if is_table_name w then Some w else None
 table_of other = None
 
--- that very mark, which is `(`, `)`, `*` or `,`
+-- the token is this mark: `(`, `)`, `*` or `,`
 abbrev pub is_mark : Token → Token → Bool
 is_mark token.Open token.Open = true
 is_mark token.Close token.Close = true
@@ -81,7 +81,7 @@ abbrev pub is_has : Op → Bool
 is_has Has = true
 is_has op = false
 
--- what a comparison is with: HAS takes a text, and every other one an integer or a text
+-- the constant of a comparison: HAS takes a text, and every other operator an integer or a text
 abbrev pub const_for : Op → Token → Option value.the_data
 const_for op t = if is_has op then text_of t else const_of t
 
@@ -100,7 +100,7 @@ agg_inside Min t = option_map agg.Min (name_of t)
 agg_inside Max t = option_map agg.Max (name_of t)
 agg_inside Avg t = option_map agg.Avg (name_of t)
 
--- of one kind and one name
+-- two aggregates have the same kind and the same name
 abbrev pub same_agg : Agg → Agg → Bool
 same_agg agg.Count agg.Count = true
 same_agg (agg.Sum a) (agg.Sum b) = bytes_eq a b
@@ -109,7 +109,7 @@ same_agg (agg.Max a) (agg.Max b) = bytes_eq a b
 same_agg (agg.Avg a) (agg.Avg b) = bytes_eq a b
 same_agg a b = false
 
--- what ORDER BY takes: every kind but AVG
+-- an aggregate has this kind, and ORDER BY takes it: any but AVG
 abbrev pub has_kind : Kind → Agg → Bool
 has_kind Count agg.Count = true
 has_kind Sum (agg.Sum name) = true

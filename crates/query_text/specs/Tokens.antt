@@ -23,17 +23,17 @@ goes_on_word b = begins_word b || is_ascii_digit b
 
 -- ---- quotes
 
--- what stands inside a quote, without the doubling, and how many bytes it takes with its end
+-- the inside of a quote without the doubling, and the number of bytes that it takes up to and with its end
 pub record Quote : Type 0 where
   pub inside : List ℕ
   pub long : ℕ
 
--- a quote that was read, without where it lies in memory
+-- a quote that was read, as a value
 abbrev pub quote_view : Option Quoted → Option Quote
 quote_view None = None
 quote_view (Some q) = Some (record { inside = q.inside.items; long = q.long })
 
--- a quote behind bytes of its inside that were read
+-- a quote whose inside begins with bytes that were read before
 abbrev pub behind : List ℕ → ℕ → Option Quote → Option Quote
 behind bs n None = None
 behind bs n (Some q) = Some (record { inside = bs ++ q.inside; long = n + q.long })
@@ -42,14 +42,15 @@ behind bs n (Some q) = Some (record { inside = bs ++ q.inside; long = n + q.long
 abbrev pub with_byte : ℕ → Quote → Quote
 with_byte b q = record { inside = b ∷ q.inside; long = q.long + 1 }
 
--- behind an opening mark, where `marked` says that a mark was just read: another doubles it, and anything else ends the quote
+-- what follows an opening mark; `marked` says that a mark was just read: another mark doubles it, and anything else
+-- ends the quote
 abbrev pub quote_from : ℕ → Bool → List ℕ → Option Quote
 quote_from mark false [] = None
 quote_from mark true [] = Some (record { inside = []; long = 0 })
 quote_from mark false (b ∷ rest) = if b == mark then option_map (λ (q : Quote). record q { long = q.long + 1 }) (quote_from mark true rest) else option_map (with_byte b) (quote_from mark false rest)
 quote_from mark true (b ∷ rest) = if b == mark then option_map (with_byte mark) (quote_from mark false rest) else Some (record { inside = []; long = 0 })
 
--- ---- one token: what it is, and how many bytes it takes behind its first
+-- ---- one token: what it is, and the number of its bytes after its first
 
 -- the word HAS compares; every other word is one
 abbrev pub word_token : List ℕ → Token
@@ -59,7 +60,7 @@ word_token w = if bytes_eq w (codes "HAS") then Compare op.Has else Word w
 abbrev pub stray : Found
 stray = record { token = Stray; more = 0 }
 
--- the token of a quote, whose inside is UTF-8 of at least and at most so many bytes
+-- the token of a quote whose inside is UTF-8, of `least` to `most` bytes; else a stray byte
 abbrev pub quoted_token : (List ℕ → Token) → ℕ → ℕ → Option Quote → Found
 quoted_token make least most None = stray
 quoted_token make least most (Some q) =
@@ -67,17 +68,17 @@ quoted_token make least most (Some q) =
     then record { token = make q.inside; more = q.long }
     else stray
 
--- the value of digits behind others of that value
+-- the value of digits that follow digits of the value n
 abbrev pub value_from : ℕ → List ℕ → ℕ
 value_from n [] = n
 value_from n (d ∷ ds) = value_from (n * 10 + (d - 48)) ds
 
--- digits, and whether a `-` stands before them: nothing where the number is no i64
+-- the integer of a magnitude, negative after a `-`; None if it is no i64
 abbrev pub signed_value : Bool → ℕ → Option ℤ
 signed_value false n = if nat_lt n (2 ^ 63) then Some (pos n) else None
 signed_value true n = if nat_le n (2 ^ 63) then Some (neg_ℤ (pos n)) else None
 
--- the token of digits, of which all but the first stand behind
+-- the token of digits, all but the first of which follow
 abbrev pub number_token : List ℕ → List ℕ → Found
 number_token digits more = record { token = Int (signed_value false (value_from 0 digits)); more = length more }
 
@@ -86,7 +87,7 @@ abbrev pub minus_token : List ℕ → Found
 minus_token [] = stray
 minus_token (d ∷ digits) = record { token = Int (signed_value true (value_from 0 (d ∷ digits))); more = length (d ∷ digits) }
 
--- one mark, or two where the second is `=`
+-- one mark, or two if the second is `=`
 abbrev pub pair_token : Token → Token → List ℕ → Found
 pair_token alone both [] = record { token = alone; more = 0 }
 pair_token alone both (b ∷ rest) = if b == 61 then record { token = both; more = 1 } else record { token = alone; more = 0 }
@@ -121,7 +122,7 @@ pub record Placed : Type 0 where
   pub at : ℕ
   pub token : Token
 
--- the tokens of what is left from an offset on, once so many bytes of the last token are passed
+-- the tokens from an offset on, once the `passed` bytes that are left of the last token are passed
 abbrev pub tokens_from : ℕ → ℕ → List ℕ → List Placed
 tokens_from passed at [] = []
 tokens_from (suc passed) at (b ∷ rest) = tokens_from passed (at + 1) rest

@@ -1,4 +1,4 @@
-// Aggregates: what may stand between their parentheses, and their places among the selected ones.
+// Aggregates: what their parentheses take, and their places among the selected ones.
 ghost use Rattle.std.specs.Prelude.{◌≡◌, ℕ, List, option_and_then, bytes_eq};
 ghost use Rattle.std.specs.List.{list_any, position_from};
 ghost use Rattle.query_text.specs.declared.tokens.Token.TheVariants.{Name};
@@ -9,7 +9,7 @@ use crate::roles::{stars, take_name};
 use crate::tokens::Token;
 use leaf_model::{Agg, Text};
 
-/// What ORDER BY takes: every aggregate but AVG.
+/// Whether ORDER BY takes the aggregate: any but AVG.
 fn takes_order(agg: &Agg) -> bool
     ensures { result ≡ is_orderable agg.now }
 {
@@ -27,7 +27,7 @@ pub fn any_takes_order(aggs: &[Agg]) -> bool
     false
 }
 
-/// An aggregate of that kind, which ORDER BY takes.
+/// Whether the aggregate is of this kind, and ORDER BY takes it.
 fn is_kind(kind: Kind, agg: &Agg) -> bool
     ensures { result ≡ has_kind kind agg.now }
 {
@@ -72,7 +72,7 @@ fn take_named(kind: Kind, token: Token) -> Option<Agg>
     }
 }
 
-/// The aggregate of that kind with that token between its parentheses.
+/// The aggregate of this kind with this token between its parentheses. None if the kind does not take the token.
 pub fn take_inside(kind: Kind, token: Token) -> Option<Agg>
     ensures { result ≡ agg_inside kind token }
 {
@@ -121,7 +121,7 @@ fn is_same_agg(a: &Agg, b: &Agg) -> bool
     }
 }
 
-/// The place of the first equal one.
+/// The place of the first aggregate that is equal to `agg`. None if there is none.
 pub fn find_agg(agg: &Agg, aggs: &[Agg]) -> Option<u64>
     ensures { result ≡ position_from (same_agg agg.now) 0 aggs.now }
 {

@@ -1,4 +1,4 @@
-// What was read, with one part more.
+// Adds one part to what was read.
 ghost use Rattle.std.specs.Prelude.{◌≡◌, Some, IfOk};
 ghost use Rattle.query_text.specs.Reading.{nothing_read, with_key, with_agg, with_cond};
 
@@ -8,7 +8,7 @@ use std::alloc::{AllocError, Global};
 /// The limit of a query that names none.
 const NO_LIMIT: u32 = 100_000;
 
-/// Nothing was read.
+/// The query before its first token: no names, no aggregates, no conditions, and the limit 100,000.
 pub fn start(alloc: Global) -> Query
     ensures { result ≡ nothing_read }
 {

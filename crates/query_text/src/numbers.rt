@@ -9,7 +9,7 @@ use crate::tokens::{Found, Token};
 /// One past the greatest i64, and the magnitude of the least.
 const LIMIT: u64 = 9_223_372_036_854_775_808;
 
-/// A digit more, where the value stays within 2^63.
+/// Adds a digit. None if the value would pass 2^63.
 fn add_digit(value: u64, b: u8) -> Option<u64>
     requires { value ≤ 2 ^ 63 }
     ensures { result ≡ if nat_le (value * 10 + (b - 48)) (2 ^ 63) then Some (value * 10 + (b - 48)) else None }
@@ -22,7 +22,7 @@ fn add_digit(value: u64, b: u8) -> Option<u64>
     }
 }
 
-/// The value of digits behind others of that value, where it is within 2^63.
+/// The value of digits that follow digits of the value `start`. None if it passes 2^63.
 #[tactic(auto, using(crate::proofs::Lexing::value_grows))]
 fn magnitude(start: u64, digits: &[u8]) -> Option<u64>
     requires { start ≤ 2 ^ 63 }
@@ -51,7 +51,7 @@ fn signed(is_minus: bool, n: u64) -> Option<i64>
     }
 }
 
-/// The integer of digits behind others of that value.
+/// The integer of digits that follow digits of the value `start`. None if it is no i64.
 fn number(is_minus: bool, start: u64, digits: &[u8]) -> Option<i64>
     requires { start ≤ 2 ^ 63 }
     ensures { result ≡ signed_value is_minus (value_from start digits.now) }
@@ -62,7 +62,7 @@ fn number(is_minus: bool, start: u64, digits: &[u8]) -> Option<i64>
     }
 }
 
-/// The digits that stand in front.
+/// The longest prefix of digits.
 pub fn digits_part(rest: &[u8]) -> &[u8]
     ensures value { result.now ≡ take_while is_ascii_digit rest.now }
     ensures long { length result.now ≤ length rest.now }
@@ -74,7 +74,7 @@ pub fn digits_part(rest: &[u8]) -> &[u8]
     &rest[..i]
 }
 
-/// The integer that begins with a digit and goes on with others.
+/// The token of an integer that begins with the digit `first`.
 pub fn number_found(first: u8, digits: &[u8]) -> Found
     ensures { result ≡ number_token (first ∷ digits.now) digits.now }
 {
@@ -84,7 +84,7 @@ pub fn number_found(first: u8, digits: &[u8]) -> Found
     }
 }
 
-/// The integer of digits behind a `-`.
+/// The token of an integer after a `-`. A `-` without a digit is a stray byte.
 pub fn minus_found(digits: &[u8]) -> Found
     ensures { result ≡ minus_token digits.now }
 {

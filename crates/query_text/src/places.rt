@@ -12,7 +12,7 @@ pub enum Kind {
     Avg,
 }
 
-/// What stands next. A number is a place among the selected names, or among the aggregates.
+/// What may come next. A number is a place among the selected names, or among the aggregates.
 #[derive(Drop)]
 pub enum Place {
     Select,
@@ -49,7 +49,7 @@ pub enum Place {
     Last,
 }
 
-/// What a token does to what was read: it goes on, or no query goes on with it.
+/// What a token does to what was read: the query goes on, or no query goes on with the token.
 #[derive(Drop)]
 pub enum Move {
     On(Query, Place),

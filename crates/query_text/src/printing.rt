@@ -1,4 +1,4 @@
-// The one text that a query is written as. Each call adds its part behind what was written.
+// The one text that a query is printed as. Each call appends its part.
 ghost use Rattle.std.specs.Prelude.{◌≡◌, ◌++◌, ℕ, List, OnOk, IfOk, codes, decimal, string_bytes};
 ghost use Rattle.std.specs.Fmt.{signed_decimal};
 ghost use Rattle.query_text.specs.Printing.{printed, names_then, more_aggs_then, aggs_then, range_then, cond_then, conds_then, more_names_then, group_then, ordering_agg, order_then};
@@ -40,7 +40,7 @@ fn push_aggs(out: &mut String, aggs: &[Agg]) -> Result<(), AllocError>
     }
 }
 
-/// A bound of the range of times, behind what leads to it.
+/// A bound of the range of times, after the words that lead to it.
 fn push_bound(out: &mut String, opening: &str, bound: i64) -> Result<(), AllocError>
     ensures { OnOk result ((further : List ℕ) → string_bytes out.new ++ further ≡ string_bytes out.old ++ (opening.now ++ (signed_decimal bound ++ further))) }
 {
@@ -88,7 +88,7 @@ fn push_more_names(out: &mut String, names: &[Text]) -> Result<(), AllocError>
     Ok(())
 }
 
-/// GROUP BY, where a name is selected.
+/// GROUP BY, if a name is selected.
 fn push_group(out: &mut String, names: &[Text]) -> Result<(), AllocError>
     ensures { OnOk result ((further : List ℕ) → string_bytes out.new ++ further ≡ string_bytes out.old ++ group_then names.now further) }
 {
@@ -102,7 +102,7 @@ fn push_group(out: &mut String, names: &[Text]) -> Result<(), AllocError>
     }
 }
 
-/// ORDER BY, where the answer has an order.
+/// ORDER BY, if the answer has an order.
 fn push_order(out: &mut String, order: Option<u64>, aggs: &[Agg]) -> Result<(), AllocError>
     ensures { OnOk result ((further : List ℕ) → string_bytes out.new ++ further ≡ string_bytes out.old ++ order_then (ordering_agg order aggs.now) further) }
 {
@@ -125,8 +125,8 @@ fn push_limit(out: &mut String, limit: u32) -> Result<(), AllocError>
     push_number(out, i64::from(limit))
 }
 
-/// The one text of a query: one space between tokens, none before a comma, and none at an aggregate's parentheses; a name is plain
-/// where it may be, and LIMIT is always written.
+/// The one text of a query. It has one space between tokens, none before a comma, and none at an aggregate's
+/// parentheses. A name has no quotes if it may be plain. LIMIT is always written.
 pub fn print(alloc: Global, query: &Query) -> Result<Text, AllocError>
     ensures spelled { IfOk result (λ text. text ≡ printed query.now) }
 {

@@ -8,14 +8,14 @@ use crate::tokens::{Found, Token};
 use leaf_model::{MAX_NAME, MAX_TEXT, Text};
 use std::alloc::{AllocError, Global};
 
-/// The inside of a quote without the doubling, and how many bytes it takes with its end.
+/// The inside of a quote without the doubling, and the number of bytes that it takes up to and with its end.
 #[derive(Drop)]
 pub struct Quoted {
     pub inside: Vec<u8>,
     pub long: usize,
 }
 
-/// One byte more, which does not end the quote: whether a mark was just read.
+/// Adds one byte, which does not end the quote. Tells whether a mark was just read.
 fn quote_byte(inside: &mut Vec<u8>, mark: u8, is_marked: bool, b: u8) -> Result<bool, AllocError>
     requires { is_marked ≡ true → b ≡ mark }
     ensures { IfOk result (λ is_marked_now. (n : ℕ) → (rest : List ℕ) → behind inside.old.items n (quote_from mark is_marked (b ∷ rest)) ≡ behind inside.new.items (n + 1) (quote_from mark is_marked_now rest)) }
@@ -31,7 +31,7 @@ fn quote_byte(inside: &mut Vec<u8>, mark: u8, is_marked: bool, b: u8) -> Result<
     }
 }
 
-/// What stands in quotes behind an opening mark, where they are closed.
+/// Reads what follows an opening mark. None if the quote is not closed.
 fn quote(alloc: Global, mark: u8, rest: &[u8]) -> Result<Option<Quoted>, AllocError>
     ensures value { IfOk result (λ q. quote_view q ≡ quote_from mark false rest.now) }
     ensures long { IfOk result (λ q. IfSome q (λ r. r.long ≤ length rest.now)) }
@@ -53,7 +53,7 @@ fn quote(alloc: Global, mark: u8, rest: &[u8]) -> Result<Option<Quoted>, AllocEr
     }
 }
 
-/// A byte that begins no token.
+/// The token of a byte that begins no other.
 pub fn stray_found() -> Found
     ensures { result ≡ stray }
 {
@@ -112,7 +112,7 @@ fn text_found(quoted: Option<Quoted>) -> Found
     }
 }
 
-/// The name in double quotes, of which the first was read.
+/// The token of a name in double quotes, of which the first was read: 1 to 255 bytes of UTF-8, else a stray byte.
 pub fn quoted_name(alloc: Global, rest: &[u8]) -> Result<Found, AllocError>
     ensures value { IfOk result (λ found. found ≡ quoted_token token.Name 1 255 (quote_from 34 false rest.now)) }
     ensures long { IfOk result (λ found. found.more ≤ length rest.now) }
@@ -120,7 +120,7 @@ pub fn quoted_name(alloc: Global, rest: &[u8]) -> Result<Found, AllocError>
     Ok(name_found(quote(alloc, b'"', rest)?))
 }
 
-/// The text in single quotes, of which the first was read.
+/// The token of a text in single quotes, of which the first was read: at most 65,535 bytes of UTF-8, else a stray byte.
 pub fn quoted_text(alloc: Global, rest: &[u8]) -> Result<Found, AllocError>
     ensures value { IfOk result (λ found. found ≡ quoted_token token.Text 0 65535 (quote_from 39 false rest.now)) }
     ensures long { IfOk result (λ found. found.more ≤ length rest.now) }

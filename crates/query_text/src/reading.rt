@@ -124,7 +124,7 @@ fn may_end_here(query: &Query, place: &Place) -> bool
     }
 }
 
-/// One token at a time: beside the query nothing is held but the token that is read.
+/// Reads one token at a time. It holds the query and the token that is read, and nothing else.
 fn read(alloc: Global, text: &[u8]) -> Result<Result<Query, QueryFault>, AllocError>
     ensures { IfOk result (λ read. read ≡ query_of text.now) }
 {
@@ -150,9 +150,9 @@ fn read(alloc: Global, text: &[u8]) -> Result<Result<Query, QueryFault>, AllocEr
     }
 }
 
-/// The query that a text is, or its first fault: `TooLarge` where an integer may stand and this one's size is wrong; `NoTime` behind
-/// the table and before the end of the range; `Syntax` elsewhere. `NoMemory` may come at any place. The memory that is taken beside
-/// the query grows with the longest token alone.
+/// Reads a text as a query, or gives its first fault. `TooLarge`: an integer may stand there, and this one's size is
+/// wrong. `NoTime`: the fault is after the table and before the end of the range. `Syntax`: elsewhere. `NoMemory` may
+/// come at any place. Beside the query it takes memory that grows with the longest token alone.
 #[tactic(auto, using(crate::proofs::Meaning::read_query))]
 pub fn parse(alloc: Global, text: &[u8]) -> Result<Query, QueryFault>
     ensures exact { result ≢ Err fault.NoMemory → result ≡ query_of text.now }

@@ -10,7 +10,7 @@ use leaf_model::{MAX_NAME, Op, Text, Value, is_table_name};
 /// The greatest limit.
 const MAX_LIMIT: i64 = 100_000;
 
-/// A word that no plain name may be.
+/// Whether the word is reserved, so that no plain name may be it.
 pub fn is_reserved(word: &str) -> bool
     ensures { result ≡ is_keyword word.now }
 {
@@ -33,7 +33,7 @@ pub fn is_reserved(word: &str) -> bool
     )
 }
 
-/// That very word, which is not quoted.
+/// Whether the token is this word, without quotes.
 pub fn is_the_word(token: &Token, word: &str) -> bool
     ensures { result ≡ is_word word.now token.now }
 {
@@ -43,7 +43,7 @@ pub fn is_the_word(token: &Token, word: &str) -> bool
     }
 }
 
-/// A word of at most 255 bytes that is no keyword, or a quoted name.
+/// The name that a token gives: a word of at most 255 bytes that is no keyword, or a quoted name.
 pub fn take_name(token: Token) -> Option<Text>
     ensures { result ≡ name_of token }
 {
@@ -73,7 +73,7 @@ fn kind_named(word: &str) -> Option<Kind>
     }
 }
 
-/// The kind of aggregate that a word begins.
+/// The kind of aggregate that the token begins.
 pub fn kind_in(token: &Token) -> Option<Kind>
     ensures { result ≡ kind_of token.now }
 {
@@ -83,7 +83,7 @@ pub fn kind_in(token: &Token) -> Option<Kind>
     }
 }
 
-/// A word that fits a table's name.
+/// The table that a token names: a word that may be a table's name.
 pub fn take_table(token: Token) -> Option<Text>
     ensures { result ≡ table_of token }
 {
@@ -138,7 +138,7 @@ pub fn op_in(token: &Token) -> Option<Op>
     }
 }
 
-/// An integer that is an i64.
+/// The integer of a token, if it is an i64.
 pub fn number_in(token: &Token) -> Option<i64>
     ensures { result ≡ int_of token.now }
 {
@@ -178,7 +178,7 @@ pub fn is_has(op: Op) -> bool
     }
 }
 
-/// What a comparison is with: HAS takes a text, and every other one an integer or a text.
+/// The constant of a comparison: HAS takes a text, and every other operator an integer or a text.
 pub fn take_const_for(op: Op, token: Token) -> Option<Value>
     ensures { result ≡ const_for op token }
 {
@@ -189,7 +189,7 @@ pub fn take_const_for(op: Op, token: Token) -> Option<Value>
     }
 }
 
-/// 0 to 100,000.
+/// The limit that a token gives: 0 to 100,000.
 pub fn limit_in(token: &Token) -> Option<u32>
     ensures { result ≡ limit_from (int_of token.now) }
 {

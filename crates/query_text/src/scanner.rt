@@ -77,7 +77,7 @@ fn mark(token: Token) -> Found
     Found { token, more: 0 }
 }
 
-/// One mark, or two where the second is `=`.
+/// The token of one mark, or of two if the second is `=`.
 fn pair_found(alone: Token, both: Token, rest: &[u8]) -> Found
     ensures value { result ≡ pair_token alone both rest.now }
     ensures long { result.more ≤ length rest.now }

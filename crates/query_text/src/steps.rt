@@ -27,7 +27,7 @@ fn on_when(is_so: bool, query: Query, place: Place) -> Move
     }
 }
 
-/// On where the token is that word.
+/// Goes on at `place` if the token is this word.
 fn on_word(query: Query, token: Token, word: &str, place: Place) -> Move
     ensures { result ≡ on_if (is_word word.now token) query place }
 {
@@ -44,7 +44,7 @@ fn order_here(query: Query, token: &Token) -> Move
     }
 }
 
-/// The place of the aggregate in ORDER BY.
+/// Takes the inside of the aggregate in ORDER BY, which has to be a selected one.
 fn order_inside(query: Query, kind: Kind, token: Token) -> Move
     ensures { result ≡ goes_on query (OrderInside kind) token }
 {
@@ -128,7 +128,7 @@ fn table(query: Query, token: Token) -> Move
     }
 }
 
-/// `>=` before the low bound, `<=` before the high one.
+/// Whether the comparison is `>=` before the low bound, or `<=` before the high one.
 fn is_sign(op: Option<Op>, is_low: bool) -> bool
     ensures { result ≡ sign_fits is_low op }
 {
@@ -215,7 +215,7 @@ fn cond_value(query: Query, name: Text, op: Op, token: Token) -> Result<Move, Al
     }
 }
 
-/// The selected name at that place.
+/// Whether the token is the selected name at this place.
 fn is_selected(keys: &[Text], i: u64, token: Token) -> bool
     ensures { result ≡ is_key (slice_get keys.now i) (name_of token) }
 {

@@ -17,11 +17,11 @@ pub enum Token {
     Close,
     Star,
     Compare(Op),
-    /// A byte that begins no token.
+    /// The token of a byte that begins no other.
     Stray,
 }
 
-/// A token, and how many bytes it takes behind its first.
+/// A token, and the number of its bytes after its first.
 #[derive(Drop)]
 pub struct Found {
     pub token: Token,

@@ -15,7 +15,7 @@ use Rattle.region_inspect.specs.declared.seen.BlockLine.{BlockLine}
 use Rattle.region_inspect.specs.declared.seen.TableLine.{TableLine}
 use Rattle.region_inspect.specs.Shows.{ShowsBlock, ShowsTable}
 
--- it keeps its own rules, and the lengths of its columns together are a u64
+-- a block keeps its rules, and the total length of its columns fits a u64
 pub record IsSmall (b : BlockPlaces) : Type 0 where
   pub is : IsBlockPlaces b
   pub size : sum (map (λ (p : Place). p.length) b.columns) < 2 ^ 64
@@ -27,7 +27,7 @@ blocks_in region bs = map (block_in region) bs
 abbrev pub HasKinds : ℕ → Block → Type 0
 HasKinds version b = AllByRecursion (λ (c : BlockColumn). allows version (kind_in c.bytes) ≡ true) b.columns
 
--- the first ones of these blocks have lines, and so many of their rows are live
+-- a prefix of the blocks has lines, with so many live rows
 pub record SoFar (version : ℕ) (region : List ℕ) (all : List BlockPlaces) (skip : ℕ) (h : ℤ) (lines : List BlockLine) (live cut : ℕ) (rest : List BlockPlaces) : Type 0 where
   pub done : List BlockPlaces
   pub split : done ++ rest ≡ all
@@ -52,7 +52,7 @@ abbrev pub CutsInside : ℕ → List BlockPlaces → Type 0
 CutsInside cut [] = ⊤
 CutsInside cut (b ∷ bs) = cut ≤ b.rows
 
--- a table keeps its own rules, and its blocks are small
+-- a table keeps its rules, and its blocks are small
 pub record IsSmallTable (t : TablePlaces) : Type 0 where
   pub is : IsTablePlaces t
   pub small : AllByRecursion IsSmall t.blocks
@@ -66,7 +66,7 @@ pub record TableIs (version : ℕ) (region : List ℕ) (t : TablePlaces) (line :
 abbrev pub IsNone : ℕ → List ℕ → TablePlaces → Type 0
 IsNone version region t = IsTableIn version region t → ⊥
 
--- the first ones of these tables have lines
+-- a prefix of the tables has lines
 pub record TablesSoFar (version : ℕ) (region : List ℕ) (all : List TablePlaces) (lines : List TableLine) (rest : List TablePlaces) : Type 0 where
   pub done : List TablePlaces
   pub split : done ++ rest ≡ all

@@ -16,14 +16,14 @@ use Rattle.region_inspect.specs.declared.seen.TableLine.{TableLine}
 use Rattle.region_inspect.specs.declared.seen.Seen.{Seen}
 use Rattle.region_inspect.specs.declared.seen.Seen.TheVariants as seen
 
--- of a block its rows, columns and their bytes, by the directory; and the least and the greatest time of all its rows
+-- a block's numbers of rows, columns and bytes, by the directory, and the least and the greatest time of all its rows
 pub record ShowsBlock (region : List ℕ) (b : BlockPlaces) (line : BlockLine) : Type 0 where
   pub rows : line.rows ≡ b.rows
   pub times : IsRange (times_of (rows_in (block_in region b))) line.from line.to
   pub columns : line.columns ≡ length b.columns
   pub bytes : line.bytes ≡ sum (map (λ (p : Place). p.length) b.columns)
 
--- of a table how many rows it has, and each of its blocks
+-- a table's number of rows, and each of its blocks
 pub record ShowsTable (region : List ℕ) (t : TablePlaces) (line : TableLine) : Type 0 where
   pub name : line.name ≡ t.name
   pub rows : line.rows ≡ length (rows_held (parts_in region t).blocks [] t.skip t.horizon)

@@ -1,4 +1,4 @@
-// A table block by block.
+// Looks at a table block by block.
 ghost use Rattle.std.specs.Prelude.{◌≡◌, ◌<◌, ◌≤◌, ◌^◌, None, IfOk, IfSome, IsTrue, Err, length, map};
 ghost use Rattle.std.specs.List.{AllByRecursion, list_all, sum};
 ghost use Rattle.berth_face.specs.Causes.{Rose};
@@ -25,14 +25,14 @@ use std::alloc::Global;
 use std::collections::VecDeque;
 use table_state::MOST_ROWS;
 
-/// How many columns a block has, and how many bytes those.
+/// The number of columns of a block, and of their bytes.
 #[derive(Clone, Copy)]
 struct Size {
     columns: u32,
     bytes: u64,
 }
 
-/// The lines of a table's blocks, and how many rows it has.
+/// The lines of a table's blocks, and its number of rows.
 #[derive(Drop)]
 pub struct Counted {
     pub rows: u64,
@@ -94,8 +94,8 @@ fn are_allowed(version: u32, columns: &[BlockColumn]) -> bool
         .all(|column| allows(version, kind_in(column.bytes.as_slice())))
 }
 
-/// The blocks at these places, of which one is held at a time. None exactly where one breaks a rule of blocks, has a column of a kind that the version does not allow, or more
-/// than 2^40 rows are live.
+/// Looks at the blocks at these places, and holds one at a time. None if and only if one breaks a rule of blocks, one
+/// has a column of a kind that the version does not allow, or more than 2^40 rows are live.
 pub fn inspect_blocks<B: Berth>(
     alloc: Global,
     version: u32,

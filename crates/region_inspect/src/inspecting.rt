@@ -17,7 +17,7 @@ use region_layout::{Directory, Head, reads};
 use region_reading::{Front, LookFault, Looked, look, read_front};
 use std::alloc::Global;
 
-/// The tables of a region with this directory.
+/// Looks at the tables of a region with this directory.
 fn inspect_image<B: Berth>(
     alloc: Global,
     version: u32,
@@ -40,7 +40,7 @@ fn inspect_image<B: Berth>(
     }
 }
 
-/// A region of this version, which has these first bytes.
+/// Looks at a region of this version whose first bytes are these.
 fn inspect_version<B: Berth>(
     alloc: Global,
     version: u32,

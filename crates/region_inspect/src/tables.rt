@@ -1,4 +1,4 @@
-// Tables one after another.
+// Looks at tables one after another.
 ghost use Rattle.std.specs.Prelude.{◌≡◌, None, IfOk, IfSome, IsTrue, Err};
 ghost use Rattle.std.specs.List.{AllByRecursion, AllZip};
 ghost use Rattle.berth_face.specs.Causes.{Rose};
@@ -15,7 +15,7 @@ use region_reading::LookFault;
 use std::alloc::Global;
 use std::collections::VecDeque;
 
-/// The table at these places. None exactly where it breaks a rule.
+/// Looks at the table at these places. None if and only if it breaks a rule.
 fn inspect_table<B: Berth>(
     alloc: Global,
     version: u32,
@@ -47,7 +47,7 @@ fn inspect_table<B: Berth>(
     }
 }
 
-/// The tables at these places. None exactly where one of them breaks a rule.
+/// Looks at the tables at these places. None if and only if one of them breaks a rule.
 pub fn inspect_tables<B: Berth>(
     alloc: Global,
     version: u32,

@@ -128,7 +128,7 @@ fn head_of(alloc: Global, leaf: u32) -> Result<Vec<u8>, AllocError>
     Ok(text.into_bytes())
 }
 
-/// The lines of the region of a leaf, or that its berth failed.
+/// The lines that `inspect` prints of a leaf. `None` says that its berth failed.
 pub fn region_lines(alloc: Global, leaf: u32, told: Option<&Seen>) -> Result<Vec<u8>, AllocError>
     ensures { IfOk result (λ bytes. bytes.items ≡ region_text leaf (option_map (λ s. s.now) told.entry)) }
 {

@@ -33,7 +33,7 @@ block_at bytes = do
   if (rows.0 == 0) || (nat_lt 65536 rows.0 || (count.0 == 0)) then None
       else (many_at place_at count.0 count.1 >>= λ columns. Some (record { rows = rows.0; columns = columns.0 }, columns.1))
 
--- a name, a horizon, how many writes, how many rows are cut away, and the blocks behind their number
+-- a name, a horizon, the number of writes, the number of rows that are cut off, the number of blocks, and the blocks
 unfoldable pub table_at : List ℕ → Option (TablePlaces × List ℕ)
 table_at bytes = do
   name ← name_at bytes
@@ -44,7 +44,7 @@ table_at bytes = do
   blocks ← many_at block_at count.0 count.1
   Some (record { name = name.0; horizon = horizon.0; writes = writes.0; skip = skip.0; blocks = blocks.0 }, blocks.1)
 
--- the log's end, at most 16 tables behind their number, and nothing after them
+-- the log's end, the number of tables, at most 16, and the tables; nothing follows
 unfoldable pub directory_at : List ℕ → Option Directory
 directory_at bytes = do
   log_end ← below_2_63_at bytes
@@ -54,7 +54,8 @@ directory_at bytes = do
 
 -- ---- the rules that a directory keeps by itself
 
--- the times first, and behind them no name falls; two columns of one name have two kinds, which the columns tell
+-- the column of times comes first, and after it names never fall; two columns of one name have two kinds, which the
+-- columns tell
 abbrev pub AreColumns : List Place → Type 0
 AreColumns [] = ⊥
 AreColumns (times ∷ others) = (times.name ≡ time_name) × AllByRecursion (λ (p : Place). IsCellName p.name) others × IsSortedByKey (λ (p : Place). p.name) text_cmp others
@@ -66,7 +67,7 @@ pub record IsBlockPlaces (b : BlockPlaces) : Type 0 where
   pub count : prelude.length b.columns < 2 ^ 32
   pub columns : AreColumns b.columns
 
--- fewer rows are cut away than the first block has, and none where there is no block
+-- fewer rows are cut off than the first block has, and none if there is no block
 abbrev pub IsSkipOf : ℕ → List BlockPlaces → Type 0
 IsSkipOf skip [] = skip ≡ 0
 IsSkipOf skip (b ∷ blocks) = skip < b.rows
@@ -80,7 +81,7 @@ pub record IsTablePlaces (t : TablePlaces) : Type 0 where
   pub count : prelude.length t.blocks < 2 ^ 32
   pub blocks : AllByRecursion IsBlockPlaces t.blocks
 
--- each column stands where the one before ends
+-- each column begins where the one before it ends
 abbrev pub Joined : ℕ → List Place → ℕ → Type 0
 Joined from [] to = from ≡ to
 Joined from (p ∷ rest) to = (p.place ≡ from) × Joined (from + p.length) rest to
@@ -89,7 +90,8 @@ Joined from (p ∷ rest) to = (p.place ≡ from) × Joined (from + p.length) res
 abbrev pub columns_of : Directory → List Place
 columns_of d = flat_map (λ (t : TablePlaces). flat_map (λ (b : BlockPlaces). b.columns) t.blocks) d.tables
 
--- The directory stands at a place below 2^64: the columns go from the head up to it. At most 16 tables of distinct names, and an end of the log below 2^63.
+-- the directory stands at a place below 2^64, and the columns fill the region from the head up to it; at most 16 tables
+-- of distinct names; the log's end is below 2^63
 pub record IsDirectory (place : ℕ) (d : Directory) : Type 0 where
   pub low : place < 2 ^ 64
   pub log_end : d.log_end < 2 ^ 63

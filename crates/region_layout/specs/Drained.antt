@@ -38,7 +38,7 @@ directory_length tables = 9 + sum (map table_entry tables)
 abbrev pub image_length : List DrainTable → ℕ
 image_length tables = 16 + length (joined (all_columns tables)) + directory_length tables
 
--- a directory has no place for one of its numbers
+-- a number of the table does not fit its field in a directory
 abbrev pub is_wide : DrainTable → Bool
 is_wide t = nat_le (2 ^ 32) (length t.parts.blocks) || (nat_le (2 ^ 63) t.parts.writes || list_any (λ (b : Block). nat_le (2 ^ 32) (length b.columns)) t.parts.blocks)
 

@@ -6,12 +6,12 @@ use Rattle.table_state.specs.Tables.{added_count}
 use Rattle.region_layout.specs.Images.{TableImage}
 use Rattle.region_layout.specs.Images.{contents_of, table_named}
 
--- the table of that name in an image has these writes, and at most a column for each row and each cell that they add
+-- the table in an image comes of these writes, and has at most one column for each row and each cell that they add
 pub record IsImageOf (writes : List Write) (t : TableImage) : Type 0 where
   pub contents : contents_of t ≡ content writes
   pub count : t.writes ≡ length writes
   pub few : t.columns ≤ added_count writes
 
--- an image has just these writes of each name
+-- for each name an image has the table of these writes
 abbrev pub AreImagesOf : (List ℕ → List Write) → List TableImage → Type 0
 AreImagesOf writes images = (name : List ℕ) → IsImageOf (writes name) (table_named images name)

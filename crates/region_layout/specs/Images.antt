@@ -7,7 +7,8 @@ use Rattle.leaf_model.specs.Content.{Contents}
 use Rattle.row_blocks.specs.Held.{columns_count}
 use Rattle.table_state.specs.Tables.{HeldTables, Table, no_store}
 
--- one table of an image: its name, the least time of a row, how many writes it accepted, its rows, and how many columns these stand in
+-- a table of an image: its name, its horizon, the number of writes that it accepted, its rows, and the number of
+-- columns that hold them
 pub record TableImage : Type 0 where
   pub name : List ℕ
   pub horizon : ℤ
@@ -45,10 +46,10 @@ is_named name t = bytes_eq t.name name
 abbrev pub table_named : List TableImage → List ℕ → TableImage
 table_named images name = unwrap_or (find (is_named name) images) (empty_image name)
 
--- for each name the table of an image, in the order of the names
+-- the table of an image for each name, in the order of the names; an empty one if the image has none
 abbrev pub tables_of : List (List ℕ) → List TableImage → List Table
 tables_of names images = map (λ name. table_of (table_named images name)) names
 
--- the same, with how many columns each has
+-- the same, with the number of columns of each
 abbrev pub held_of : List (List ℕ) → List TableImage → HeldTables
 held_of names images = record { each = tables_of names images; columns = map (λ name. (table_named images name).columns) names }

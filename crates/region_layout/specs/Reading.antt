@@ -1,4 +1,4 @@
--- Reading from left to right: a field is a value and the bytes after it, or nothing.
+-- Reading from left to right. A field is a value and the bytes after it, or None.
 use Rattle.std.specs.Prelude.{ℕ, ◌^◌, List, nat_lt, if◌then◌else◌, Option, Some, None}
 use Rattle.std.specs.Int.{w64}
 use Rattle.leaf_model.specs.Reading.{◌>>=◌, number_at}

@@ -31,23 +31,23 @@ layout = 3
 abbrev pub reads : ℕ → Bool
 reads version = version == 2 || version == 3
 
--- the kinds of columns that an image of a version may have: sets stand in none before version 3
+-- the kinds of columns that an image of a version may have: no sets before version 3
 abbrev pub allows : ℕ → Kind → Bool
 allows version Ints = true
 allows version Texts = true
 allows version Sets = nat_lt 2 version
 
--- the bytes mean so many cells, of a kind that the version allows
+-- the bytes mean n cells, of a kind that the version allows
 abbrev pub MeanIn : ℕ → List ℕ → ℕ → Type 0
 MeanIn version bytes n = MeanCells bytes n × (allows version (kind_in bytes) ≡ true)
 
 -- ---- the parts of a region
 
--- where its directory stands
+-- the place of the directory, as the head tells it
 abbrev pub directory_from : List ℕ → ℕ
 directory_from region = from_le_bytes w64 (take 8 (drop 8 region))
 
--- the bytes that stand at a place of a region, under the column's name
+-- the column whose name and place these are, with its bytes in the region
 abbrev pub column_in : List ℕ → Place → BlockColumn
 column_in region p = record { name = p.name; bytes = slice_range region p.place (p.place + p.length) }
 
@@ -70,14 +70,15 @@ pub record IsTableIn (version : ℕ) (region : List ℕ) (t : TablePlaces) : Typ
 
 -- ---- an image of a version
 
--- an open head of a version, the letters, and behind the columns the bytes of a directory that keeps its own rules
+-- the region has an open head of this version, the letters, and after the columns the bytes of this directory, which
+-- keeps its rules
 pub record HasDirectory (version : ℕ) (region : List ℕ) (d : Directory) : Type 0 where
   pub head : head_of region ≡ Version version
   pub letters : take 3 (drop 1 region) ≡ codes "SCB"
   pub bytes : drop (directory_from region) region ≡ directory_bytes d
   pub itself : IsDirectory (directory_from region) d
 
--- these tables and this end of the log
+-- the region is an image, of this version, of these tables and this end of the log
 pub record IsImage (version : ℕ) (region : List ℕ) (tables : List TableImage) (log_end : ℕ) : Type 0 where
   pub directory : Directory
   pub has : HasDirectory version region directory

@@ -1,4 +1,4 @@
--- The rules of a directory as tests, so that code can answer them.
+-- The rules of a directory as tests, which code computes.
 use Rattle.std.specs.Prelude.{ℕ, ◌+◌, ◌^◌, List, [], ◌∷◌, map, Bool, true, false, not, ◌&&◌, ◌==◌, nat_lt, nat_le, if◌then◌else◌, Option, Some, None}
 use Rattle.std.specs.Prelude as prelude
 use Rattle.std.specs.List.{list_all}
@@ -19,7 +19,7 @@ use Rattle.region_layout.specs.declared.directory.Directory.{Directory}
 abbrev pub has_cell_name : Place → Bool
 has_cell_name p = nat_lt 0 (prelude.length p.name) && (nat_le (prelude.length p.name) 255 && not (bytes_eq p.name time_name))
 
--- no name falls, behind a last one
+-- no name is below the one before it, nor the first below `last`
 abbrev pub do_not_fall : List ℕ → List Place → Bool
 do_not_fall last [] = true
 do_not_fall last (p ∷ rest) = not (is_gt (text_cmp last p.name)) && do_not_fall p.name rest
@@ -48,7 +48,7 @@ is_table_places t = is_skip_of t.skip t.blocks && list_all has_columns t.blocks
 
 -- ---- places
 
--- where things end that begin here one after another, where each step is possible
+-- the place where the things end that begin here and follow one another, if each step is possible
 abbrev pub end_by : {A : Type 0} → (ℕ → A → Option ℕ) → ℕ → List A → Option ℕ
 end_by step from [] = Some from
 end_by step from (x ∷ xs) = step from x >>= λ next. end_by step next xs

@@ -16,15 +16,15 @@ use Rattle.region_layout.specs.declared.directory.Directory.{Directory}
 unfoldable pub place_bytes : Place → List ℕ
 place_bytes p = name_bytes p.name ++ (u64_bytes p.place ++ u64_bytes p.length)
 
--- a block: its number of rows, and its columns behind their number
+-- a block: its number of rows, its number of columns, and the columns
 unfoldable pub block_bytes : BlockPlaces → List ℕ
 block_bytes b = u32_bytes b.rows ++ (u32_bytes (prelude.length b.columns) ++ flat_map place_bytes b.columns)
 
--- a table: its name, horizon, number of writes and skip, and its blocks behind their number
+-- a table: its name, horizon, number of writes, skip, number of blocks, and the blocks
 unfoldable pub table_bytes : TablePlaces → List ℕ
 table_bytes t = name_bytes t.name ++ (i64_bytes t.horizon ++ (u64_bytes t.writes ++ (u32_bytes t.skip ++ (u32_bytes (prelude.length t.blocks) ++ flat_map block_bytes t.blocks))))
 
--- the log's end, and the tables behind their number
+-- the log's end, the number of tables, and the tables
 unfoldable pub directory_bytes : Directory → List ℕ
 directory_bytes d = u64_bytes d.log_end ++ (prelude.length d.tables ∷ flat_map table_bytes d.tables)
 
@@ -51,7 +51,7 @@ pub record TableFits (t : TablePlaces) : Type 0 where
   pub count : prelude.length t.blocks < 2 ^ 32
   pub each : AllByRecursion BlockFits t.blocks
 
--- at most 16 tables, and an end of the log below 2^63: all that has been read is so
+-- at most 16 tables, and an end of the log below 2^63; each directory that was read is so
 pub record MayBeWritten (d : Directory) : Type 0 where
   pub log_end : d.log_end < 2 ^ 63
   pub few : prelude.length d.tables ≤ 16

@@ -12,7 +12,7 @@ use row_records::ReadError;
 use std::alloc::{AllocError, Global};
 use std::marker::Model;
 
-/// A column: its name, where its bytes begin in the region, and how many there are.
+/// A column: its name, the place in the region where its bytes begin, and their number.
 #[derive(Drop)]
 pub struct Place {
     pub name: Text,
@@ -55,7 +55,7 @@ impl Places {
     }
 }
 
-/// A block: how many rows it has, 1 to 65,536, and its columns.
+/// A block: its number of rows, 1 to 65,536, and its columns.
 #[derive(Drop)]
 pub struct BlockPlaces {
     pub rows: u32,
@@ -97,7 +97,8 @@ impl BlockPlacesList {
     }
 }
 
-/// A table: its horizon from 0 to 2^63 - 1, how many writes it accepted, below 2^63, how many rows of the first block are cut away, and its blocks.
+/// A table: its horizon, 0 to 2^63 - 1; the number of writes that it accepted, below 2^63; the number of rows that are
+/// cut off its first block; and its blocks.
 #[derive(Drop)]
 pub struct TablePlaces {
     pub name: Text,
@@ -142,7 +143,7 @@ impl TablePlacesList {
     }
 }
 
-/// The directory of a region: where the log ended, below 2^63, and the tables, whose names are distinct.
+/// The directory of a region: the place where the log ended, below 2^63, and the tables, whose names are distinct.
 #[derive(Drop)]
 pub struct Directory {
     pub log_end: u64,
@@ -150,7 +151,7 @@ pub struct Directory {
 }
 
 impl Directory {
-    /// The directory that the bytes are which stand at this place, or nothing where they are none.
+    /// Reads all of the bytes as a directory that stands at this place of a region. None if they are none.
     pub fn read(alloc: Global, bytes: &[u8], place: u64) -> Result<Option<Directory>, AllocError>
         ensures found { IfOk result (λ found. IfSome found (λ d. (bytes.now ≡ directory_bytes d) × IsDirectory place d)) }
         ensures only { (d : Directory) → bytes.now ≡ directory_bytes d → IsDirectory place d → IfOk result (λ found. found ≡ Some d) }
@@ -164,7 +165,7 @@ impl Directory {
         }
     }
 
-    /// Its bytes. All that `read` gives may be written.
+    /// The directory as bytes, which `read` takes. Each directory that `read` gives may be written.
     pub fn write(&self, alloc: Global) -> Result<Vec<u8>, AllocError>
         requires fits { MayBeWritten self.now }
         ensures bytes { IfOk result (λ bytes. bytes.items ≡ directory_bytes self.now) }
@@ -176,7 +177,7 @@ impl Directory {
     }
 }
 
-/// The directory, where it keeps its rules at this place.
+/// The directory, if it keeps its rules at this place.
 fn kept(directory: Directory, place: u64) -> Option<Directory>
     ensures { result ≡ (if is_directory place directory then Some directory else None) }
 {

@@ -1,4 +1,4 @@
-// Reading a directory, field by field from the left: each field is a value and the bytes after it.
+// Reads a directory from the left. Each reader of a field gives its value and the bytes after it.
 ghost use Rattle.std.specs.Prelude.{◌≡◌, ◌*◌, ◌<◌, length, Err};
 ghost use Rattle.std.specs.Int.{w32};
 ghost use Rattle.row_records.specs.declared.fault.ReadError.TheVariants.{Broken};
@@ -13,10 +13,10 @@ use crate::directory::{
 use row_records::{ReadError, name_of, time_of, u8_at, u64_at};
 use std::alloc::Global;
 
-/// How many bytes a column takes at least.
+/// The least number of bytes that a column takes.
 const PLACE_BYTES: usize = 17;
 
-/// How many bytes a block takes at least, with its one column.
+/// The least number of bytes that a block takes, with its one column.
 const BLOCK_BYTES: usize = 25;
 
 fn u32_at(bytes: &[u8]) -> Result<(u32, &[u8]), ReadError>
@@ -70,7 +70,7 @@ fn places_of(alloc: Global, count: u32, bytes: &[u8]) -> Result<(Vec<Place>, &[u
     Ok((places, rest))
 }
 
-/// So many columns; a number that is too great for the bytes takes no memory.
+/// Reads `count` columns. A count that is too great for the bytes takes no memory.
 fn places_in_front(
     alloc: Global,
     count: u32,
@@ -116,7 +116,7 @@ fn blocks_of(
     Ok((blocks, rest))
 }
 
-/// So many blocks; a number that is too great for the bytes takes no memory.
+/// Reads `count` blocks. A count that is too great for the bytes takes no memory.
 fn blocks_in_front(
     alloc: Global,
     count: u32,

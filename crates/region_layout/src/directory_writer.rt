@@ -1,4 +1,4 @@
-// A directory as bytes, at the end of what was written before.
+// Appends a directory to what was written before.
 ghost use Rattle.std.specs.Prelude.{◌≡◌, ◌≤◌, ◌++◌, length, OnOk};
 ghost use Rattle.std.specs.List.{flat_map, AllByRecursion};
 ghost use Rattle.leaf_model.specs.Bytes.{name_bytes, i64_bytes, u32_bytes, u64_bytes};
@@ -73,7 +73,7 @@ fn put_blocks(out: &mut Vec<u8>, blocks: &[BlockPlaces]) -> Result<(), AllocErro
     Ok(())
 }
 
-/// The fields in front of the skip.
+/// Appends the fields of a table that come before the skip.
 fn put_table_head(out: &mut Vec<u8>, table: &TablePlaces) -> Result<(), AllocError>
     requires { TableFits table.now }
     ensures { OnOk result (out.new.items ≡ out.old.items ++ (name_bytes table.now.name ++ (i64_bytes table.now.horizon ++ u64_bytes table.now.writes))) }

@@ -13,7 +13,7 @@ pub enum Head {
     Version(u32),
 }
 
-/// Reads the head; only the flag and the version are looked at.
+/// Reads the head. It looks at the flag and the version alone, not at the letters.
 pub fn read_head(bytes: &[u8]) -> Head
     ensures { result ≡ head_of bytes.now }
 {
@@ -26,7 +26,7 @@ pub fn read_head(bytes: &[u8]) -> Head
     Head::Version(u32::from_le_bytes([bytes[4], bytes[5], bytes[6], bytes[7]]))
 }
 
-/// What follows the flag in an open head.
+/// The 15 bytes that follow the flag in an open head.
 pub fn head_rest(version: u32, directory: u64) -> [u8; 15]
     ensures { 1 ∷ result ≡ head_bytes version directory }
 {

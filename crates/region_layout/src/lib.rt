@@ -1,4 +1,4 @@
-//! What a region means: its head, the columns behind it, and behind these a directory of the tables, blocks and columns.
+//! What a region means: its head, the columns after it, and then a directory of the tables, blocks and columns.
 #![tactic(auto)]
 
 mod directory;

@@ -45,7 +45,7 @@ fn do_not_fall(places: &[Place]) -> bool
     true
 }
 
-/// Whether the times stand first, and behind them columns of cells in their order.
+/// Whether the column of times stands first, and the columns of cells follow in their order.
 fn are_columns(columns: &[Place]) -> bool
     ensures { result ≡ are_columns columns.now }
 {
@@ -65,7 +65,7 @@ fn have_columns(blocks: &[BlockPlaces]) -> bool
         .all(|block| are_columns(block.columns.as_slice()))
 }
 
-/// Whether the rows that are cut away are fewer than the first block has; none where there is no block.
+/// Whether fewer rows are cut off than the first block has, or none if there is no block.
 fn is_skip_of(skip: u32, blocks: &[BlockPlaces]) -> bool
     ensures { result ≡ is_skip_of skip blocks.now }
 {
@@ -95,7 +95,7 @@ fn has_name(tables: &[TablePlaces], name: &str) -> bool
     tables.iter().any(|table| table.name.as_str() == name)
 }
 
-/// Whether no name stands twice.
+/// Whether the names of the tables are distinct.
 fn are_distinct(tables: &[TablePlaces]) -> bool
     ensures { result ≡ are_distinct (table_names tables.now) }
 {
@@ -105,7 +105,7 @@ fn are_distinct(tables: &[TablePlaces]) -> bool
     }
 }
 
-/// Where a column ends that begins here.
+/// The place where a column ends that begins at `from`.
 fn end_of_place(from: u64, place: &Place) -> Option<u64>
     ensures { result ≡ end_of_place from place.now }
 {
@@ -146,7 +146,8 @@ fn end_of_tables(from: u64, tables: &[TablePlaces]) -> Option<u64>
     Some(at)
 }
 
-/// Whether the columns fill the region from the head to this place, and all names may stand where they do.
+/// Whether the directory keeps its rules at this place: the columns fill the region from the head up to it, and names
+/// and numbers are allowed.
 pub(crate) fn is_directory(directory: &Directory, place: u64) -> bool
     ensures { result ≡ is_directory place directory.now }
 {

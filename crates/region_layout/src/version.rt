@@ -7,14 +7,14 @@ use column_bytes::Kind;
 /// The version that a drain writes.
 pub const LAYOUT: u32 = 3;
 
-/// Whether a start adopts images of that version.
+/// Whether a start adopts images of this version.
 pub fn reads(version: u32) -> bool
     ensures { result ≡ reads version }
 {
     version == 2 || version == LAYOUT
 }
 
-/// Whether an image of that version may have columns of a kind.
+/// Whether an image of this version may have columns of this kind.
 pub fn allows(version: u32, kind: Kind) -> bool
     ensures { result ≡ allows version kind }
 {

@@ -15,7 +15,7 @@ use row_blocks::{BlockColumn, BlockColumns, BlockFault, ColumnBytes, RowBlock};
 use std::alloc::Global;
 use std::collections::VecDeque;
 
-/// The column whose bytes stand at this place.
+/// Reads the column whose bytes stand at this place.
 fn read_column<B: Berth>(
     alloc: Global,
     place: Place,
@@ -32,7 +32,7 @@ fn read_column<B: Berth>(
     })
 }
 
-/// The columns whose bytes stand at these places.
+/// Reads the columns whose bytes stand at these places.
 fn read_columns<B: Berth>(
     alloc: Global,
     places: Vec<Place>,
@@ -50,7 +50,7 @@ fn read_columns<B: Berth>(
     Ok(columns)
 }
 
-/// The block whose columns stand at these places: None exactly where they break a rule of blocks.
+/// Reads the block whose columns stand at these places. None if and only if they break a rule of blocks.
 pub fn read_block<B: Berth>(
     alloc: Global,
     places: BlockPlaces,

@@ -20,7 +20,7 @@ fn has_letters(front: &[u8; 16]) -> bool
     &front[1..4] == b"SCB".as_slice()
 }
 
-/// Where a head says that the directory stands.
+/// The place of the directory, as the head tells it.
 fn directory_place(front: &[u8; 16]) -> u64
     ensures { result ≡ from_le_bytes w64 (take 8 (drop 8 front.now)) }
 {
@@ -30,7 +30,8 @@ fn directory_place(front: &[u8; 16]) -> u64
     }
 }
 
-/// Where a head with the letters says that the directory stands, behind itself.
+/// The place of the directory that a head with the letters tells. None without the letters, or if the place is within
+/// the head.
 fn told_place(front: &[u8; 16]) -> Option<u64>
     ensures some { IfSome result (TellsPlace front.now) }
     ensures none { (place : ℕ) → TellsPlace front.now place → IsSome result }
@@ -46,7 +47,7 @@ fn told_place(front: &[u8; 16]) -> Option<u64>
     }
 }
 
-/// The bytes from a place to the region's end, and how long the region is.
+/// Reads the bytes from a place to the region's end, and tells the region's length.
 #[tactic(auto, using(crate::proofs::Reading::untouched_on))]
 fn read_behind<B: Berth>(
     alloc: Global,
@@ -62,7 +63,7 @@ fn read_behind<B: Berth>(
     Ok((bytes, len))
 }
 
-/// The directory that the bytes are which stand at this place.
+/// Reads the bytes as a directory that stands at this place.
 fn directory_in(alloc: Global, bytes: &[u8], place: u64) -> Result<Option<Directory>, AllocError>
     ensures there { IfOk result (IsThere place bytes.now) }
     ensures read { IfOk result (λ found. IfSome found (IsRead place)) }
@@ -70,7 +71,7 @@ fn directory_in(alloc: Global, bytes: &[u8], place: u64) -> Result<Option<Direct
     Directory::read(alloc, bytes, place)
 }
 
-/// The directory that stands at a place.
+/// Reads the directory that stands at a place and ends where the region does. None if there is none.
 pub fn look_at<B: Berth>(
     alloc: Global,
     place: u64,
@@ -92,7 +93,8 @@ pub fn look_at<B: Berth>(
     }
 }
 
-/// The directory of a region that has these first bytes. Its flag may have been closed since they were read.
+/// Reads the directory of a region whose first 16 bytes were these. Its flag may have been closed since they were read.
+/// None if the region has no directory.
 pub fn look<B: Berth>(
     alloc: Global,
     front: &[u8; 16],

@@ -5,10 +5,14 @@ ghost use Rattle.leaf_model.specs.Values.{IsRow};
 ghost use Rattle.region_layout.specs.Names.{IsName};
 ghost use Rattle.table_state.specs.Tables.{IsParts};
 
-use leaf_model::{Cell, PackedRows, Row, Rows, Text, Value, Write};
+use column_bytes::{ColumnView, ValueRef};
+use leaf_model::{PackedRows, Rows, Steps, Text, Write};
 use region_layout::DrainTable;
+use row_blocks::BlockColumn;
 use row_records::read_rows;
 use std::alloc::{AllocError, Global};
+use std::marker::Brand;
+use std::sync::ledger::{Blank, Ledger};
 use table_state::TableState;
 
 /// So many rows, from their bytes.
@@ -60,35 +64,58 @@ pub fn handed_over(alloc: Global, name: &str, table: TableState) -> Result<Drain
     Ok(DrainTable { name, parts })
 }
 
-/// A cell's name and value.
-fn cell_told(alloc: Global, cell: &Cell) -> Result<String, AllocError> {
-    let name = cell.name.as_str();
-    match &cell.value {
-        Value::Int(number) => format!(in alloc; " {name} {number}"),
-        Value::Text(text) => format!(in alloc; " {name} '{}'", text.as_str()),
-        Value::Set(texts) => format!(in alloc; " {name} of {}", texts.as_slice().len()),
+/// Adds what tells of a column: its name, and its cell at each place, where one that is missing is `-`.
+fn tell_column<L: Ledger>(
+    alloc: Global,
+    column: &BlockColumn,
+    steps: &mut Steps<L>,
+    line: &mut String,
+) -> Result<(), AllocError> {
+    line.push_str(format!(in alloc; "; {}", column.name.as_str())?.as_str())?;
+    let Ok(view) = ColumnView::read(column.bytes.as_slice(), steps) else {
+        return line.push_str(" no column");
+    };
+    for place in 0..view.len() {
+        let told = match view.cell(place) {
+            None => String::from_str(alloc, " -"),
+            Some(ValueRef::Int(number)) => format!(in alloc; " {number}"),
+            Some(ValueRef::Text(text)) => format!(in alloc; " '{text}'"),
+            Some(ValueRef::Set(texts)) => format!(in alloc; " of {}", texts.len()),
+        };
+        line.push_str(told?.as_str())?;
     }
+    Ok(())
 }
 
-/// A row's time and cells.
-fn row_told(alloc: Global, row: &Row) -> Result<String, AllocError> {
-    let mut told = format!(in alloc; "; {}", row.time)?;
-    for cell in row.cells.as_slice() {
-        told.push_str(cell_told(alloc, cell)?.as_str())?;
+/// Adds what tells of the columns of each block.
+fn tell_blocks<L: Ledger>(
+    alloc: Global,
+    table: &TableState,
+    blank: Blank,
+    line: &mut String,
+) -> Result<(), AllocError>
+    requires name { blank.name ≡ L.name }
+    requires parts { blank.parts ≡ L.parts }
+    requires some { 0 < blank.parts }
+{
+    let mut steps: Steps<L> = Steps::new(blank);
+    for block in table.blocks().as_slice() {
+        for column in block.columns() {
+            tell_column(alloc, column, &mut steps, line)?;
+        }
     }
-    Ok(told)
+    Ok(())
 }
 
-/// What tells of a table: its name, horizon, number of writes, how many rows are cut away from its first block, and its rows.
+/// What tells of a table: its name, horizon and number of writes, how many rows are cut away from its first block, how
+/// many stand in its tail, and the columns of its blocks.
 pub fn line_of(alloc: Global, name: &str, table: &TableState) -> Result<String, AllocError> {
-    let rows = table.to_rows(alloc)?;
     let horizon = table.horizon();
     let writes = table.writes();
     let skip = table.skip();
-    let mut line = format!(in alloc; "{name} {horizon} {writes} {skip}")?;
-    for row in rows.as_slice() {
-        line.push_str(row_told(alloc, row)?.as_str())?;
-    }
+    let tail = table.tail();
+    let mut line = format!(in alloc; "{name} {horizon} {writes} {skip} {tail}")?;
+    tell_blocks::<Brand>(alloc, table, Blank::new(1), &mut line)?;
     line.push_str("\n")?;
     Ok(line)
 }

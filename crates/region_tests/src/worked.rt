@@ -93,7 +93,7 @@ fn the_worked_image_is_adopted(rt: HostRuntime) -> Result<(), Fail> {
     let (log_end, lines) = adopted(alloc, adopt, &mut berth, &mut seen)?.expect(&rt, "tables");
     assert_eq!(rt; seen.as_slice(), [(16, 48)].as_slice());
     assert_eq!(rt; log_end, LOG_END);
-    assert_eq!(rt; lines.as_str(), "t 0 1 0; 5\n");
+    assert_eq!(rt; lines.as_str(), "t 0 1 0 0; time 5\n");
     assert_eq!(rt; shape(&berth), (16, Some(0)));
     Ok(())
 }

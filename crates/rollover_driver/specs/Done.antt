@@ -11,7 +11,7 @@ use Rattle.rollover_driver.specs.Drives.{AreAllTold, WavesGo}
 abbrev pub wave_begins : ℕ → ℕ → List RollEvent
 wave_begins number total = event.Wave number total ∷ []
 
--- a fleet has its leaves, and took calls of this kind, which were told to watches behind the first events
+-- a fleet has its leaves, and took calls of this kind, which were told to watches after the first events
 pub record HasDone {F : Type 0} (has : F → ℕ → Type 0) (stands : F → List FleetCall → F → Type 0) (Are : List FleetCall → Type 0) (first : List RollEvent)
     (old_fleet : F) (old : List Held) (asked : Bool) (new_fleet : F) (new : List Held) : Type 0 where
   pub same : (leaf : ℕ) → has old_fleet leaf → has new_fleet leaf

@@ -9,14 +9,14 @@ use crate::fleet::Fleet;
 use rollover_plan::{Wave, Waves};
 use rollover_watch::{RollEvent, Watch, tell_all};
 
-/// How many waves were begun, and whether one was left out.
+/// What a rollover came to: the number of waves that were begun, and whether one was left out.
 #[derive(Clone, Copy, PartialEq, Eq)]
 pub struct Rolled {
     pub waves: u32,
     pub halted: bool,
 }
 
-/// Drains a leaf and tells it. The answer is whether a halt was asked.
+/// Drains a leaf and tells the watches. Returns whether one asked for a halt.
 #[tactic(auto, using(crate::proofs::Steps::one_drained))]
 fn drain<F: Fleet>(fleet: &mut F, leaf: u32, watches: &mut Vec<Box<dyn Watch>>) -> bool
     requires { F.has fleet.old leaf }
@@ -26,7 +26,7 @@ fn drain<F: Fleet>(fleet: &mut F, leaf: u32, watches: &mut Vec<Box<dyn Watch>>) 
     tell_all(watches, &RollEvent::Drain { leaf, got })
 }
 
-/// Starts a leaf and tells it. The answer is whether a halt was asked.
+/// Starts a leaf and tells the watches. Returns whether one asked for a halt.
 #[tactic(auto, using(crate::proofs::Steps::one_started))]
 fn start<F: Fleet>(fleet: &mut F, leaf: u32, watches: &mut Vec<Box<dyn Watch>>) -> bool
     requires { F.has fleet.old leaf }
@@ -36,7 +36,7 @@ fn start<F: Fleet>(fleet: &mut F, leaf: u32, watches: &mut Vec<Box<dyn Watch>>) 
     tell_all(watches, &RollEvent::Start { leaf, got })
 }
 
-/// Drains each leaf in order and tells each. The answer is whether a halt was asked.
+/// Drains the leaves in order and tells of each. Returns whether a watch asked for a halt.
 fn drain_all<F: Fleet>(fleet: &mut F, leaves: &[u32], watches: &mut Vec<Box<dyn Watch>>) -> bool
     requires { AllByRecursion (λ leaf. F.has fleet.old leaf) leaves.now }
     ensures { HasDone F.has F.stands (AreOfEach Drains leaves.now) [] fleet.old (map (λ watch. held watch) watches.old.items) result fleet.new (map (λ watch. held watch) watches.new.items) }
@@ -48,7 +48,7 @@ fn drain_all<F: Fleet>(fleet: &mut F, leaves: &[u32], watches: &mut Vec<Box<dyn 
     asked
 }
 
-/// Starts each leaf in order and tells each. The answer is whether a halt was asked.
+/// Starts the leaves in order and tells of each. Returns whether a watch asked for a halt.
 fn start_all<F: Fleet>(fleet: &mut F, leaves: &[u32], watches: &mut Vec<Box<dyn Watch>>) -> bool
     requires { AllByRecursion (λ leaf. F.has fleet.old leaf) leaves.now }
     ensures { HasDone F.has F.stands (AreOfEach Starts leaves.now) [] fleet.old (map (λ watch. held watch) watches.old.items) result fleet.new (map (λ watch. held watch) watches.new.items) }
@@ -60,7 +60,7 @@ fn start_all<F: Fleet>(fleet: &mut F, leaves: &[u32], watches: &mut Vec<Box<dyn 
     asked
 }
 
-/// Tells that a wave begins, drains its leaves, and then starts them. The answer is whether a halt was asked.
+/// Tells that a wave begins, drains its leaves, and then starts them. Returns whether a watch asked for a halt.
 fn roll_wave<F: Fleet>(
     fleet: &mut F,
     number: u32,
@@ -78,7 +78,7 @@ fn roll_wave<F: Fleet>(
     asked
 }
 
-/// Goes through the waves until a halt was asked. The wave in which it was asked is finished.
+/// Goes through the waves until a watch asks for a halt. The wave in which it asks is finished.
 fn roll_all<F: Fleet>(fleet: &mut F, waves: &[Wave], watches: &mut Vec<Box<dyn Watch>>) -> Rolled
     requires few { length waves.now < 2 ^ 32 }
     requires known { AllByRecursion (λ wave. AllByRecursion (λ leaf. F.has fleet.old leaf) wave) waves.now }
@@ -103,9 +103,9 @@ fn roll_all<F: Fleet>(fleet: &mut F, waves: &[Wave], watches: &mut Vec<Box<dyn W
     }
 }
 
-/// Drives a fleet through the waves. Of each wave every leaf is drained, and then every leaf is started. Each event is
-/// told to the watches in their order, and one that wishes to leave is dropped at once. After a watch asked for a halt no
-/// further wave begins. It takes no memory.
+/// Drives a fleet through the waves. For each wave it drains every leaf, and then starts every leaf. It tells each
+/// event to the watches in their order, and drops a watch that wishes to leave at once. After a watch asked for a halt
+/// no further wave begins. It takes no memory.
 pub fn drive<F: Fleet>(fleet: &mut F, waves: &Waves, watches: &mut Vec<Box<dyn Watch>>) -> Rolled
     requires few { length waves.now < 2 ^ 32 }
     requires known { AllByRecursion (λ wave. AllByRecursion (λ leaf. F.has fleet.old leaf) wave) waves.now }

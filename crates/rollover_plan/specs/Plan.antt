@@ -1,9 +1,10 @@
--- The waves of a rollover. On each machine stand as many leaves: leaf l stands on machine l / per_machine, at place l % per_machine.
+-- The waves of a rollover. Each machine has per_machine leaves: leaf l is on machine l / per_machine, at place l %
+-- per_machine.
 use Rattle.std.specs.Prelude.{◌≡◌, ◌≢◌, ◌+◌, ◌*◌, ◌/◌, ◌<◌, ◌≤◌, ℕ, min, max, if◌then◌else◌, List, [], ◌∷◌, length, map, take, drop, ⊤}
 use Rattle.std.specs.Bool.{◌==◌}
 use Rattle.std.specs.List.{AllByRecursion, concat, flat_map, range_with_len}
 
--- how many leaves a wave has at most: a share of all, but at least one, and at most one for each machine
+-- the most leaves of a wave: a share of all in percent, but at least one, and at most one for each machine
 abbrev pub share : ℕ → ℕ → ℕ → ℕ
 share machines per_machine percent = min machines (max 1 (machines * per_machine * percent / 100))
 
@@ -15,12 +16,12 @@ at_place machines per_machine place = map (λ machine. machine * per_machine + p
 abbrev pub by_place : ℕ → ℕ → List ℕ
 by_place machines per_machine = flat_map (at_place machines per_machine) (range_with_len 0 per_machine)
 
--- each wave takes the first leaves of those that are left, as many as its share, until none is left
+-- each wave takes the first of the leaves that are left, as many as the share, until none is left
 abbrev pub IsCutInWaves : ℕ → List ℕ → List (List ℕ) → Type 0
 IsCutInWaves share leaves [] = leaves ≡ []
 IsCutInWaves share leaves (wave ∷ waves) = (0 < length leaves) × (wave ≡ take share leaves) × IsCutInWaves share (drop share leaves) waves
 
--- one where two numbers are the same, and none otherwise
+-- 1 if two numbers are the same, else 0
 abbrev pub one_if_same : ℕ → ℕ → ℕ
 one_if_same a b = if a == b then 1 else 0
 
@@ -29,13 +30,13 @@ abbrev pub times : ℕ → List ℕ → ℕ
 times leaf [] = 0
 times leaf (other ∷ others) = one_if_same other leaf + times leaf others
 
--- no two of these leaves stand on one machine
+-- no two of these leaves are on one machine
 abbrev pub AreOnOwnMachines : ℕ → List ℕ → Type 0
 AreOnOwnMachines per_machine [] = ⊤
 AreOnOwnMachines per_machine (leaf ∷ leaves) = AllByRecursion (λ other. other / per_machine ≢ leaf / per_machine) leaves × AreOnOwnMachines per_machine leaves
 
--- The waves of a rollover: its leaves in order, cut by the share. So each leaf stands in just one wave, no other number in any, no wave has more
--- than the share, and none has two leaves of one machine.
+-- The waves of a rollover: its leaves in order, cut by the share. So each leaf is in just one wave, no other number is
+-- in any, no wave has more than the share, and none has two leaves of one machine.
 pub record IsPlan (machines per_machine percent : ℕ) (waves : List (List ℕ)) : Type 0 where
   pub cut : IsCutInWaves (share machines per_machine percent) (by_place machines per_machine) waves
   pub once : (leaf : ℕ) → leaf < machines * per_machine → times leaf (concat waves) ≡ 1
@@ -43,7 +44,7 @@ pub record IsPlan (machines per_machine percent : ℕ) (waves : List (List ℕ))
   pub few : AllByRecursion (λ wave. length wave ≤ share machines per_machine percent) waves
   pub apart : AllByRecursion (λ wave. AreOnOwnMachines per_machine wave) waves
 
--- no waves in which every leaf stands, with at most as many in each, are fewer
+-- no waves that have every leaf, and at most as many in each, are fewer
 abbrev pub IsFewest : ℕ → ℕ → List (List ℕ) → Type 0
 IsFewest leaves share waves = (others : List (List ℕ)) → ((leaf : ℕ) → leaf < leaves → 0 < times leaf (concat others)) → AllByRecursion (λ wave. length wave ≤ share) others
     → length waves ≤ length others

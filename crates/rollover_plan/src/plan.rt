@@ -5,7 +5,7 @@ ghost use Rattle.rollover_plan.specs.Plan.{share, by_place, IsCutInWaves, IsPlan
 use crate::wave::{Wave, Waves};
 use std::alloc::{AllocError, Global};
 
-/// How many leaves a wave has at most.
+/// The most leaves that a wave may have.
 fn share(machines: u32, per_machine: u32, percent: u32) -> u32
     requires leaves { machines * per_machine ≤ 256 }
     requires high { percent ≤ 100 }
@@ -16,7 +16,7 @@ fn share(machines: u32, per_machine: u32, percent: u32) -> u32
         .min(machines)
 }
 
-/// The leaf whose turn it is, where turns go round the machines: first the leaf at place 0 of each, then that at place 1.
+/// The leaf of a turn. Turns go round the machines: first the leaf at place 0 of each, then that at place 1.
 fn leaf_at(machines: u32, per_machine: u32, turn: u32) -> u32
     requires leaves { machines * per_machine ≤ 256 }
     requires turn { turn < machines * per_machine }
@@ -38,7 +38,7 @@ fn by_place(alloc: Global, machines: u32, per_machine: u32) -> Result<Vec<u32>, 
     Ok(leaves)
 }
 
-/// The leaves cut into waves of so many; the last may have fewer.
+/// The leaves cut into waves of `share` leaves; the last may have fewer.
 #[tactic(auto, using(crate::proofs::Cuts::cutting_begins, crate::proofs::Cuts::cutting_goes_on, crate::proofs::Cuts::cutting_ends))]
 fn cut(alloc: Global, leaves: &[u32], share: u32) -> Result<Vec<Wave>, AllocError>
     requires { 0 < share }
@@ -51,8 +51,9 @@ fn cut(alloc: Global, leaves: &[u32], share: u32) -> Result<Vec<Wave>, AllocErro
     Ok(waves)
 }
 
-/// The waves of a rollover over so many machines, each with as many leaves, of which a wave may take a share in percent.
-/// No waves that have every leaf, and at most as many in each, are fewer. Fails only for want of memory.
+/// The waves of a rollover over `machines` machines with `per_machine` leaves each. A wave takes at most `percent`
+/// percent of all leaves, but at least one, and at most one of each machine. No other waves that have every leaf, and
+/// at most as many in each, are fewer. An Err is want of memory.
 pub fn waves(
     alloc: Global,
     machines: u32,

@@ -8,8 +8,9 @@ use Rattle.rollover_watch.specs.declared.event.RollEvent.TheVariants as event
 use Rattle.rollover_watch.specs.declared.event.Wish.{Wish}
 use Rattle.rollover_watch.specs.declared.event.Wish.TheVariants.{Leave, Halt}
 
--- What a watch means: what its line will show, and what it will wish at an event, each by the events that it is told from now on; how many drains it was told that were done, and starts
--- that found the tables in memory; and the events that it was told, where it keeps them.
+-- The meaning of a watch: what its line will show, and what it will wish at an event, each by the events that it is
+-- told from now on; the number of drains that ended well, and of starts that found the tables in memory, that it was
+-- told; and the events that it was told, if it keeps them.
 pub record Held : Type 0 where
   pub line : List RollEvent → List ℕ
   pub drained : ℕ
@@ -27,13 +28,13 @@ abbrev pub is_adopted : RollEvent → Bool
 is_adopted (event.Start leaf started.Memory) = true
 is_adopted _ = false
 
--- a count goes up where something counts, and stands still at the last value of 64 bits
+-- a count rises by one if the event counts, and saturates at 64 bits
 abbrev pub raised : Bool → ℕ → ℕ
 raised false count = count
 raised true count = min (count + 1) (2 ^ 64 - 1)
 
--- A watch was told an event: each count goes up where the event counts for it, the events that it keeps end with this one, and what it shows and wishes from now on is what it would have
--- behind this event.
+-- A watch was told an event. Each count rises if the event counts for it. The events that it keeps end with this one.
+-- What it shows and wishes from now on is what it would have shown and wished after this event.
 pub record HasHeard (event : RollEvent) (old new : Held) : Type 0 where
   pub drained : new.drained ≡ raised (is_drained event) old.drained
   pub adopted : new.adopted ≡ raised (is_adopted event) old.adopted
@@ -59,10 +60,11 @@ is_halting _ = false
 abbrev pub halts : RollEvent → Held → Bool
 halts event watch = is_halting (watch.wish [] event)
 
--- each watch of a list was told an event; those that wished to leave are gone, and the others are in their order as they have heard it
+-- each watch of a list was told an event; those that wished to leave are gone; the others are in their order, and have
+-- heard it
 abbrev pub AreTold : RollEvent → List Held → List Held → Type 0
 AreTold event old new = AllZip (HasHeard event) (filter (stays event) old) new
 
--- whether one of a list asks for a halt
+-- whether a watch of the list asks for a halt
 abbrev pub is_halt_asked : RollEvent → List Held → Bool
 is_halt_asked event watches = list_any (halts event) watches

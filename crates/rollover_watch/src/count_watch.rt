@@ -8,7 +8,8 @@ use crate::line::Line;
 use crate::watch::Watch;
 use itoa::Buffer;
 
-/// Counts the drains that ended well and the starts that found the tables in memory. It stays, and keeps no events.
+/// A watch that counts the drains that ended well and the starts that found the tables in memory. It always stays, and
+/// keeps no events.
 #[derive(Drop)]
 pub struct CountWatch {
     drained: u64,
@@ -43,7 +44,7 @@ impl Watch for CountWatch {
     }
 }
 
-/// One more where the event counts; a count that stands at its last value stays there.
+/// The count, plus one if the event counts. It saturates.
 fn raised(count: u64, counts: bool) -> u64
     ensures { result ≡ raised counts count }
 {

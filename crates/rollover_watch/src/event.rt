@@ -1,4 +1,4 @@
-// What a rollover tells, and what a watch may wish.
+// The events of a rollover, and what a watch may wish.
 ghost use Rattle.std.specs.Prelude.{◌≡◌, ℕ};
 ghost use Rattle.rollover_watch.specs.declared.event.RollEvent.TheVariants as event;
 ghost use Rattle.rollover_watch.specs.Watches.{is_drained, is_adopted};
@@ -38,8 +38,8 @@ impl Started {
     }
 }
 
-/// What happens in a rollover. Waves are numbered from 1; the last event says how many were begun, and whether one was
-/// left out.
+/// An event of a rollover. Waves are numbered from 1. The last event tells how many waves were begun, and whether one
+/// was left out.
 #[derive(Clone, Copy, PartialEq, Eq)]
 pub enum RollEvent {
     Wave { number: u32, of: u32 },
@@ -49,7 +49,7 @@ pub enum RollEvent {
 }
 
 impl RollEvent {
-    /// Whether it is the drain of a leaf that was done.
+    /// Whether it is a drain that ended well.
     pub fn is_drained(&self) -> bool
         ensures { result ≡ is_drained self.now }
     {
@@ -59,7 +59,7 @@ impl RollEvent {
         }
     }
 
-    /// Whether it is the start of a leaf that found its tables in memory.
+    /// Whether it is a start that found the tables in memory.
     pub fn is_adopted(&self) -> bool
         ensures { result ≡ is_adopted self.now }
     {

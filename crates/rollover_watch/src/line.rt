@@ -40,7 +40,7 @@ impl Line {
         &self.bytes[..self.len]
     }
 
-    /// Appends the byte where there is room for it, and drops it otherwise.
+    /// Appends a byte, or drops it if the line has 80.
     pub fn push(&mut self, byte: u8)
         requires low { 32 ≤ byte }
         requires high { byte ≤ 126 }
@@ -51,7 +51,7 @@ impl Line {
             self.len += 1;
         }
     }
-    /// Appends what fits of a printable text.
+    /// Appends the prefix of a printable text that fits.
     pub fn push_all(&mut self, text: &[u8])
         requires { ArePrintable text.now }
         ensures { self.new ≡ take 80 (self.old ++ text.now) }

@@ -1,10 +1,10 @@
 -- Rows of a block at or after a horizon, one place after another.
-use Rattle.std.proofs.Common.{◌≡◌, ℕ, zero, suc, ◌+◌, ◌-◌, ◌<◌, ◌≤◌, Bool, true, false, ◌||◌, cond, List, [], ◌∷◌, ◌++◌, length, take, drop, get_or, slice_index_or, ℤ, pos, ◌≤ℤ◌, int_le, Option, Some, None, refl, sym, ap, subst, ◌∙◌, arith}
+use Rattle.std.proofs.Common.{◌≡◌, ℕ, zero, suc, ◌+◌, ◌-◌, ◌<◌, ◌≤◌, Bool, true, false, ◌||◌, cond, List, [], ◌∷◌, ◌++◌, length, drop, get_or, slice_index_or, ℤ, pos, ◌≤ℤ◌, int_le, Option, Some, None, refl, sym, ap, subst, ◌∙◌, arith}
 use Rattle.std.specs.List.{AllByRecursion, list_any}
 use Rattle.std.specs.Int.{from_bool}
 use Rattle.std.proofs.lemmas.Bool.{false_from_ne_true, true_from_ne_false}
 use Rattle.std.proofs.lemmas.Int.{ints}
-use Rattle.std.proofs.lemmas.List.{append-nil, drop-drop, drop_all, drop_more, get_or-map, length-drop, length-map, take_all, take_more}
+use Rattle.std.proofs.lemmas.List.{append-nil, drop-drop, drop_all, drop_more, get_or-map, length-drop, length-map}
 use Rattle.std.proofs.lemmas.List.FromFn.{get_or-map-range_with_len, length-map-range_with_len}
 use Rattle.leaf_model.specs.declared.rows.Value.{Value}
 use Rattle.leaf_model.specs.declared.rows.Value.TheVariants as values
@@ -13,7 +13,7 @@ use Rattle.leaf_model.specs.declared.rows.Row.{Row}
 use Rattle.leaf_model.specs.Content.{rows_from}
 use Rattle.column_bytes.specs.Cells.{Coded}
 use Rattle.row_blocks.specs.declared.column.BlockColumn.{BlockColumn}
-use Rattle.row_blocks.specs.Blocks.{Block, IsBlock, IsTimeCell, cell_of, cells_at, row_at, rows_in, time_of, times_of, value_in}
+use Rattle.row_blocks.specs.Blocks.{Block, IsBlock, IsTimeCell, cell_of, row_at, rows_in, time_of, times_of, value_in}
 use Rattle.time_range.specs.Ranges.{IsRange}
 use Rattle.row_blocks.specs.Columns.{IsSeen}
 use Rattle.row_blocks.specs.Held.{live_rows}
@@ -185,17 +185,3 @@ pub one_cell : (name own : List ℕ) (v : Option Value) (value : Value) (cells :
     → cells ++ record { name = own; value = value } ∷ [] ≡ cells ++ cell_of name v
 one_cell name own v value cells e same =
     ap (λ (n : List ℕ). cells ++ record { name = n; value = value } ∷ []) same ∙ ap (λ (w : Option Value). cells ++ cell_of name w) (sym e)
-
-pub row_more : (b : Block) (first : BlockColumn) (others : List BlockColumn) (place : ℕ) (rows now : List Row) (time : ℤ) (cells : List Cell) → b.columns ≡ first ∷ others → place < b.rows
-    → rows ≡ take place (rows_in b) → time ≡ time_at b place → cells ≡ cells_at place others → now ≡ rows ++ record { time = time; cells = cells } ∷ [] → now ≡ take (place + 1) (rows_in b)
-row_more b first others place rows now time cells columns within so_far timed celled pushed =
-    let at = row_is_at b first others place columns within in
-    let row : (record { time = time; cells = cells }) ≡ slice_index_or (rows_in b) place no_row
-    = ap (λ (t : ℤ). record { time = t; cells = cells }) (timed ∙ time_is b place within ∙ ap (λ (r : Row). r.time) at)
-    ∙ ap (λ (cs : List Cell). record { time = (row_at (first ∷ others) place).time; cells = cs }) celled ∙ sym at in
-    pushed ∙ ap (λ (l : List Row). l ++ record { time = time; cells = cells } ∷ []) so_far
-    ∙ ap (λ (r : Row). take place (rows_in b) ++ r ∷ []) row
-    ∙ sym (take_more (rows_in b) place no_row (omega (arith, counted b, within)))
-
-pub rows_end : (b : Block) (place : ℕ) (rows : List Row) → b.rows ≤ place → rows ≡ take place (rows_in b) → rows ≡ rows_in b
-rows_end b place rows past so_far = so_far ∙ take_all place (rows_in b) (omega (arith, counted b, past))

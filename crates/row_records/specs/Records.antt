@@ -42,20 +42,21 @@ is_set_value other = false
 abbrev pub row_has_set : Row → Bool
 row_has_set row = list_any (λ (c : Cell). is_set_value c.value) row.cells
 
--- whether a write adds a row with one
+-- whether a write adds a row with a set
 abbrev pub has_set : Write → Bool
 has_set (Add rows) = list_any row_has_set rows
 has_set other = false
 
--- whether one of some writes does
+-- whether one of the writes adds a row with a set
 abbrev pub has_sets : List Write → Bool
 has_sets writes = list_any has_set writes
 
--- the length of what follows, and that
+-- a record as bytes: the length of its body, and the body
 abbrev pub record_bytes : LogRecord → List ℕ
 record_bytes r = u64_bytes (length (record_body r)) ++ record_body r
 
--- a name of at most 255 bytes of UTF-8, and one write at least, so long that its numbers fit; sets where its kind allows them
+-- a record has a name of at most 255 bytes of UTF-8, one write at least, numbers that fit, and sets only if its kind
+-- allows them
 pub record IsRecord (r : LogRecord) : Type 0 where
   pub name : IsUtf8 r.name
   pub short : length r.name ≤ 255

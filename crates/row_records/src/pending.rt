@@ -9,7 +9,8 @@ use leaf_model::{Text, Write};
 use std::alloc::{AllocError, Global};
 use std::marker::Model;
 
-/// The writes of a table that were not yet taken, as the bytes of one record. Contracts see the record, or nothing where no write was pushed.
+/// The writes of a table that were not taken yet, as the bytes of one record of the log. Contracts see the record, and
+/// None if no write was pushed.
 #[derive(Drop)]
 pub struct Pending {
     bytes: Vec<u8>,
@@ -46,7 +47,7 @@ impl Pending {
         self.count
     }
 
-    /// A whole record with a closed gate after it, or nothing where no write was pushed.
+    /// The bytes of the record and of a closed gate after it. There are none if no write was pushed.
     pub fn bytes(&self) -> &[u8]
         ensures bytes { result.now ≡ pending_bytes self.now }
         ensures record { IfSome self.now IsRecord }
@@ -55,7 +56,7 @@ impl Pending {
         self.bytes.as_slice()
     }
 
-    /// Every push gives the same table.
+    /// Adds a write to the record. Every push names the same table. After an Err the record is as it was.
     pub fn push(&mut self, table: &Text, write: &Write) -> Result<(), AllocError>
         requires short { length table.now ≤ 255 }
         requires table { IfSome self.old (λ r. r.name ≡ table.now) }
@@ -71,7 +72,7 @@ impl Pending {
         }
     }
 
-    /// Lets go of what was pushed.
+    /// Drops all writes.
     pub fn clear(&mut self)
         ensures { self.new ≡ None }
     {

@@ -165,11 +165,11 @@ fn record_of(alloc: Global, bytes: &[u8]) -> Result<Flush, ReadError>
     body_of(alloc, rest)
 }
 
-/// The table and the writes of a record, or nothing where the bytes are no record.
+/// Reads all of the bytes as one record: its table and its writes. None if they are no record.
 pub fn read_record(alloc: Global, bytes: &[u8]) -> Result<Option<Flush>, AllocError>
-    // What is read is spelled so.
+    // The bytes spell the record that is read.
     ensures found { IfOk result (λ found. IfSome found (λ flush. IsRecord (record_is flush) × (bytes.now ≡ record_bytes (record_is flush)))) }
-    // What is spelled so is read, unless memory runs out.
+    // A record that the bytes spell is read, unless memory runs out.
     ensures only { (r : LogRecord) → IsRecord r → bytes.now ≡ record_bytes r → IfOk result (λ found. option_map record_is found ≡ Some r) }
 {
     match record_of(alloc, bytes) {

@@ -1,4 +1,4 @@
-// A record as bytes, with its gate, and one write more in it.
+// Writes a record with its gate, and adds a write to one.
 ghost use Rattle.std.specs.Prelude.{ℕ, List, ◌≡◌, ◌≤◌, ◌<◌, ◌+◌, ◌-◌, ◌++◌, ◌∷◌, [], length, take, drop, OnOk, OnErr, IfOk, Some};
 ghost use Rattle.std.specs.Int.{w64, to_le_bytes};
 ghost use Rattle.leaf_model.specs.Values.{IsWrite};
@@ -21,7 +21,7 @@ fn kind_of(write: &Write) -> u8
     }
 }
 
-/// Puts what a write says behind its kind at the end; where that is much, there is room for a gate too.
+/// Appends what a write says after its kind. If that is much, it makes room for a gate too.
 fn put_said(out: &mut Vec<u8>, write: &Write) -> Result<(), AllocError>
     requires { IsWrite write.now }
     ensures put { OnOk result (out.new.items ≡ out.old.items ++ said_bytes write.now) }
@@ -47,7 +47,7 @@ fn overwrite(bytes: &mut [u8], at: usize, number: u64)
     bytes[at..at + 8].copy_from_slice(&number.to_le_bytes());
 }
 
-/// Puts the body of a record of one write at the end.
+/// Appends the body of a record of one write.
 fn put_body(out: &mut Vec<u8>, table: &str, write: &Write) -> Result<(), AllocError>
     requires short { length table.now ≤ 255 }
     requires write { IsWrite write.now }
@@ -75,7 +75,7 @@ pub(crate) fn first_record(alloc: Global, table: &str, write: &Write) -> Result<
     Ok(bytes)
 }
 
-/// Puts what a write says behind its kind, and a closed gate, at the end.
+/// Appends what a write says after its kind, and a closed gate.
 fn lay_behind(out: &mut Vec<u8>, write: &Write) -> Result<(), AllocError>
     requires { IsWrite write.now }
     ensures put { OnOk result (out.new.items ≡ out.old.items ++ (said_bytes write.now ++ 0 ∷ [])) }
@@ -86,7 +86,7 @@ fn lay_behind(out: &mut Vec<u8>, write: &Write) -> Result<(), AllocError>
     Ok(())
 }
 
-/// The same, or nothing.
+/// The same; after an Err the bytes are as they were.
 fn put_behind(out: &mut Vec<u8>, write: &Write) -> Result<(), AllocError>
     requires { IsWrite write.now }
     ensures put { OnOk result (out.new.items ≡ out.old.items ++ (said_bytes write.now ++ 0 ∷ [])) }
@@ -100,7 +100,7 @@ fn put_behind(out: &mut Vec<u8>, write: &Write) -> Result<(), AllocError>
     done
 }
 
-/// Puts a write and a closed gate in the place of the last byte, or nothing.
+/// Replaces the last byte by a write and a closed gate. After an Err the bytes are as they were.
 fn put_more(bytes: &mut Vec<u8>, write: &Write) -> Result<(), AllocError>
     requires gate { 0 < length bytes.old.items }
     requires write { IsWrite write.now }
@@ -125,7 +125,7 @@ fn renumber(bytes: &mut [u8], name_len: usize, count: u64)
     overwrite(bytes, name_len + 10, count);
 }
 
-/// Puts one write more behind those of a record, in place of its gate, and closes a new gate behind it.
+/// Appends a write to a record, in the place of its gate, and a closed gate after it.
 pub(crate) fn add_write(
     bytes: &mut Vec<u8>,
     name_len: usize,

@@ -1,4 +1,4 @@
-// Fields at the front of bytes, tested and lent: each is a value and the bytes after it, or nothing.
+// Fields at the start of bytes, tested and borrowed. Each reader gives a value and the bytes after it, or None.
 ghost use Rattle.std.specs.Int.{w16, w32, w64};
 ghost use Rattle.leaf_model.specs.Reading.{number_at, text_at, name_at, time_at, long_text_at};
 ghost use Rattle.row_records.specs.Reading.{Finds};
@@ -31,7 +31,7 @@ pub(crate) fn u64_in(bytes: &[u8]) -> Option<(u64, &[u8])>
     }
 }
 
-/// A text of so many bytes, and what follows it.
+/// A text of `len` bytes, and what follows it.
 #[tactic(auto, unfolding(leaf_model::specs::Reading::text_at))]
 fn text_in(len: usize, bytes: &[u8]) -> Option<(&str, &[u8])>
     ensures { Finds (λ x. (x.0.now, x.1.now)) result (text_at len bytes.now) }

@@ -1,4 +1,4 @@
-// Reading rows and fields, each from the left: what was read, and the bytes after it.
+// Reads rows and fields from the left. Each reader gives what it read and the bytes after it.
 ghost use Rattle.std.specs.Prelude.{◌≡◌, ◌++◌, ◌*◌, ◌<◌, List, ℕ, length, IfOk, IfSome, MatchOption, Ok, Err, None};
 ghost use Rattle.std.specs.Int.{w32, w64};
 ghost use Rattle.std.specs.List.{AllByRecursion};
@@ -16,16 +16,17 @@ use crate::row_test::behind_rows;
 use leaf_model::{PackedRows, Text};
 use std::alloc::{AllocError, Global};
 
-/// The rows at the front of the bytes, and how many bytes they take; nothing where so many rows do not stand there.
+/// Reads `count` rows at the start of the bytes, and tells how many bytes they take. None if `count` rows do not stand
+/// there.
 /// A count that is too great for the bytes takes no memory.
 pub fn read_rows(
     alloc: Global,
     bytes: &[u8],
     count: u64,
 ) -> Result<Option<(PackedRows, usize)>, AllocError>
-    // What is read stands in front.
+    // The rows that are read stand at the start of the bytes.
     ensures found { IfOk result (λ found. IfSome found (λ read. StandsInFront count bytes.now read.0 read.1)) }
-    // What stands in front is read, unless memory runs out.
+    // Rows that stand there are read, unless memory runs out.
     ensures only { (rows : List Row) (rest : List ℕ) → AllByRecursion IsRow rows → length rows ≡ count → bytes.now ≡ rows_bytes rows ++ rest
         → IfOk result (λ found. MatchOption found ⊥ (λ read. (read.0 ≡ rows) × (read.1 ≡ length (rows_bytes rows)))) }
     // Each row takes ten bytes at least.
@@ -38,7 +39,7 @@ pub fn read_rows(
     }
 }
 
-/// So many rows, and the bytes after them. A count that is too great for the bytes takes no memory.
+/// Reads `count` rows, and gives the bytes after them. A count that is too great for the bytes takes no memory.
 pub fn rows_in_front(
     alloc: Global,
     count: u64,
@@ -90,7 +91,7 @@ pub fn name_of(alloc: Global, bytes: &[u8]) -> Result<(Text, &[u8]), ReadError>
     }
 }
 
-/// So many rows, as they stand, after they were tested.
+/// Copies `count` rows as they stand, once they are tested.
 pub(crate) fn rows_of(
     alloc: Global,
     count: u64,

@@ -1,4 +1,4 @@
-// Whether rows stand at the front of bytes. A test gives what follows them, or nothing; it takes no memory.
+// Tests whether rows stand at the start of bytes. A test gives what follows them, or None. It takes no memory.
 ghost use Rattle.std.specs.Prelude.{◌≡◌, [], IsSome};
 ghost use Rattle.leaf_model.specs.Reading.{texts_at, set_at, value_at, may_follow, cell_at, cells_at, row_at, rows_at};
 ghost use Rattle.leaf_model.specs.Sets.{is_set};
@@ -8,7 +8,7 @@ ghost use Rattle.row_records.specs.Reading.{Finds, behind, name_and_rest};
 use crate::row_fields::{long_text_in, name_in, time_in, u16_in, u64_in};
 use leaf_model::{LentTexts, MAX_CELLS, SpelledTexts};
 
-/// What follows so many texts.
+/// What follows `count` texts.
 fn behind_texts(count: u16, bytes: &[u8]) -> Option<&[u8]>
     ensures { Finds (λ rest. rest.now) result (behind (texts_at count bytes.now)) }
 {
@@ -20,7 +20,7 @@ fn behind_texts(count: u16, bytes: &[u8]) -> Option<&[u8]>
     Some(rest)
 }
 
-/// Whether so many texts, which stand at the front of the bytes, are a set.
+/// Whether the `count` texts at the start of the bytes are a set.
 fn are_set(count: u16, bytes: &[u8]) -> bool
     requires { IsSome (texts_at count bytes.now) }
     ensures { result ≡ is_set (front_of (texts_at count bytes.now)) }
@@ -60,7 +60,7 @@ fn behind_value(bytes: &[u8]) -> Option<&[u8]>
     }
 }
 
-/// Whether a cell of this name may stand behind the last one.
+/// Whether a cell of this name may follow the last one.
 #[tactic(auto, unfolding(leaf_model::specs::Reading::may_follow))]
 fn may_follow(last: &[u8], name: &str) -> bool
     ensures { result ≡ may_follow last.now name.now }
@@ -68,7 +68,7 @@ fn may_follow(last: &[u8], name: &str) -> bool
     last.cmp(name.as_bytes()).is_lt() && name != "time"
 }
 
-/// The name of a cell that may stand behind the last one, and what follows the cell.
+/// The name of a cell that may follow the last one, and what follows that cell.
 #[tactic(auto, unfolding(leaf_model::specs::Reading::cell_at))]
 fn behind_cell<'a>(last: &[u8], bytes: &'a [u8]) -> Option<(&'a str, &'a [u8])>
     ensures { Finds (λ x. (x.0.now, x.1.now)) result (name_and_rest (cell_at last.now bytes.now)) }
@@ -81,7 +81,7 @@ fn behind_cell<'a>(last: &[u8], bytes: &'a [u8]) -> Option<(&'a str, &'a [u8])>
     Some((name, rest))
 }
 
-/// What follows so many cells.
+/// What follows `count` cells.
 fn behind_cells(count: u16, bytes: &[u8]) -> Option<&[u8]>
     ensures { Finds (λ rest. rest.now) result (behind (cells_at count [] bytes.now)) }
 {
@@ -108,7 +108,7 @@ fn behind_row(bytes: &[u8]) -> Option<&[u8]>
     behind_cells(count, rest)
 }
 
-/// What follows so many rows.
+/// What follows `count` rows.
 pub(crate) fn behind_rows(count: u64, bytes: &[u8]) -> Option<&[u8]>
     ensures { Finds (λ rest. rest.now) result (behind (rows_at count bytes.now)) }
 {

@@ -32,11 +32,11 @@ inspects_with None = None
 abbrev pub inspects_of : List ℕ → Option Request
 inspects_of leaf = inspects_with (count_of leaf)
 
--- a command with one word behind it
+-- a command with one word after it
 abbrev pub with_one : List ℕ → List ℕ → Option Request
 with_one command first = if bytes_eq command (codes "inspect") then inspects_of first else None
 
--- a command with two words behind it
+-- a command with two words after it
 abbrev pub with_two : List ℕ → List ℕ → List ℕ → Option Request
 with_two command first second =
     if bytes_eq command (codes "count") then counts_of first second else (if bytes_eq command (codes "soak") then soaks_of first second else None)
@@ -48,19 +48,19 @@ request_of (command ∷ first ∷ []) = with_one command first
 request_of (command ∷ first ∷ second ∷ []) = with_two command first second
 request_of _ = None
 
--- a soak has as many rows as the words may say, and a leaf is one of those that may have a berth
+-- a soak has 8 to 800,000 rows, and a leaf is one of 256
 abbrev pub IsInRange : Request → Type 0
 IsInRange (Count range) = ⊤
 IsInRange Play = ⊤
 IsInRange (Soak seed rows) = (8 ≤ rows) × (rows ≤ 800000)
 IsInRange (Inspect leaf) = leaf ≤ 255
 
--- what holds of a count
+-- P holds of the range, if the words ask for a count
 abbrev pub IfCount : Option Request → (Range → Type 0) → Type 0
 IfCount (Some (Count range)) P = P range
 IfCount _ P = ⊤
 
--- what holds of all other words
+-- P holds, unless the words ask for a count
 abbrev pub UnlessCount : Option Request → Type 0 → Type 0
 UnlessCount (Some (Count range)) P = ⊤
 UnlessCount _ P = P

@@ -1,4 +1,4 @@
-// A count that the words ask for, by itself.
+// Runs a count, if the words ask for one.
 ghost use Rattle.std.specs.Prelude.{◌≡◌, ◌≢◌, IfSome, map, string_bytes};
 ghost use Rattle.berth_face.specs.Causes.{Rose};
 ghost use Rattle.berth_face.specs.Streams.{TakesAtMost};
@@ -14,7 +14,8 @@ use run_ends::Status;
 use std::alloc::Global;
 use std::thread::Threads;
 
-/// Counts the rows of a source, if the words ask for that. Other words are none for it: it takes nothing and writes nothing.
+/// Counts the rows of a source, if the words ask for that. For other words the status is Words, and it takes and writes
+/// nothing.
 pub fn run_count<R: Threads + Sync, S: Source, K: Sink>(
     rt: &R,
     alloc: Global,
@@ -25,7 +26,7 @@ pub fn run_count<R: Threads + Sync, S: Source, K: Sink>(
     ensures done { IfCount (request_of (map string_bytes words.now)) (λ range. result ≡ Status.Done →
         IsCounted range (S.left source.old) (S.left source.new) (K.written sink.old) (K.written sink.new)) }
 
-    // Each other status has its cause, but for want of memory.
+    // Each other status has its cause, except want of memory.
     ensures words { IfCount (request_of (map string_bytes words.now)) (λ range. result ≢ Status.Words) }
     ensures script { IfCount (request_of (map string_bytes words.now)) (λ range.
         IfScript result (IsRefused (count_verdict range) (S.left source.old) (S.left source.new))) }

@@ -1,4 +1,4 @@
-//! What the words of a command line ask for, and a count by itself.
+//! What the words of a command line ask for, and a run of a count alone.
 #![tactic(auto)]
 
 mod counting;

@@ -7,10 +7,10 @@ ghost use Rattle.run_words.specs.Words.{IsInRange, counts_of, inspects_of, reque
 
 use row_count::Range;
 
-/// How few rows a soak may have: one for each of its leaves.
+/// The fewest rows of a soak: one for each of its leaves.
 const FEWEST_ROWS: u64 = 8;
 
-/// How many rows a soak may have.
+/// The most rows of a soak.
 const MOST_ROWS: u64 = 800_000;
 
 /// The last leaf that has a berth.
@@ -19,17 +19,17 @@ const LAST_LEAF: u64 = 255;
 /// What the words ask for.
 #[derive(Clone, Copy)]
 pub enum Request {
-    /// How many rows of the source have a time in the range.
+    /// Count the rows of the source whose time is in the range.
     Count(Range),
-    /// The source is a script that is to be played.
+    /// Play the source as a script.
     Play,
-    /// The script of these two numbers is to be played. It has 8 to 800,000 rows.
+    /// Play the script of a soak, which these two numbers decide. It has 8 to 800,000 rows.
     Soak { seed: u64, rows: u32 },
-    /// What the region of this leaf's berth holds is to be told. It is one of 256.
+    /// Tell what the region of this leaf's berth holds. The leaf is one of 256.
     Inspect { leaf: u32 },
 }
 
-/// What the words ask for, where they are `count FROM TO`, `play`, `soak SEED ROWS` or `inspect L`.
+/// What the words ask for: `count FROM TO`, `play`, `soak SEED ROWS` or `inspect L`. None for any other words.
 pub fn request_of(words: &[String]) -> Option<Request>
     ensures is { result ≡ request_of (map string_bytes words.now) }
     ensures in_range { IfSome result IsInRange }
@@ -48,7 +48,7 @@ pub fn request_of(words: &[String]) -> Option<Request>
     }
 }
 
-/// What a command with one word behind it asks for.
+/// What a command with one word after it asks for.
 fn with_one(command: &str, first: &str) -> Option<Request>
     ensures is { result ≡ with_one command.now first.now }
     ensures in_range { IfSome result IsInRange }
@@ -60,7 +60,7 @@ fn with_one(command: &str, first: &str) -> Option<Request>
     }
 }
 
-/// What a command with two words behind it asks for.
+/// What a command with two words after it asks for.
 fn with_two(command: &str, first: &str, second: &str) -> Option<Request>
     ensures is { result ≡ with_two command.now first.now second.now }
     ensures in_range { IfSome result IsInRange }
@@ -114,7 +114,7 @@ fn inspects_of(leaf: &str) -> Option<Request>
     }
 }
 
-/// The time that a word of 1 to 20 digits is.
+/// The time that a word of 1 to 20 digits gives.
 fn time_of(word: &str) -> Option<i64>
     ensures { result ≡ time_of word.now }
 {
@@ -124,7 +124,7 @@ fn time_of(word: &str) -> Option<i64>
     word.parse::<i64>().ok()
 }
 
-/// The count that a word of 1 to 20 digits is, where 64 bits hold it.
+/// The count that a word of 1 to 20 digits gives. None if 64 bits do not hold it.
 fn count_of(word: &str) -> Option<u64>
     ensures { result ≡ count_of word.now }
 {

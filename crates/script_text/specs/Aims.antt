@@ -1,4 +1,4 @@
--- Whom a command is for.
+-- To whom a command is addressed.
 use Rattle.std.specs.Prelude.{◌<◌, ◌==◌, ℕ, List, length, Bool, true, false, ⊤}
 use Rattle.std.specs.List.{Contains, list_any}
 use Rattle.script_text.specs.declared.command.Aim as lent
@@ -7,7 +7,8 @@ use Rattle.script_text.specs.declared.command.Command.{Command}
 use Rattle.script_text.specs.declared.command.Command.TheVariants as command
 use Rattle.script_text.specs.Stewards.{has_steward, has_stewards}
 
--- the fleet that it begins; callers of the table in this place; callers of the table of this name at every leaf; the steward of this leaf; the steward of each leaf; the run alone
+-- the whole fleet, which it begins; callers of the table in this place; callers of the table of this name at every
+-- leaf; the steward of this leaf; the steward of each leaf; the run alone
 pub data Aim : Type 0 where
   AtFleet : Aim
   AtTable : (table : ℕ) → Aim
@@ -16,7 +17,7 @@ pub data Aim : Type 0 where
   AtLeaves : Aim
   AtRun : Aim
 
--- the one place that tells whom each command is for
+-- the one definition that tells to whom each command is addressed
 abbrev pub aim_of : Command → Aim
 aim_of (command.Fleet machines per_machine tables) = AtFleet
 aim_of (command.Add leaf table rows) = AtTable table
@@ -41,7 +42,7 @@ aim_in (aim.Leaf leaf) = AtLeaf leaf
 aim_in aim.Leaves = AtLeaves
 aim_in aim.Run = AtRun
 
--- the leaf and the table are ones of a fleet of so many leaves with these tables, which stands already
+-- the leaf and the table are ones of a fleet, of so many leaves with these tables, that is there already
 abbrev pub IsAim : ℕ → List (List ℕ) → Aim → Type 0
 IsAim leaves tables AtFleet = ⊥
 IsAim leaves tables (AtTable table) = table < length tables
@@ -50,19 +51,19 @@ IsAim leaves tables (AtLeaf leaf) = leaf < leaves
 IsAim leaves tables AtLeaves = ⊤
 IsAim leaves tables AtRun = ⊥
 
--- it is for this leaf's steward
+-- it is addressed to this leaf's steward
 abbrev pub is_for_steward : ℕ → Aim → Bool
 is_for_steward leaf (AtLeaf number) = number == leaf
 is_for_steward leaf AtLeaves = true
 is_for_steward leaf _ = false
 
--- it is for some leaf's steward
+-- it is addressed to some leaf's steward
 abbrev pub is_for_some_steward : Aim → Bool
 is_for_some_steward (AtLeaf number) = true
 is_for_some_steward AtLeaves = true
 is_for_some_steward _ = false
 
--- one of these lanes has another command for a steward that it is for
+-- one of these lanes has a command for a steward that it is addressed to
 abbrev pub is_second_for : List (List Command) → Aim → Bool
 is_second_for lanes (AtLeaf leaf) = list_any (has_steward leaf) lanes
 is_second_for lanes AtLeaves = list_any has_stewards lanes

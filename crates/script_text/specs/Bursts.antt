@@ -1,4 +1,4 @@
--- What a line behind a fleet does to what was read before it, outside bursts and inside one.
+-- What a line after the fleet does to what was read before it, outside bursts and inside one.
 use Rattle.std.specs.Prelude.{ℕ, ◌+◌, ◌==◌, List, [], ◌∷◌, ◌++◌, length, nat_lt, if◌then◌else◌, ok_or, Result, Ok, Err}
 use Rattle.script_text.specs.declared.command.Command.{Command}
 use Rattle.text_faults.specs.declared.fault.ScriptFault.{ScriptFault}
@@ -27,21 +27,21 @@ with_item script one = record { fleet_line = script.fleet_line; items = script.i
 abbrev pub with_standing : Script → Command → Script
 with_standing script c = record { fleet_line = script.fleet_line; items = script.items ++ item.One c ∷ []; standings = script.standings + 1 }
 
--- what was read, where the next line stands there, behind so many rows
+-- what was read, with the place of the next line, after so many lines of rows
 abbrev pub stepped : Script → Position → ℕ → Step
 stepped script there rows = record { reading = record { script = script; position = there }; rows = rows }
 
--- a fault of a line behind which a burst is open: on the text's last line it is Place, whatever it is
+-- the fault of a line after which a burst is open: on the text's last line it is Place, whatever it was
 abbrev pub fault_inside : ℕ → ScriptFault → ScriptFault
 fault_inside last (At n found) = At n (if n == last then why.Place else found)
 fault_inside last NoMemory = NoMemory
 
--- what is read of a line behind which a burst is open, with such a fault
+-- what is read of a line after which a burst is open, with such a fault
 abbrev pub inside : {X : Type 0} → ℕ → Result X Fault → Result X Fault
 inside last (Ok x) = Ok x
 inside last (Err found) = Err (found.0, if found.0 == last then why.Place else found.1)
 
--- a command outside bursts
+-- a command outside bursts: one that a burst may have too, a standing query, or a tell
 abbrev pub one_more : Script → Result Command Fault → Result Step Fault
 one_more script read = read >>= λ c. Ok (stepped (with_item script (item.One c)) position.Outside (row_count c))
 
@@ -53,20 +53,21 @@ standing_more script read = read >>= λ c. Ok (stepped (with_standing script c) 
 abbrev pub next_burst : ℕ → Script → List ℕ → Result Step Fault
 next_burst n script words = if is_blank words then Ok (stepped script position.Opened 0) else Err (n, why.Words)
 
--- `lane`, behind these lanes
+-- `lane`, after these lanes
 abbrev pub next_lane : ℕ → Script → List (List Command) → List ℕ → Result Step Fault
 next_lane n script lanes words = if is_blank words then (if nat_lt (length lanes) 16 then Ok (stepped script (position.Lane lanes []) 0) else Err (n, why.Lanes))
     else Err (n, why.Words)
 
--- `end`, behind these lanes
+-- `end`, after these lanes
 abbrev pub end_burst : ℕ → Script → List (List Command) → List ℕ → Result Step Fault
 end_burst n script lanes words = if is_blank words then Ok (stepped (with_item script (item.Burst lanes)) position.Outside 0) else Err (n, why.Words)
 
--- a command of a lane that stands behind others
+-- a command of a lane, after other lanes
 abbrev pub lane_more : ℕ → Script → List (List Command) → List Command → Result Command Fault → Result Step Fault
 lane_more n script earlier lane read = read >>= λ c. if is_second earlier c then Err (n, why.TwoStewards) else Ok (stepped script (position.Lane earlier (lane ++ c ∷ [])) (row_count c))
 
--- A line by where it stands and what it is; all others are out of their place. A burst that begins on the last line is left open.
+-- What a line does, by its place and its first word; any other line is out of its place. A burst that begins on the
+-- last line is left open.
 abbrev pub line_at : ℕ → ℕ → Fleet → Script → Position → List ℕ → List (List ℕ) → LineWord → Result Step Fault
 line_at last n fleet script position.Outside words more line_word.Burst = inside last (next_burst n script words)
 line_at last n fleet script position.Outside words more (line_word.Command word) = one_more script (command_of n fleet word words more)
@@ -78,7 +79,8 @@ line_at last n fleet script (position.Lane earlier lane) words more line_word.En
 line_at last n fleet script (position.Lane earlier lane) words more (line_word.Command word) = inside last (lane_more n script earlier lane (command_of n fleet word words more))
 line_at last n fleet script _ words more _ = Err (n, why.Place)
 
--- Line n of a text with so many lines, behind this fleet and what was read, where those lines follow.
+-- what line n does after this fleet and what was read; the last line has the number `last`, and these lines follow line
+-- n
 abbrev pub step_of : ℕ → ℕ → Fleet → Reading → List ℕ → List (List ℕ) → Result Step Fault
 step_of last n fleet reading line more = do
   word ← ok_or (line_word_of (first_word line)) (n, why.Command)

@@ -1,4 +1,4 @@
--- The commands of a script, each from the line that it stands on, or the first fault of the line.
+-- The commands of a script. Each line gives a command, or its first fault.
 use Rattle.std.specs.Prelude.{ℕ, ◌+◌, ◌*◌, ◌&&◌, List, [], ◌∷◌, length, take, nat_lt, nat_le, Bool, if◌then◌else◌, Option, Some, None, option_map, option_and_then, ok_or, Result, Ok, Err, codes}
 use Rattle.std.specs.Str.{bytes_eq}
 use Rattle.leaf_model.specs.declared.queries.Query.{Query}
@@ -26,18 +26,18 @@ use Rattle.text_lines.specs.Numbers.{number_of, capped, count_of, time_of}
 abbrev pub Fault : Type 0
 Fault = ℕ × Why
 
--- what follows, where there was no fault
+-- what follows, if there was no fault
 infixl 10 ◌>>=◌
 abbrev pub ◌>>=◌ : {A B : Type 0} → Result A Fault → (A → Result B Fault) → Result B Fault
 (Ok x) >>= f = f x
 (Err found) >>= f = Err found
 
--- what was read of line n, or its fault for this cause
+-- what was read of line n, or its fault, with this cause
 abbrev pub on_line : {A E : Type 0} → ℕ → (E → Why) → Result A E → Result A Fault
 on_line n cause (Ok x) = Ok x
 on_line n cause (Err fault) = Err (n, cause fault)
 
--- what the words of line n are, or that they are not those of the command
+-- what the words of line n give, or the fault Words
 abbrev pub or_words : {A : Type 0} → ℕ → Option A → Result A Fault
 or_words n found = ok_or found (n, why.Words)
 
@@ -64,7 +64,7 @@ line_word_of word = if bytes_eq word (codes "fleet") then Some line_word.Fleet
     else (if bytes_eq word (codes "tell") then Some line_word.Tell
     else option_map line_word.Command (command_word_of word))))))
 
--- as many leaves as the machines of a fleet have
+-- the number of leaves of a fleet's machines
 abbrev pub leaf_count : Fleet → ℕ
 leaf_count fleet = fleet.machines * fleet.per_machine
 
@@ -76,11 +76,11 @@ fleet_command fleet = command.Fleet fleet.machines fleet.per_machine fleet.names
 abbrev pub IsFleet : Fleet → Type 0
 IsFleet fleet = AreLeaves fleet.machines fleet.per_machine × AreTables fleet.names
 
--- machines of as many leaves each: at least one of either, and at most 256 leaves in all
+-- at least one machine, at least one leaf on each, and at most 256 leaves in all
 abbrev pub leaves_in_range : ℕ → ℕ → Bool
 leaves_in_range machines per_machine = nat_lt 0 machines && nat_lt 0 per_machine && nat_le (machines * per_machine) 256
 
--- a fleet of these numbers and tables, where they are in their range
+-- a fleet of these numbers and tables; None if they are out of their range
 abbrev pub fleet_with : Option ℕ → Option ℕ → List (List ℕ) → Option Fleet
 fleet_with (Some machines) (Some per_machine) names = if leaves_in_range machines per_machine && are_tables names then Some (record { machines = machines; per_machine = per_machine; names = names }) else None
 fleet_with _ _ _ = None
@@ -90,32 +90,32 @@ abbrev pub fleet_of : List (List ℕ) → Option Fleet
 fleet_of (machines ∷ per_machine ∷ tables) = fleet_with (number_of machines) (number_of per_machine) tables
 fleet_of _ = None
 
--- the leaf of this number, where the fleet has it
+-- the leaf of this number, if the fleet has it
 abbrev pub leaf_in : ℕ → Fleet → ℕ → Result ℕ Fault
 leaf_in n fleet leaf = if nat_lt leaf (leaf_count fleet) then Ok leaf else Err (n, why.Leaf)
 
--- the place of the table of this name, where the fleet has it
+-- the place of the table of this name, if the fleet has it
 abbrev pub table_in : ℕ → Fleet → List ℕ → Result ℕ Fault
 table_in n fleet name = ok_or (place_of fleet.names name) (n, why.Table)
 
--- the leaf of this number and the table of this name, where the fleet has them: a fault of the leaf comes first
+-- the leaf of this number and the table of this name, if the fleet has them; a fault of the leaf comes first
 abbrev pub target_in : ℕ → Fleet → ℕ → List ℕ → Result Target Fault
 target_in n fleet number name = do
   leaf ← leaf_in n fleet number
   table ← table_in n fleet name
   Ok (record { leaf = leaf; table = table })
 
--- the words of a command that names a leaf, a table and one thing more, which is empty where the command has none
+-- the words of a command that names a leaf, a table and one more thing, which is empty if the command has none
 pub record TargetForm : Type 0 where
   pub leaf : ℕ
   pub table : List ℕ
   pub last : List ℕ
 
--- the same, where the leaf's number is one that a 64-bit word holds, or the greatest such
+-- the same, with a leaf's number that saturates at 64 bits
 abbrev pub capped_target : TargetForm → TargetForm
 capped_target form = record { leaf = capped form.leaf; table = form.table; last = form.last }
 
--- a leaf's number, a table's name and one thing more
+-- a leaf's number, a table's name and one more thing
 abbrev pub target_with : List ℕ → List ℕ → List ℕ → Option TargetForm
 target_with leaf table last = option_and_then (λ number. if is_table_name table then Some (record { leaf = number; table = table; last = last }) else None) (number_of leaf)
 
@@ -124,7 +124,8 @@ abbrev pub target_words : List (List ℕ) → Option TargetForm
 target_words (leaf ∷ table ∷ last ∷ []) = target_with leaf table last
 target_words _ = None
 
--- a command of a leaf, of a table and of what the last word is: a fault of the words comes first, then one of the leaf, then one of the table
+-- a command of a leaf, a table and what the last word gives: a fault of the words comes first, then one of the leaf,
+-- then one of the table
 abbrev pub of_target : {A : Type 0} → ℕ → Fleet → (List ℕ → Option A) → (Target → A → Result Command Fault) → Option TargetForm → Result Command Fault
 of_target n fleet value made words = do
   form ← or_words n words
@@ -132,7 +133,7 @@ of_target n fleet value made words = do
   target ← target_in n fleet form.leaf form.table
   made target last
 
--- how many rows a command takes from the lines after it
+-- the number of lines after its own that a command takes as its rows
 abbrev pub row_count : Command → ℕ
 row_count (Add leaf table rows) = length rows
 row_count (Tail key table rows) = length rows
@@ -146,7 +147,7 @@ rows_from n (line ∷ more) = do
   rows ← rows_from (n + 1) more
   Ok (row ∷ rows)
 
--- the number, where it is at least this and at most that
+-- the number, if it is from `least` to `most`
 abbrev pub within : ℕ → ℕ → Option ℕ → Option ℕ
 within least most (Some number) = if nat_le least number && nat_le number most then Some number else None
 within least most None = None
@@ -171,20 +172,20 @@ expire_of n fleet form = of_target n fleet time_of (λ target horizon. Ok (Expir
 abbrev pub keep_of : ℕ → Fleet → Option TargetForm → Result Command Fault
 keep_of n fleet form = of_target n fleet count_of (λ target rows. Ok (Keep target.leaf target.table rows)) form
 
--- `query TEXT`, of a table that the fleet has
+-- `query TEXT`; the fleet has to have its table
 abbrev pub query_command : ℕ → Fleet → Result Query QueryFault → Result Command Fault
 query_command n fleet read = do
   query ← on_line n why.Query read
   _ ← table_in n fleet query.table
   Ok (command.Query query)
 
--- the words of a tail: a key that a 64-bit word holds, a table's name, and how many rows
+-- the words of a tail: a key of 64 bits, a table's name, and the number of rows
 pub record TailForm : Type 0 where
   pub key : ℕ
   pub table : List ℕ
   pub rows : ℕ
 
--- a tail of these, where each of them is as it has to be
+-- a tail of these; None if one of them is not as it has to be
 abbrev pub tail_with : Option ℕ → List ℕ → Option ℕ → Option TailForm
 tail_with (Some key) table (Some rows) = if is_table_name table then Some (record { key = key; table = table; rows = rows }) else None
 tail_with _ table _ = None
@@ -202,34 +203,34 @@ tail_of n fleet words more = do
   rows ← rows_behind n more form.rows
   Ok (Tail form.key table rows)
 
--- the number that is the one word
+-- the number that the words are, if they are one word
 abbrev pub one_number : List (List ℕ) → Option ℕ
 one_number (word ∷ []) = number_of word
 one_number _ = None
 
--- the leaf whose number is the one word
+-- the leaf whose number is given
 abbrev pub leaf_of : ℕ → Fleet → Option ℕ → Result ℕ Fault
 leaf_of n fleet number = or_words n number >>= leaf_in n fleet
 
--- the leaf of a standing query by its first word, where so few are declared that there may be one more
+-- the leaf of a standing query by its first word, if another may be declared
 abbrev pub standing_leaf : ℕ → List ℕ → Option ℕ
 standing_leaf declared words = if nat_lt declared 16 then number_of (first_word words) else None
 
--- a standing query of that leaf: a fault of the leaf comes first, then one of the table
+-- a standing query of this leaf: a fault of the leaf comes first, then one of the table
 abbrev pub standing_at : ℕ → Fleet → ℕ → Query → Result Command Fault
 standing_at n fleet number query = do
   leaf ← leaf_in n fleet number
   _ ← table_in n fleet query.table
   Ok (Standing leaf query)
 
--- `standing L TEXT`, where so many are declared: a fault of the words comes first, then one of the query
+-- `standing L TEXT`, after so many that were declared: a fault of the words comes first, then one of the query
 abbrev pub standing_of : ℕ → Fleet → ℕ → List ℕ → Result Command Fault
 standing_of n fleet declared words = do
   number ← or_words n (standing_leaf declared words)
   query ← on_line n why.Query (query_of (trimmed (behind_word words)))
   standing_at n fleet number query
 
--- what is told of this number, where so many are declared
+-- the tell of this number, after so many that were declared
 abbrev pub tell_in : ℕ → ℕ → ℕ → Result Command Fault
 tell_in n declared number = if nat_lt number declared then Ok (Tell number) else Err (n, why.Words)
 
@@ -246,7 +247,7 @@ flush_words _ = None
 abbrev pub flush_of : ℕ → Fleet → Option TargetForm → Result Command Fault
 flush_of n fleet form = of_target n fleet Some (λ target _. Ok (Flush target.leaf target.table)) form
 
--- the words of a drain: a leaf, and after how many steps it is stopped, if it is
+-- the words of a drain: a leaf, and the number of steps after which it is stopped, if it is
 pub record DrainForm : Type 0 where
   pub leaf : ℕ
   pub stop : Option ℕ
@@ -269,19 +270,19 @@ drain_of n fleet words = do
   leaf ← leaf_in n fleet form.leaf
   Ok (Drain leaf form.stop)
 
--- the words of a rollover, a percent of the leaves from 1 to 100: none is 2 percent
+-- the words of a rollover: a percent from 1 to 100, or no word, which is 2 percent
 abbrev pub rollover_words : List (List ℕ) → Option ℕ
 rollover_words [] = Some 2
 rollover_words (percent ∷ []) = within 1 100 (number_of percent)
 rollover_words _ = None
 
--- the fleet of a line while none was read
+-- the fleet of a line, while none was read
 abbrev pub first_command : ℕ → List ℕ → Option LineWord → Result Fleet Fault
 first_command n line None = Err (n, why.Command)
 first_command n line (Some line_word.Fleet) = or_words n (fleet_of (words_of (behind_word line)))
 first_command n line (Some _) = Err (n, why.NoFleet)
 
--- the command of this first word and the words behind it, behind this fleet, where those lines follow
+-- the command of this first word and the words after it, with this fleet; these lines follow
 abbrev pub command_of : ℕ → Fleet → CommandWord → List ℕ → List (List ℕ) → Result Command Fault
 command_of n fleet command_word.Add words more = add_of n fleet (target_words (words_of words)) more
 command_of n fleet command_word.Expire words more = expire_of n fleet (target_words (words_of words))

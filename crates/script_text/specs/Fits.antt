@@ -26,7 +26,7 @@ pub record AreTables (tables : List (List ℕ)) : Type 0 where
   pub names : AllByRecursion IsTableName tables
   pub distinct : AreDistinct tables
 
--- a command behind a fleet of so many leaves with these tables, as it may stand in a burst too
+-- a command that may stand in a burst too, of a fleet of so many leaves with these tables
 abbrev pub IsCommand : ℕ → List (List ℕ) → Command → Type 0
 IsCommand leaves tables (Fleet machines per_machine names) = ⊥
 IsCommand leaves tables (Add leaf table rows) = (leaf < leaves) × (table < length tables) × (length rows ≤ 100000) × AllByRecursion IsRow rows
@@ -42,19 +42,19 @@ IsCommand leaves tables (Rollover percent) = (0 < percent) × (percent ≤ 100)
 IsCommand leaves tables (Standing leaf query) = ⊥
 IsCommand leaves tables (Tell number) = ⊥
 
--- a command outside bursts
+-- a command outside bursts: one that a burst may have too, a standing query, or a tell
 abbrev pub IsAlone : ℕ → List (List ℕ) → Command → Type 0
 IsAlone leaves tables (Standing leaf query) = (leaf < leaves) × Contains tables query.table × IsQuery query
 IsAlone leaves tables (Tell number) = ⊤
 IsAlone leaves tables c = IsCommand leaves tables c
 
--- machines of as many leaves each: at least one of either, and at most 256 leaves in all
+-- at least one machine, at least one leaf on each, and at most 256 leaves in all
 pub record AreLeaves (machines per_machine : ℕ) : Type 0 where
   pub some_machines : 0 < machines
   pub some_leaves : 0 < per_machine
   pub few : machines * per_machine ≤ 256
 
--- At most one of these lanes has commands of a leaf's steward.
+-- for each leaf at most one of these lanes has commands for its steward
 abbrev pub OneSteward : List (List Command) → Type 0
 OneSteward lanes = (leaf : ℕ) → length (filter (has_steward leaf) lanes) ≤ 1
 
@@ -65,23 +65,23 @@ pub record IsBurst (leaves : ℕ) (tables : List (List ℕ)) (lanes : List (List
   pub each : AllByRecursion (AllByRecursion (IsCommand leaves tables)) lanes
   pub stewards : OneSteward lanes
 
--- an item behind a fleet of so many leaves with these tables
+-- an item after a fleet of so many leaves with these tables
 abbrev pub IsItem : ℕ → List (List ℕ) → Item → Type 0
 IsItem leaves tables (One c) = IsAlone leaves tables c
 IsItem leaves tables (Burst lanes) = IsBurst leaves tables lanes
 
--- items behind a first command, which is a fleet
+-- the items after the first command, which is a fleet
 abbrev pub AreBehind : Command → List Item → Type 0
 AreBehind (Fleet machines per_machine tables) items = AreLeaves machines per_machine × AreTables tables × AllByRecursion (IsItem (machines * per_machine) tables) items
 AreBehind _ items = ⊥
 
--- items, of which the first is a fleet, and no other is
+-- the first item is a fleet, and no other is
 abbrev pub AreItems : List Item → Type 0
 AreItems [] = Unit {0}
 AreItems (One c ∷ items) = AreBehind c items
 AreItems (Burst lanes ∷ items) = ⊥
 
--- how many standing queries an item declares
+-- the number of standing queries that an item declares
 abbrev pub declared_by : Item → ℕ
 declared_by (One (Standing leaf query)) = 1
 declared_by _ = 0
@@ -90,12 +90,12 @@ abbrev pub declared_in : List Item → ℕ
 declared_in [] = 0
 declared_in (item ∷ items) = declared_by item + declared_in items
 
--- the standing query that it tells is one of so many
+-- the number of the standing query that it tells is below n
 abbrev pub TellsDeclared : ℕ → Item → Type 0
 TellsDeclared declared (One (Tell number)) = number < declared
 TellsDeclared declared _ = ⊤
 
--- each standing query that is told is declared above, where so many are before the first
+-- each standing query that is told was declared before; n were declared before the first item
 abbrev pub TellAbove : ℕ → List Item → Type 0
 TellAbove declared [] = ⊤
 TellAbove declared (item ∷ items) = TellsDeclared declared item × TellAbove (declared + declared_by item) items

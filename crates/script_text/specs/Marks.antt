@@ -1,4 +1,4 @@
--- Of which leaves some lanes have a steward's command, as it is marked once and not looked for again.
+-- Marks of the leaves whose stewards have a command in some lanes.
 use Rattle.std.specs.Prelude.{◌≡◌, ◌==◌, ◌||◌, ℕ, List, Bool, false, slice_index_or}
 use Rattle.std.specs.List.{list_any}
 use Rattle.script_text.specs.declared.command.Command.{Command}
@@ -9,12 +9,12 @@ use Rattle.script_text.specs.Stewards.{has_steward, has_stewards}
 abbrev pub is_marked : StewardMarks → ℕ → Bool
 is_marked marks leaf = marks.every || slice_index_or marks.leaves.items leaf false
 
--- a leaf is marked where one of these lanes has a command of its steward
+-- a leaf is marked if and only if one of these lanes has a command for its steward
 pub record AreMarked (lanes : List (List Command)) (marks : StewardMarks) : Type 0 where
   pub each : (leaf : ℕ) → is_marked marks leaf ≡ list_any (has_steward leaf) lanes
   pub any : marks.some ≡ list_any has_stewards lanes
 
--- more is marked: these leaves, and whether there is one
+-- these leaves are marked too, and whether there is one
 pub record Marks (old new : StewardMarks) (has : ℕ → Bool) (some : Bool) : Type 0 where
   pub each : (leaf : ℕ) → is_marked new leaf ≡ (is_marked old leaf || has leaf)
   pub any : new.some ≡ (old.some || some)

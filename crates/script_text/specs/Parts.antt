@@ -10,12 +10,12 @@ use Rattle.script_text.specs.Commands.{rows_from}
 use Rattle.text_lines.specs.Lines.{lines_of}
 use Rattle.script_text.specs.Script.{ParsesAs}
 
--- What was read of a part: the rows that its lines are, or its first fault, where its first line has the number 1.
+-- the reading of a part, whose first line has the number 1: its lines as rows, or its first fault
 pub record IsPartRead (part : List ℕ) (read : Result (List Row) ScriptFault) : Type 0 where
   pub exact : ParsesAs (λ (rows : List Row). rows) read (rows_from 1 (lines_of part))
   pub are_rows : IfOk read (AllByRecursion IsRow)
 
--- the fault of a part, with its line's number in the whole, where so many lines stand before the part
+-- the fault of a part that follows so many lines, with its line's number in the whole text
 abbrev pub fault_behind : ℕ → ScriptFault → ScriptFault
 fault_behind lines (At line why) = At (lines + line) why
 fault_behind lines NoMemory = NoMemory

@@ -20,7 +20,8 @@ abbrev pub closed : ℕ → Script → Position → Result Script Fault
 closed last script position.Outside = Ok script
 closed last script _ = Err (last, why.Place)
 
--- What is read of the lines to the text's last one, numbered from n on, behind so many rows of the command before them and behind what was read.
+-- the reading of the lines that are left, numbered from n on, after what was read; the first `rows` of them are rows of
+-- the command before; `last` is the number of the text's last line
 abbrev pub read_from : ℕ → Fleet → ℕ → ℕ → Reading → List (List ℕ) → Result Script Fault
 read_from last fleet rows n reading [] = closed last reading.script reading.position
 read_from last fleet (suc rows) n reading (line ∷ more) = read_from last fleet rows (n + 1) reading more
@@ -42,7 +43,7 @@ next_line n (line ∷ more) = if is_skipped line then next_line (n + 1) more els
 abbrev pub begun : ℕ → Fleet → Reading
 begun n fleet = record { script = record { fleet_line = n; items = item.One (fleet_command fleet) ∷ []; standings = 0 }; position = position.Outside }
 
--- the script whose first command stands on this line
+-- the script whose first command is on this line
 abbrev pub script_at : ℕ → Option NumberedLine → Result Script Fault
 script_at last None = Ok (record { fleet_line = 0; items = []; standings = 0 })
 script_at last (Some line) = do
@@ -58,7 +59,7 @@ abbrev pub IfAt : ScriptFault → (ℕ → Why → Type 0) → Type 0
 IfAt (At line why) P = P line why
 IfAt NoMemory P = Unit {0}
 
--- What a function returned, seen by view, is what reading gives, unless memory ran out.
+-- the result, seen by view, is what reading gives, unless memory ran out
 abbrev pub ParsesAs : {X Y : Type 0} → (X → Y) → Result X ScriptFault → Result Y Fault → Type 0
 ParsesAs view (Ok x) read = read ≡ Ok (view x)
 ParsesAs view (Err e) read = IfAt e (λ line why. read ≡ Err (line, why))

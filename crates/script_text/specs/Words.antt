@@ -1,4 +1,4 @@
--- The words of a line, and what they may be.
+-- The words of a line, and the numbers and names that they give.
 use Rattle.std.specs.Prelude.{ℕ, ℤ, pos, ◌-◌, ◌^◌, min, ◌==◌, ◌&&◌, List, [], ◌∷◌, length, nat_lt, nat_le, Bool, not, if◌then◌else◌, Option, Some, None}
 use Rattle.std.specs.Char.{is_ascii_digit}
 use Rattle.std.specs.List.{filter, list_all, position_from}
@@ -37,6 +37,6 @@ place_of names name = position_from (λ other. bytes_eq other name) 0 names
 abbrev pub are_tables : List (List ℕ) → Bool
 are_tables names = nat_lt 0 (length names) && nat_le (length names) 16 && list_all is_table_name names && are_distinct names
 
--- what may be the name of one more table behind these
+-- what may be the name of another table after these
 abbrev pub may_follow : List (List ℕ) → List ℕ → Bool
 may_follow names name = nat_lt (length names) 16 && is_table_name name && not (is_among names name)

@@ -21,7 +21,7 @@ use std::thread::Threads;
 use text_faults::{ScriptFault, Why, fault_at};
 use text_lines::cut_lines;
 
-/// The add `L T N` of these words, which stand on the line of this number. Its rows are the lines of the text after it.
+/// Reads the words `L T N` of an add on line `number`. Its rows are the next lines of the text.
 pub fn add<R: Threads + Sync>(
     rt: &R,
     alloc: Global,
@@ -51,7 +51,7 @@ pub fn add<R: Threads + Sync>(
     })
 }
 
-/// The rows that the first lines of a text are, so many, where the line before the text has this number.
+/// Reads the first `count` lines of a text as rows. `number` is the number of the line before the text.
 pub fn rows_behind<R: Threads + Sync>(
     rt: &R,
     alloc: Global,
@@ -72,7 +72,7 @@ pub fn rows_behind<R: Threads + Sync>(
     read_rows(rt, alloc, lines, number, count)
 }
 
-/// The number of rows that a word is.
+/// The number of rows that a word gives.
 pub fn row_number(word: &[u8]) -> Option<u64>
     ensures exact { result ≡ within 0 100000 (number_of word.now) }
     ensures few { IfSome result (λ count. count ≤ MAX_ROWS) }

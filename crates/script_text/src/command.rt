@@ -1,14 +1,14 @@
-// The commands of a script, and whom each is for.
+// The commands of a script, and to whom each is addressed.
 ghost use Rattle.std.specs.Prelude.{◌≡◌};
 ghost use Rattle.script_text.specs.Aims.{aim_in, aim_of};
 
 use leaf_model::{Names, Query, Rows, Text};
 use std::marker::Model;
 
-/// A command. A leaf is its number from 0, and a table its place among those of the fleet, from 0.
+/// A command. A leaf is given by its number, from 0, and a table by its place among those of the fleet, from 0.
 #[derive(Drop)]
 pub enum Command {
-    /// So many machines, with so many leaves each, which all have these tables.
+    /// `machines` machines with `per_machine` leaves each. Each leaf has these tables.
     Fleet {
         machines: u32,
         per_machine: u32,
@@ -19,20 +19,20 @@ pub enum Command {
         table: u32,
         rows: Rows,
     },
-    /// The rows of the table whose time is less than the horizon are to go.
+    /// Removes the rows of the table whose time is below the horizon.
     Expire {
         leaf: u32,
         table: u32,
         horizon: i64,
     },
-    /// The last n rows of the table are to stay.
+    /// Keeps the last n rows of the table, and removes the others.
     Keep {
         leaf: u32,
         table: u32,
         n: u64,
     },
     Query(Query),
-    /// The rows are to go to one leaf, and the key picks which leaves are tried for it.
+    /// Sends the rows to one leaf. The key picks the leaves that are tried.
     Tail {
         key: u64,
         table: u32,
@@ -42,25 +42,25 @@ pub enum Command {
         leaf: u32,
         table: u32,
     },
-    /// A drain of the leaf, which is stopped after so many steps where it has not ended by then.
+    /// Drains the leaf. If a number of steps is given, it is stopped after them.
     Drain {
         leaf: u32,
         stop: Option<u32>,
     },
     Kill(u32),
     Start(u32),
-    /// Every leaf is restarted, in waves of at most so many percent of the leaves, and at most one of a machine.
+    /// Restarts every leaf, in waves of at most this percent of the leaves, and at most one leaf of a machine.
     Rollover(u32),
-    /// A query of the leaf's table that is declared once, and is told from then on.
+    /// Declares a standing query of the leaf's table, which `tell` asks for from then on.
     Standing {
         leaf: u32,
         query: Query,
     },
-    /// What the standing query of this number, from 0 in the order of their declarations, tells.
+    /// Prints what a standing query tells. Its number counts from 0, in the order of the declarations.
     Tell(u32),
 }
 
-/// Whom a command is for.
+/// To whom a command is addressed.
 #[derive(Clone, Copy)]
 pub enum Aim<'a> {
     /// The whole fleet, which it begins.
@@ -78,7 +78,7 @@ pub enum Aim<'a> {
 }
 
 impl Command {
-    /// Whom the command is for.
+    /// To whom the command is addressed.
     pub fn aim<'a>(&'a self) -> Aim<'a>
         ensures { aim_in result ≡ aim_of self.now }
     {

@@ -16,14 +16,14 @@ use text_faults::{ScriptFault, Why, fault_at};
 /// The most steps after which a drain is stopped.
 const MAX_STEPS: u64 = 1_000_000;
 
-/// The words of a drain. A leaf's number that is greater than a `u64` can hold is the greatest `u64`.
+/// The words of a drain. The leaf's number saturates at the greatest `u64`.
 #[derive(Clone, Copy)]
 struct DrainWords {
     leaf: u64,
     stop: Option<u32>,
 }
 
-/// The drain of these words, which stand on the line of this number.
+/// Reads the words of a drain on line `number`.
 pub fn drain(fleet: &Fleet, words: &[u8], number: u64) -> Result<Command, ScriptFault>
     requires { IsFleet fleet.now }
     ensures exact { ParsesAs (λ c. c) result (drain_of number fleet.now (drain_words (words_of words.now))) }

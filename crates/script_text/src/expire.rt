@@ -11,7 +11,7 @@ use crate::target::{target_in, target_words};
 use crate::words::time_of;
 use text_faults::{ScriptFault, Why, fault_at};
 
-/// The expiry `L T H` of these words, which stand on the line of this number.
+/// Reads the words `L T H` of an expiry on line `number`.
 pub fn expire(fleet: &Fleet, words: &[u8], number: u64) -> Result<Command, ScriptFault>
     requires { IsFleet fleet.now }
     ensures exact { ParsesAs (λ c. c) result (expire_of number fleet.now (target_words (words_of words.now))) }

@@ -19,7 +19,7 @@ const MAX_TABLES: usize = 16;
 /// The most leaves of a fleet.
 const MAX_LEAVES: u64 = 256;
 
-/// So many machines, with so many leaves each, which all have these tables.
+/// `machines` machines with `per_machine` leaves each. Each leaf has these tables.
 #[derive(Drop)]
 pub struct Fleet {
     pub machines: u32,
@@ -28,7 +28,7 @@ pub struct Fleet {
 }
 
 impl Fleet {
-    /// As many leaves as all its machines have.
+    /// The number of leaves of all machines.
     pub fn leaf_count(&self) -> u32
         requires { IsFleet self.now }
         ensures { result ≡ leaf_count self.now }
@@ -37,7 +37,7 @@ impl Fleet {
     }
 }
 
-/// The first two words behind `fleet`, and what follows them.
+/// The first two words after `fleet`, and what follows them.
 #[derive(Clone, Copy)]
 struct Sizes<'a> {
     machines: u32,
@@ -45,7 +45,7 @@ struct Sizes<'a> {
     names: &'a [u8],
 }
 
-/// The fleet that a line is, where no fleet was read before it.
+/// Reads a line as a fleet, if no fleet was read before it.
 pub fn first_command(alloc: Global, line: &[u8], number: u64) -> Result<Fleet, ScriptFault>
     ensures exact { ParsesAs (λ fleet. fleet) result (first_command number line.now (line_word_of (first_word line.now))) }
     ensures is_fleet { IfOk result IsFleet }
@@ -82,7 +82,7 @@ fn read_fleet(alloc: Global, words: &[u8], number: u64) -> Result<Fleet, ScriptF
     }
 }
 
-/// The numbers of machines and of leaves of each, where they are in their range, and the words behind them.
+/// The numbers of machines and of leaves of each, and the words after them. None if a number is out of its range.
 fn sizes_of(words: &[u8]) -> Option<Sizes>
     ensures some { IfSome result (λ sizes. fleet_of (words_of words.now) ≡ (if are_tables (words_of sizes.names.now) then Some (record { machines = sizes.machines; per_machine = sizes.per_machine; names = words_of sizes.names.now }) else None)) }
     ensures are_leaves { IfSome result (λ sizes. AreLeaves sizes.machines sizes.per_machine) }
@@ -102,7 +102,7 @@ fn sizes_of(words: &[u8]) -> Option<Sizes>
     })
 }
 
-/// Whether a fleet may have so many machines of so many leaves each.
+/// Whether a fleet may have this number of machines, with this number of leaves each.
 fn leaves_in_range(machines: u64, per_machine: u64) -> bool
     ensures { result ≡ leaves_in_range machines per_machine }
 {
@@ -112,7 +112,7 @@ fn leaves_in_range(machines: u64, per_machine: u64) -> bool
     }
 }
 
-/// The names that the words are, where they are 1 to 16 distinct names of tables.
+/// The words as names of tables. None if they are not 1 to 16 distinct names.
 fn tables(alloc: Global, words: &[u8]) -> Result<Option<Names>, AllocError>
     ensures exact { IfOk result (λ found. found ≡ (if are_tables (words_of words.now) then Some (words_of words.now) else None)) }
     ensures are_tables { IfOk result (λ found. IfSome found AreTables) }
@@ -132,7 +132,7 @@ fn tables(alloc: Global, words: &[u8]) -> Result<Option<Names>, AllocError>
     Ok(Some(Names::of(tables)))
 }
 
-/// Whether a word may be the name of one more table.
+/// Whether a word may be the name of another table.
 fn may_follow(tables: &[Text], word: &[u8]) -> bool
     ensures { result ≡ may_follow tables.now word.now }
 {

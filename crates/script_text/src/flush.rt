@@ -12,14 +12,14 @@ use crate::words::{next_word, number_of};
 use leaf_model::is_table_name;
 use text_faults::{ScriptFault, Why, fault_at};
 
-/// The words of a flush. A leaf's number that is greater than a `u64` can hold is the greatest `u64`.
+/// The words of a flush. The leaf's number saturates at the greatest `u64`.
 #[derive(Clone, Copy)]
 struct FlushWords<'a> {
     leaf: u64,
     table: &'a [u8],
 }
 
-/// The flush of these words, which stand on the line of this number.
+/// Reads the words of a flush on line `number`.
 pub fn flush(fleet: &Fleet, words: &[u8], number: u64) -> Result<Command, ScriptFault>
     requires { IsFleet fleet.now }
     ensures exact { ParsesAs (λ c. c) result (flush_of number fleet.now (flush_words (words_of words.now))) }

@@ -11,7 +11,7 @@ use crate::target::{target_in, target_words};
 use crate::words::count_of;
 use text_faults::{ScriptFault, Why, fault_at};
 
-/// The keep `L T N` of these words, which stand on the line of this number.
+/// Reads the words `L T N` of a keep on line `number`.
 pub fn keep(fleet: &Fleet, words: &[u8], number: u64) -> Result<Command, ScriptFault>
     requires { IsFleet fleet.now }
     ensures exact { ParsesAs (λ c. c) result (keep_of number fleet.now (target_words (words_of words.now))) }

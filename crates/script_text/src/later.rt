@@ -1,4 +1,4 @@
-// The commands behind a fleet.
+// The commands after the fleet.
 ghost use Rattle.std.specs.Prelude.{◌≡◌, ◌≤◌, ◌<◌, ◌+◌, ◌^◌, Some, IfOk, length, option_map};
 ghost use Rattle.text_lines.specs.Lines.{lines_of};
 ghost use Rattle.script_text.specs.Words.{words_of};
@@ -24,7 +24,8 @@ use std::alloc::Global;
 use std::thread::Threads;
 use text_faults::{ScriptFault, Why, fault_at};
 
-/// The command of this first word with the words behind it, on the line of this number, where this text follows.
+/// Reads a command on line `number`: its first word, the words after it, and its rows, if it has some, from the text
+/// that follows.
 pub fn command<R: Threads + Sync>(
     rt: &R,
     alloc: Global,
@@ -60,7 +61,7 @@ pub fn command<R: Threads + Sync>(
     }
 }
 
-/// The leaf of the fleet that the one word names.
+/// The leaf of the fleet that the words name. They have to be one word.
 fn leaf_of(fleet: &Fleet, words: &[u8], number: u64) -> Result<u32, ScriptFault>
     requires { IsFleet fleet.now }
     ensures exact { ParsesAs (λ leaf. leaf) result (leaf_of number fleet.now (one_number (words_of words.now))) }
@@ -72,7 +73,7 @@ fn leaf_of(fleet: &Fleet, words: &[u8], number: u64) -> Result<u32, ScriptFault>
     }
 }
 
-/// The number that is the one word.
+/// The number that the words are. They have to be one word.
 pub fn one_number(words: &[u8]) -> Option<u64>
     ensures { result ≡ option_map capped (one_number (words_of words.now)) }
 {

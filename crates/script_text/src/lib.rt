@@ -1,4 +1,4 @@
-//! The text of a script: which commands it has, or what is wrong with it first.
+//! The text of a script: its commands, or its first fault.
 #![tactic(auto)]
 
 mod add;

@@ -3,7 +3,7 @@ ghost use Rattle.std.specs.Prelude.{◌≡◌};
 ghost use Rattle.std.specs.Str.{bytes_eq};
 ghost use Rattle.script_text.specs.Commands.{command_word_of, line_word_of};
 
-/// The first word of a command behind a fleet.
+/// The first word of a command after the fleet.
 #[derive(Clone, Copy, PartialEq, Eq)]
 pub enum CommandWord {
     Add,
@@ -30,7 +30,7 @@ pub enum LineWord {
     Command(CommandWord),
 }
 
-/// The line whose first word a word is.
+/// The kind of line that begins with a word.
 pub fn line_word_of(word: &[u8]) -> Option<LineWord>
     ensures { result ≡ line_word_of word.now }
 {
@@ -54,7 +54,7 @@ pub fn line_word_of(word: &[u8]) -> Option<LineWord>
     }
 }
 
-/// The command whose first word a word is.
+/// The command that begins with a word.
 fn command_word_of(word: &[u8]) -> Option<CommandWord>
     ensures { result ≡ command_word_of word.now }
 {

@@ -1,4 +1,4 @@
-// Of which leaves some lanes have a steward's command.
+// Marks of the leaves whose stewards have a command in some lanes.
 ghost use Rattle.std.specs.Prelude.{◌≡◌, ◌==◌, ◌<◌, [], true, false, length, slice_index_or, IfOk};
 ghost use Rattle.script_text.specs.Marks.{AreMarked, AreSame, IsSet, Marks, is_marked};
 ghost use Rattle.script_text.specs.Stewards.{has_steward, has_stewards, is_a_stewards, is_stewards};
@@ -6,7 +6,7 @@ ghost use Rattle.script_text.specs.Stewards.{has_steward, has_stewards, is_a_ste
 use crate::command::{Aim, Command};
 use std::alloc::{AllocError, Global};
 
-/// A leaf behind the last mark has none, and a rollover marks each leaf.
+/// The marks of leaves. A leaf past the last mark is not marked. A rollover marks every leaf.
 #[derive(Drop)]
 pub struct StewardMarks {
     pub leaves: Vec<bool>,
@@ -15,7 +15,7 @@ pub struct StewardMarks {
 }
 
 impl StewardMarks {
-    /// The marks of no lane.
+    /// No marks.
     #[tactic(auto, using(crate::proofs::Marked::none_marked))]
     pub fn new(alloc: Global) -> StewardMarks
         ensures { AreMarked [] result }
@@ -34,7 +34,7 @@ impl StewardMarks {
         self.every || is_set(self.leaves.as_slice(), leaf as usize)
     }
 
-    /// Marks the leaves whose stewards have one of these commands.
+    /// Marks each leaf whose steward has one of these commands.
     #[tactic(auto, using(crate::proofs::Marked::marks_none))]
     pub fn mark_lane(&mut self, lane: &[Command]) -> Result<(), AllocError>
         ensures { IfOk result (λ _. Marks self.old self.new (λ leaf. has_steward leaf lane.now) (has_stewards lane.now)) }
@@ -45,7 +45,7 @@ impl StewardMarks {
         Ok(())
     }
 
-    // Marks the leaves whose stewards have this command.
+    // Marks each leaf whose steward has this command.
     #[tactic(auto, using(crate::proofs::Marked::marks_nothing, crate::proofs::Marked::marks_leaf, crate::proofs::Marked::marks_every))]
     fn mark(&mut self, command: &Command) -> Result<(), AllocError>
         ensures { IfOk result (λ _. Marks self.old self.new (λ leaf. is_stewards leaf command.now) (is_a_stewards command.now)) }
@@ -90,7 +90,7 @@ fn set(marks: &mut Vec<bool>, place: usize) -> Result<(), AllocError>
     Ok(())
 }
 
-// Has a mark in this place, by marks that are not set.
+// Lengthens the marks up to this place, by marks that are not set.
 #[tactic(auto, using(crate::proofs::Marked::reach_none, crate::proofs::Marked::reach_more))]
 fn reach(marks: &mut Vec<bool>, place: usize) -> Result<(), AllocError>
     ensures there { IfOk result (λ _. place < length marks.new.items) }

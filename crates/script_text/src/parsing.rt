@@ -15,7 +15,7 @@ use std::thread::Threads;
 use text_faults::{ScriptFault, Why, fault_at};
 use text_lines::{cut_line, cut_lines, is_skipped, line_count, without_return};
 
-/// A line that may be a command, its number from 1, and the text behind it.
+/// A line that may be a command, its number from 1, and the text after it.
 #[derive(Clone, Copy)]
 struct Line<'a> {
     number: u64,
@@ -23,11 +23,11 @@ struct Line<'a> {
     after: &'a [u8],
 }
 
-/// The script that a text is, or the first line that has a fault.
+/// Reads a text as a script, or gives the first line that has a fault. NoMemory may come at any line.
 pub fn parse<R: Threads + Sync>(rt: &R, alloc: Global, text: &[u8]) -> Result<Script, ScriptFault>
     ensures parsed { IfOk result (λ script. script_of text.now ≡ Ok script) }
     ensures refused { IfErr result (λ fault. IfAt fault (λ line why. script_of text.now ≡ Err (line, why))) }
-    // What is known of a script that was read.
+    // The script that was read is valid.
     ensures fits { IfOk result IsScript }
 {
     let Some(first) = next_line(text, 0) else {
@@ -48,8 +48,8 @@ pub fn parse<R: Threads + Sync>(rt: &R, alloc: Global, text: &[u8]) -> Result<Sc
     )
 }
 
-/// The script that begins with this fleet, which stands on the line of this number, where this text follows it and the
-/// text's last line has that number.
+/// Reads the script that begins with this fleet, on line `fleet_line`. The text follows the fleet, and its last line
+/// has the number `last`.
 fn script_behind<R: Threads + Sync>(
     rt: &R,
     alloc: Global,
@@ -84,7 +84,7 @@ fn script_behind<R: Threads + Sync>(
     closed(last, reading)
 }
 
-/// What was read where the fleet stands on this line, before the lines behind it.
+/// What was read once the fleet was, before the lines after it.
 fn begun(alloc: Global, fleet: &Fleet, fleet_line: u64) -> Result<Reading, AllocError>
     ensures { IfOk result (λ reading. reading ≡ begun fleet_line fleet.now) }
 {
@@ -105,7 +105,7 @@ fn begun(alloc: Global, fleet: &Fleet, fleet_line: u64) -> Result<Reading, Alloc
     })
 }
 
-/// The script, where the last line leaves no burst open.
+/// The script, if the last line leaves no burst open.
 fn closed(last: u64, reading: Reading) -> Result<Script, ScriptFault>
     ensures exact { ParsesAs (λ script. script) result (closed last reading.script reading.position) }
 {
@@ -115,7 +115,7 @@ fn closed(last: u64, reading: Reading) -> Result<Script, ScriptFault>
     }
 }
 
-/// The text behind so many lines, which it has.
+/// The text after its first `count` lines.
 fn behind_rows(text: &[u8], count: u64) -> &[u8]
     requires { count ≤ length (lines_of text.now) }
     ensures lines { lines_of result.now ≡ drop count (lines_of text.now) }
@@ -127,7 +127,7 @@ fn behind_rows(text: &[u8], count: u64) -> &[u8]
     }
 }
 
-/// The first line that may be a command, where so many lines stand before the text.
+/// The first line that may be a command. `lines_before` is the number of lines before the text.
 fn next_line(text: &[u8], lines_before: u64) -> Option<Line>
     requires { lines_before + length text.now < 2 ^ 64 }
     ensures exact { option_map {U = NumberedLine} (λ line. record { number = line.number; bytes = line.bytes.now; after = lines_of line.after.now }) result

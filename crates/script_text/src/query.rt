@@ -15,7 +15,7 @@ use query_text::parse;
 use std::alloc::Global;
 use text_faults::{ScriptFault, Why, fault_at};
 
-/// The query of this text, which stands on the line of this number.
+/// Reads the text of a query on line `number`. Its table has to be one of the fleet's.
 pub fn query(alloc: Global, fleet: &Fleet, text: &[u8], number: u64) -> Result<Command, ScriptFault>
     requires { IsFleet fleet.now }
     ensures exact { ParsesAs (λ c. c) result (query_command number fleet.now (query_of text.now)) }
@@ -29,7 +29,7 @@ pub fn query(alloc: Global, fleet: &Fleet, text: &[u8], number: u64) -> Result<C
     }
 }
 
-/// The query that the line of this number holds, whatever its table is.
+/// Reads the text of a query on line `number`, whatever its table is.
 pub fn read_query(alloc: Global, text: &[u8], number: u64) -> Result<Query, ScriptFault>
     ensures exact { ParsesAs (λ query. query) result (on_line number why.Query (query_of text.now)) }
     ensures is_query { IfOk result IsQuery }

@@ -1,4 +1,4 @@
-// What was read of a script, and what one line more does to it.
+// What was read of a script, and what the next line does to it.
 ghost use Rattle.std.specs.Prelude.{◌≡◌, ◌+◌, ◌++◌, ◌<◌, ◌≤◌, ◌^◌, [], ◌∷◌, IfOk, length};
 ghost use Rattle.script_text.specs.declared.fleet.Fleet.{Fleet};
 ghost use Rattle.script_text.specs.declared.reading.Position.TheVariants as position;
@@ -25,34 +25,34 @@ use text_lines::is_blank;
 /// The most lanes of a burst.
 const MAX_LANES: usize = 16;
 
-/// Where a line stands.
+/// The place of a line: outside bursts or in one.
 #[derive(Drop)]
 pub enum Position {
     Outside,
     /// In a burst before its first lane.
     Opened,
-    /// In the last of a burst's lanes so far.
+    /// In the latest lane of a burst.
     Lane {
         earlier: EarlierLanes,
         lane: Commands,
     },
 }
 
-/// What was read, and where the next line stands.
+/// What was read, and the place of the next line.
 #[derive(Drop)]
 pub struct Reading {
     pub script: Script,
     pub position: Position,
 }
 
-/// What was read with a line, and how many rows the line takes from those after it.
+/// What was read with a line, and the number of lines after it that it takes as rows.
 #[derive(Drop)]
 pub struct Step {
     pub reading: Reading,
     pub rows: u64,
 }
 
-/// A line with a command: its number, its first word, the words behind that, and the text after the line.
+/// A line with a command: its number, its first word, the words after that, and the text after the line.
 #[derive(Clone, Copy)]
 struct CommandLine<'a> {
     number: u64,
@@ -61,7 +61,7 @@ struct CommandLine<'a> {
     after: &'a [u8],
 }
 
-/// What is read with the line of this number, where this text follows it and the text's last line has that number.
+/// Reads line `number`, which the text follows. The text's last line has the number `last`.
 pub fn read_line<'a, R: Threads + Sync>(
     rt: &R,
     alloc: Global,
@@ -99,7 +99,7 @@ pub fn read_line<'a, R: Threads + Sync>(
     }
 }
 
-/// What is read with a line outside bursts.
+/// Reads a line outside bursts.
 fn outside<R: Threads + Sync>(
     rt: &R,
     alloc: Global,
@@ -136,7 +136,7 @@ fn outside<R: Threads + Sync>(
     }
 }
 
-/// What is read with a standing query outside bursts.
+/// Reads a standing query outside bursts.
 #[tactic(auto, using(crate::proofs::Keeps::standing_outside_keeps))]
 fn standing_outside(
     alloc: Global,
@@ -155,7 +155,7 @@ fn standing_outside(
     Ok(stepped(script, Position::Outside, 0))
 }
 
-/// What is read with a line of a burst before its first lane.
+/// Reads a line of a burst before its first lane.
 fn opened(alloc: Global, last: u64, script: Script, line: &CommandLine) -> Result<Step, ScriptFault>
     ensures exact { (fleet : Fleet) → ParsesAs (λ step. step) result (line_at last line.now.number fleet script position.Opened line.now.words.now (lines_of line.now.after.now) line.now.word) }
     ensures no_rows { IfOk result (λ step. step.rows ≡ 0) }
@@ -177,7 +177,7 @@ fn opened(alloc: Global, last: u64, script: Script, line: &CommandLine) -> Resul
     }
 }
 
-/// What is read with a line of a burst's lane, behind earlier ones.
+/// Reads a line of a burst's lane, after the earlier lanes.
 fn in_lane<R: Threads + Sync>(
     rt: &R,
     alloc: Global,
@@ -219,7 +219,7 @@ fn in_lane<R: Threads + Sync>(
     }
 }
 
-/// What is read with a command of a burst's lane.
+/// Reads a command of a burst's lane.
 fn command_in_lane<R: Threads + Sync>(
     rt: &R,
     alloc: Global,
@@ -246,7 +246,7 @@ fn command_in_lane<R: Threads + Sync>(
     Ok(stepped(script, Position::Lane { earlier, lane }, rows))
 }
 
-/// A burst that begins on the line of this number.
+/// Begins a burst on line `number`.
 fn next_burst(number: u64, script: Script, words: &[u8]) -> Result<Step, ScriptFault>
     ensures exact { ParsesAs (λ step. step) result (next_burst number script words.now) }
     ensures no_rows { IfOk result (λ step. step.rows ≡ 0) }
@@ -257,7 +257,7 @@ fn next_burst(number: u64, script: Script, words: &[u8]) -> Result<Step, ScriptF
     Ok(stepped(script, Position::Opened, 0))
 }
 
-/// One more lane behind these.
+/// Begins another lane after these.
 fn next_lane(
     alloc: Global,
     number: u64,
@@ -279,7 +279,7 @@ fn next_lane(
     Ok(stepped(script, Position::Lane { earlier, lane }, 0))
 }
 
-/// The end of a burst of these lanes.
+/// Ends a burst of these lanes.
 fn end_burst(
     number: u64,
     script: Script,
@@ -296,7 +296,7 @@ fn end_burst(
     Ok(stepped(script, Position::Outside, 0))
 }
 
-/// What was read, where the next line stands there, behind so many rows.
+/// What was read, with the place of the next line, after `rows` lines of rows.
 fn stepped(script: Script, position: Position, rows: u64) -> Step
     ensures { result ≡ stepped script position rows }
 {
@@ -341,7 +341,7 @@ fn with_command(lane: Commands, command: Command) -> Result<Commands, AllocError
     Ok(Commands::of(commands))
 }
 
-/// A fault of a line behind which a burst is open: on the text's last line it is Place, whatever it is.
+/// The fault of a line after which a burst is open. On the text's last line it is Place, whatever it was.
 fn fault_inside(last: u64, fault: ScriptFault) -> ScriptFault
     ensures { result ≡ fault_inside last fault }
 {
@@ -357,7 +357,7 @@ fn fault_inside(last: u64, fault: ScriptFault) -> ScriptFault
     }
 }
 
-/// How many lines behind its own a command takes as its rows.
+/// The number of lines after its own that a command takes as its rows.
 fn row_count(command: &Command) -> u64
     ensures { result ≡ row_count command.now }
 {

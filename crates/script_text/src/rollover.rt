@@ -11,10 +11,10 @@ use crate::command::Command;
 use crate::words::{next_word, number_of};
 use text_faults::{ScriptFault, Why, fault_at};
 
-/// The percent of the leaves that a wave has at most, where none is named.
+/// The percent of the leaves that a wave has at most, if none is named.
 const USUAL_PERCENT: u32 = 2;
 
-/// The rollover of these words, which stand on the line of this number.
+/// Reads the words of a rollover on line `number`.
 pub fn rollover(words: &[u8], number: u64) -> Result<Command, ScriptFault>
     ensures exact { ParsesAs (λ c. c) result (or_words number (option_map Rollover (rollover_words (words_of words.now)))) }
     ensures is_command { (leaves : ℕ) (tables : List (List ℕ)) → IfOk result (IsCommand leaves tables) }
@@ -41,7 +41,7 @@ fn rollover_words(words: &[u8]) -> Option<u32>
     percent_of(word)
 }
 
-/// The percent that a word is.
+/// The percent that a word gives.
 fn percent_of(word: &[u8]) -> Option<u32>
     ensures exact { result ≡ within 1 100 (number_of word.now) }
     ensures some { IfSome result (λ percent. 0 < percent) }

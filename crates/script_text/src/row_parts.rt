@@ -1,4 +1,4 @@
-// The rows of an add or a tail, read by threads side by side.
+// Reads the rows of an add or a tail, with several threads.
 ghost use Rattle.std.specs.Prelude.{◌≡◌, ◌+◌, ◌≤◌, ◌<◌, ◌^◌, ◌++◌, IfOk, List, OnOk, ℕ, length};
 ghost use Rattle.std.specs.Borrow.{Bor};
 ghost use Rattle.std.specs.List.{AllByRecursion, AllZip};
@@ -20,8 +20,8 @@ use std::thread::Threads;
 use text_faults::{ScriptFault, Why, fault_at};
 use text_lines::{MANY_LINES, cut_line, parts_of, without_return};
 
-/// The rows that the lines of a text are, so many, where the line before them has this number. The first fault in the
-/// order of the lines decides, whichever part is read first.
+/// Reads the first `count` lines of a text as rows. `number` is the number of the line before them. The first fault in
+/// the order of the lines decides, whichever part is read first.
 pub fn read_rows<R: Threads + Sync>(
     rt: &R,
     alloc: Global,
@@ -51,7 +51,7 @@ pub fn read_rows<R: Threads + Sync>(
     Ok(Rows::of(rows))
 }
 
-/// Puts a part's rows behind the others; where there are none yet, the part's bytes are the beginning.
+/// Appends a part's rows. If there are none yet, the part's bytes are taken as they are.
 #[tactic(auto, using(crate::proofs::OneMore::none_before))]
 fn put_behind(rows: &mut PackedRows, part: PackedRows) -> Result<(), AllocError>
     ensures { OnOk result (rows.new ≡ rows.old ++ part) }
@@ -79,7 +79,7 @@ fn read_alone(alloc: Global, text: &[u8], number: u64, count: u64) -> Result<Row
     }
 }
 
-/// What is read of each part, in order, by as many threads as there are processors.
+/// Reads each part, with as many threads as there are processors. The results are in the order of the parts.
 fn read_each<R: Threads + Sync>(
     rt: &R,
     alloc: Global,
@@ -104,7 +104,7 @@ fn read_one(alloc: Global, part: &[u8]) -> Result<PackedRows, ScriptFault>
     read_part(alloc, part)
 }
 
-/// The rows that the lines of a part are, where its first line has the number 1.
+/// Reads the lines of a part as rows. Its first line has the number 1.
 fn read_part(alloc: Global, part: &[u8]) -> Result<PackedRows, ScriptFault>
     ensures exact { ParsesAs (λ rows. rows) result (rows_from 1 (lines_of part.now)) }
     ensures are_rows { IfOk result (AllByRecursion IsRow) }
@@ -122,7 +122,7 @@ fn read_part(alloc: Global, part: &[u8]) -> Result<PackedRows, ScriptFault>
     Ok(rows)
 }
 
-/// The row that the line of this number is. One that is seen as its members come is made at once.
+/// Reads line `number` as a row. A row in plain form is made at once, as its members come.
 fn row(alloc: Global, room: &mut RowRoom, line: &[u8], number: u64) -> Result<Row, ScriptFault>
     ensures exact { ParsesAs (λ row. row) result (on_line number why.Row (row_of line.now)) }
     ensures is_row { IfOk result IsRow }
@@ -139,7 +139,7 @@ fn row(alloc: Global, room: &mut RowRoom, line: &[u8], number: u64) -> Result<Ro
     }
 }
 
-/// The fault of a part behind so many lines: its line is counted from the first of all.
+/// The fault of a part that follows `lines` lines, with its line counted from the first line of all.
 fn fault_behind(lines: u64, fault: ScriptFault) -> ScriptFault
     requires { IfAt fault (λ line _. lines + line < 2 ^ 64) }
     ensures { result ≡ fault_behind lines fault }

@@ -1,4 +1,4 @@
-// Standing queries, which are declared once and told from then on.
+// Standing queries: declared once, and told from then on.
 ghost use Rattle.std.specs.Prelude.{◌≡◌, ◌<◌, ◌≤◌, IfOk, option_map, if◌then◌else◌, nat_lt, None};
 ghost use Rattle.query_text.specs.Grammar.{IsQuery};
 ghost use Rattle.script_text.specs.Words.{first_word, words_of};
@@ -21,7 +21,7 @@ use text_faults::{ScriptFault, Why, fault_at};
 /// The most standing queries of a script.
 const MAX_STANDINGS: u32 = 16;
 
-/// The standing query `L TEXT` of these words, which stand on the line of this number behind so many that are declared.
+/// Reads the words `L TEXT` of a standing query on line `number`. `declared` were declared before it.
 pub fn standing(
     alloc: Global,
     fleet: &Fleet,
@@ -43,7 +43,7 @@ pub fn standing(
     standing_at(fleet, leaf, query, number)
 }
 
-/// The number of a leaf that is the word, where there may be one standing query more.
+/// The number of the leaf that a word gives. None if no further standing query may be declared.
 fn standing_leaf(declared: u32, word: &[u8]) -> Option<u64>
     ensures { result ≡ option_map capped (if nat_lt declared 16 then number_of word.now else None) }
 {
@@ -54,7 +54,7 @@ fn standing_leaf(declared: u32, word: &[u8]) -> Option<u64>
     }
 }
 
-/// The standing query of that leaf, where the fleet has the leaf and the query's table.
+/// The standing query of this leaf. The fleet has to have the leaf and the query's table.
 fn standing_at(fleet: &Fleet, leaf: u64, query: Query, number: u64) -> Result<Command, ScriptFault>
     requires fleet { IsFleet fleet.now }
     requires query { IsQuery query }
@@ -69,7 +69,7 @@ fn standing_at(fleet: &Fleet, leaf: u64, query: Query, number: u64) -> Result<Co
     }
 }
 
-/// What `tell S` asks for, on the line of this number behind so many standing queries that are declared.
+/// Reads the word `S` of a tell on line `number`. `declared` standing queries were declared before it.
 pub fn tell(declared: u32, words: &[u8], number: u64) -> Result<Command, ScriptFault>
     ensures exact { ParsesAs (λ c. c) result (tell_of number declared (one_number (words_of words.now))) }
     ensures told { IfOk result (λ c. TellsDeclared declared (One c)) }

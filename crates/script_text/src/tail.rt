@@ -17,7 +17,7 @@ use std::alloc::Global;
 use std::thread::Threads;
 use text_faults::{ScriptFault, Why, fault_at};
 
-/// The words of a tail: its key, the name of its table, and how many rows it has.
+/// The words of a tail: its key, the name of its table, and its number of rows.
 #[derive(Clone, Copy)]
 struct TailWords<'a> {
     key: u64,
@@ -25,7 +25,7 @@ struct TailWords<'a> {
     rows: u64,
 }
 
-/// The tail `K T N` of these words, which stand on the line of this number. Its rows are the lines of the text after it.
+/// Reads the words `K T N` of a tail on line `number`. Its rows are the next lines of the text.
 pub fn tail<R: Threads + Sync>(
     rt: &R,
     alloc: Global,

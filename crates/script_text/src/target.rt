@@ -16,8 +16,8 @@ pub struct Target {
     pub table: u32,
 }
 
-/// The words of a command that names a leaf, a table and one thing more. A leaf's number that is greater than a `u64`
-/// can hold is the greatest `u64`.
+/// The words of a command that names a leaf, a table and one more thing. The leaf's number saturates at the greatest
+/// `u64`.
 #[derive(Clone, Copy)]
 pub struct TargetWords<'a> {
     pub leaf: u64,
@@ -44,7 +44,7 @@ pub fn target_words(words: &[u8]) -> Option<TargetWords>
     }
 }
 
-/// The leaf of this number, where the fleet has it.
+/// The leaf of this number. An Err says that the fleet does not have it.
 pub fn leaf_in(fleet: &Fleet, leaf: u64, number: u64) -> Result<u32, ScriptFault>
     requires { IsFleet fleet.now }
     ensures exact { ParsesAs (λ leaf. leaf) result (leaf_in number fleet.now leaf) }
@@ -56,7 +56,8 @@ pub fn leaf_in(fleet: &Fleet, leaf: u64, number: u64) -> Result<u32, ScriptFault
     Ok(leaf as u32)
 }
 
-/// The leaf of this number and the table of this name, where the fleet has them.
+/// The leaf of this number and the table of this name. An Err says that the fleet does not have one of them, the leaf
+/// first.
 pub fn target_in(fleet: &Fleet, leaf: u64, table: &[u8], number: u64) -> Result<Target, ScriptFault>
     requires { IsFleet fleet.now }
     ensures exact { ParsesAs (λ target. target) result (target_in number fleet.now leaf table.now) }
@@ -68,7 +69,7 @@ pub fn target_in(fleet: &Fleet, leaf: u64, table: &[u8], number: u64) -> Result<
     Ok(Target { leaf, table })
 }
 
-/// The place of the table of this name, where the fleet has it.
+/// The place of the table of this name. An Err says that the fleet does not have it.
 pub fn table_in(fleet: &Fleet, table: &[u8], number: u64) -> Result<u32, ScriptFault>
     requires { IsFleet fleet.now }
     ensures exact { ParsesAs (λ place. place) result (table_in number fleet.now table.now) }

@@ -1,4 +1,4 @@
-// The words of a line, and what they may be.
+// The words of a line, and the numbers and names that they give.
 ghost use Rattle.std.specs.Prelude.{◌≡◌, ◌==◌, slice_index, ◌<◌, ◌^◌, ◌-◌, ◌∷◌, [], ℕ, None, IfSome, IfOk, option_map, length, min};
 ghost use Rattle.std.specs.Char.{is_ascii_digit};
 ghost use Rattle.std.specs.List.{list_all};
@@ -10,7 +10,7 @@ ghost use Rattle.text_lines.specs.Numbers.{is_number, number_of, capped, count_o
 use leaf_model::Text;
 use text_lines::cut_at;
 
-/// The first word of a line, and all that follows it and one space. Both are empty where the line has no word.
+/// The first word of a line, and all that follows it and one space. Both are empty if the line has no word.
 pub fn cut_word(line: &[u8]) -> (&[u8], &[u8])
     ensures word { result.0.now ≡ first_word line.now }
     ensures behind { result.1.now ≡ behind_word line.now }
@@ -18,7 +18,7 @@ pub fn cut_word(line: &[u8]) -> (&[u8], &[u8])
     cut_at(b' ', unindented(line))
 }
 
-/// The first word of a line and the rest of it, where it has one.
+/// The first word of a line, and the rest of it. None if the line has no word.
 pub fn next_word(line: &[u8]) -> Option<(&[u8], &[u8])>
     ensures some { IfSome result (λ cut. words_of line.now ≡ cut.0.now ∷ words_of cut.1.now) }
     ensures shorter { IfSome result (λ cut. length cut.1.now < length line.now) }
@@ -62,7 +62,8 @@ fn ends_in_space(text: &[u8]) -> bool
     }
 }
 
-/// The number that a word of 1 to 20 digits is; one that is greater than a `u64` can hold is the greatest `u64`.
+/// The number that a word of 1 to 20 digits gives; it saturates at the greatest `u64`. None if the word is no such
+/// digits.
 pub fn number_of(word: &[u8]) -> Option<u64>
     ensures { result ≡ option_map capped (number_of word.now) }
 {
@@ -75,7 +76,7 @@ pub fn number_of(word: &[u8]) -> Option<u64>
     }
 }
 
-/// The number that a word of 1 to 20 digits is, where a `u64` can hold it.
+/// The number that a word of 1 to 20 digits gives. None if it is no `u64`.
 pub fn count_of(word: &[u8]) -> Option<u64>
     ensures { result ≡ count_of word.now }
 {
@@ -88,7 +89,7 @@ pub fn count_of(word: &[u8]) -> Option<u64>
     }
 }
 
-/// The time that a word of 1 to 20 digits is.
+/// The time that a word of 1 to 20 digits gives.
 pub fn time_of(word: &[u8]) -> Option<i64>
     ensures exact { result ≡ time_of word.now }
     ensures is_time { IfSome result IsTime }

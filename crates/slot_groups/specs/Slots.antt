@@ -1,12 +1,11 @@
--- Rows that stand in slots, and groups of parts of some rows.
+-- Rows that stand in slots.
 use Rattle.std.specs.Prelude.{ℕ, zero, suc, nat_lt, ◌==◌, List, [], ◌∷◌, filter}
-use Rattle.std.specs.List.{AllByRecursion}
 use Rattle.leaf_model.specs.declared.rows.Row.{Row}
 use Rattle.leaf_model.specs.declared.queries.Query.{Query}
 use Rattle.leaf_model.specs.declared.groups.Key.{Key}
 use Rattle.leaf_model.specs.declared.groups.Group.{Group}
 use Rattle.leaf_model.specs.Groups.{group_of, groups}
-use Rattle.group_table.specs.Joined.{IsWithin, joined}
+use Rattle.group_table.specs.Joined.{joined}
 
 -- the rows in the first n slots
 abbrev pub below : (Row → ℕ) → ℕ → List Row → List Row
@@ -25,7 +24,3 @@ classes q slot rows (suc n) = joined (classes q slot rows n) (groups q (in_slot 
 abbrev pub class_group : Query → List Key → List Row → List Group
 class_group q keys [] = []
 class_group q keys (row ∷ rows) = group_of q keys (row ∷ rows) ∷ []
-
--- the groups of at most 65,536 rows
-abbrev pub IsPart : List Group → Type 0
-IsPart gs = AllByRecursion (IsWithin 65536) gs

@@ -1,8 +1,6 @@
-//! Groups of rows that stand in slots or in parts, by the groups of each.
+//! Law of slots: the groups of rows that stand in slots are those of each slot, joined.
 #![tactic(auto)]
 
 mod laws;
-mod parts;
 
 pub use laws::slots;
-pub use parts::merge_all;

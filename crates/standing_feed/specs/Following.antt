@@ -1,4 +1,4 @@
--- What the state of a standing query comes to by entries that are heard of its table.
+-- What the state of a standing query comes to by the entries of its table that are heard.
 use Rattle.std.specs.Prelude.{◌≡◌, ℕ, ◌+◌, ◌<◌, ◌≤◌, ◌||◌, true, false, List, [], ◌∷◌, IsPermutation, MatchBool, if◌then◌else◌}
 use Rattle.std.specs.List.Sorted.{IsNonDecreasingBy}
 use Rattle.leaf_model.specs.declared.rows.Row.{Row}
@@ -24,7 +24,8 @@ pub record IsLost (s t : StandingState) : Type 0 where
   pub query : t.query ≡ s.query
   pub stale : t.stale ≡ true
 
--- An entry that is heard: one that the state knows already changes nothing, and the next one is fed.
+-- An entry is heard: one that the state knows already changes nothing, the next one is fed, and after a gap the state
+-- is stale.
 pub data Heeds (s : StandingState) (h : Heard) (t : StandingState) : Type 0 where
   known : h.number ≤ s.upto → t ≡ s → Heeds s h t
   next : h.number ≡ s.upto + 1 → FeedsTo s h t → Heeds s h t
@@ -39,7 +40,7 @@ pub data HeedsAll : StandingState → List Heard → StandingState → Type 0 wh
       → hs ≡ h ∷ others
       → HeedsAll s hs t
 
--- by their numbers they do not fall
+-- their numbers never fall
 abbrev pub Ascend : List Heard → Type 0
 Ascend hs = IsNonDecreasingBy (λ (h : Heard). h.number) hs
 
@@ -52,23 +53,23 @@ pub record HeedsInOrder (s : StandingState) (hs : List Heard) (t : StandingState
 
 -- ---- followers
 
--- stale behind no entry
+-- a stale state, before any entry
 abbrev pub new_state : Query → StandingState
 new_state q = record { query = q; upto = 0; stale = true; groups = [] }
 
 abbrev pub place_of : Follower → TablePlace
 place_of f = record { leaf = f.leaf; table = f.table; name = f.standing.query.table }
 
--- one whose state is stale takes no note of what an item means
+-- what an item means to a follower's table; nothing if its state is stale
 abbrev pub noted : Item → Follower → List Meant
 noted x f = if f.standing.stale then [] else meant_in (place_of f) x
 
--- What it comes to by the lines of an item that it took note of. One whose state is stale hears nothing.
+-- what a follower comes to by the lines of an item, of which it took note; a stale one hears nothing
 pub record Follows (calls : List Meant) (lines : List Line) (old new : Follower) : Type 0 where
   pub place : place_of new ≡ place_of old
   pub hears : MatchBool old.standing.stale (new ≡ old) (HeedsInOrder old.standing (heard (place_of old) calls lines) new.standing)
 
--- each of them, by what it took note of; those behind, which took none, stay
+-- each follower, by what it took note of; the later ones, which took no note, stay
 abbrev pub FollowAll : List (List Meant) → List Line → List Follower → List Follower → Type 0
 FollowAll [] lines olds news = news ≡ olds
 FollowAll (calls ∷ notes) lines (old ∷ olds) (new ∷ news) = Follows calls lines old new × FollowAll notes lines olds news
@@ -77,6 +78,6 @@ FollowAll _ lines _ news = ⊥
 abbrev pub new_follower : ℕ → ℕ → Query → Follower
 new_follower leaf table q = record { leaf = leaf; table = table; standing = new_state q }
 
--- made fresh by what the table answered to the entry of this number
+-- a follower made fresh by what the table answered in the entry of this number
 abbrev pub settled : ℕ → List Group → Follower → Follower
 settled number gs f = record { leaf = f.leaf; table = f.table; standing = record { query = f.standing.query; upto = number; stale = false; groups = gs } }

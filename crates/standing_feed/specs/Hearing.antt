@@ -1,4 +1,4 @@
--- What the lines of commands tell of one table, as a state of a standing query is fed it.
+-- What the lines of commands tell of one table, in the form that the state of a standing query is fed.
 use Rattle.std.specs.Prelude.{ℕ, ◌==◌, ◌&&◌, List, [], ◌∷◌, ◌++◌, Bool, true, false, Option, Some, None, bytes_eq, if◌then◌else◌, option_to_list}
 use Rattle.std.specs.List.{flat_map}
 use Rattle.leaf_model.specs.declared.rows.Row.{Row}
@@ -37,7 +37,7 @@ some_when false x = None
 
 -- ---- before an item is played
 
--- what a command means to the table: a call of callers that is to print a line of it, or a tail, of whichever table
+-- what a command means to the table: a call of callers that will print a line of it, or a tail, of any table
 abbrev pub meant_by : TablePlace → Command → Option Meant
 meant_by p (command.Add leaf table rows) = some_when (is_at p leaf table) (meant.Add rows)
 meant_by p (command.Expire leaf table horizon) = some_when (is_at p leaf table) (meant.Expire horizon)
@@ -46,18 +46,18 @@ meant_by p (command.Query q) = some_when (bytes_eq q.table p.name) meant.Ask
 meant_by p (command.Tail key table rows) = Some (meant.Tail (some_when (table == p.table) rows))
 meant_by p _ = None
 
--- the same of the commands of a lane
+-- what the commands of a lane mean to the table
 abbrev pub meant_lane : TablePlace → List Command → List Meant
 meant_lane p lane = flat_map (λ c. option_to_list (meant_by p c)) lane
 
--- and of an item, lane by lane
+-- what an item means to the table, lane by lane
 abbrev pub meant_in : TablePlace → Item → List Meant
 meant_in p (item.One c) = option_to_list (meant_by p c)
 meant_in p (item.Burst lanes) = flat_map (meant_lane p) lanes
 
--- ---- behind it
+-- ---- after an item is played
 
--- the call that prints its lines, where it is a tail, and the calls behind it
+-- the call that prints its lines now, if it is a tail, and the calls after it
 pub record CallsLeft : Type 0 where
   pub current : Now
   pub rest : List Meant
@@ -72,7 +72,7 @@ fed_by_call (meant.Expire horizon) (said.Removed rows) = fed.Expired horizon
 fed_by_call meant.Keep (said.Removed rows) = fed.Kept rows
 fed_by_call _ _ = fed.Other
 
--- what an entry tells of a tail with these rows, and which of its rows may be added yet
+-- what an entry tells of a tail with these rows, and the rows that may still be added
 abbrev pub fed_by_tail : Option (List Row) → Said → Fed
 fed_by_tail (Some rows) (said.Added kept late) = fed.Added rows late
 fed_by_tail _ _ = fed.Other
@@ -94,7 +94,7 @@ fed_called calls told = by calls.current
     by (now.Tail rows) = fed_by_tail rows told
     by now.Between = fed_by_next calls.rest told
 
--- the calls that are left behind it
+-- the calls that are left after it
 abbrev pub left_by_next : List Meant → Said → CallsLeft
 left_by_next [] told = no_call_yet []
 left_by_next (meant.Tail rows ∷ more) told = record { current = now.Tail (rows_left rows told); rest = more }
@@ -107,7 +107,7 @@ left_called calls told = by calls.current
     by (now.Tail rows) = record { current = now.Tail (rows_left rows told); rest = calls.rest }
     by now.Between = left_by_next calls.rest told
 
--- what any entry tells: one that the leaf's steward made is of no call
+-- what any entry tells; one of the leaf's steward is of no call
 abbrev pub fed_by : CallsLeft → Said → Fed
 fed_by calls (said.Opened writes) = fed.Opened
 fed_by calls (said.Closed writes) = fed.Closed
@@ -124,7 +124,7 @@ left_by calls (said.Flushed writes) = calls
 left_by calls said.Handed = calls
 left_by calls told = left_called calls told
 
--- behind the line that ends a tail
+-- the calls that are left after the line that ends a tail
 abbrev pub left_by_tail : CallsLeft → CallsLeft
 left_by_tail calls = by calls.current calls.rest
   where
@@ -133,7 +133,7 @@ left_by_tail calls = by calls.current calls.rest
     by now.Between [] = no_call_yet []
     by now.Between (call ∷ rest) = no_call_yet rest
 
--- the calls that are left behind a line; one of a worn seat tells as much of its call as a refusal
+-- the calls that are left after a line; the line of a worn seat tells as much of its call as a refusal
 abbrev pub left_by_line : TablePlace → CallsLeft → Line → CallsLeft
 left_by_line p calls (line.Entry leaf table number told) = if is_at p leaf table then left_by calls told else calls
 left_by_line p calls (line.Worn leaf table) = if is_at p leaf table then left_called calls said.RefusedShut else calls

@@ -1,4 +1,4 @@
-// The calls of an item, as their lines are heard one after another.
+// The calls of an item, while their lines are heard one after another.
 ghost use Rattle.std.specs.Prelude.{◌≡◌};
 ghost use Rattle.standing_feed.specs.Hearing.{fed_by, fed_by_call, fed_by_tail, fed_called, left_by, left_by_tail, left_called, no_call_yet, rows_left};
 ghost use Rattle.standing_feed.specs.declared.meant.Now.TheVariants.{Tail};
@@ -11,7 +11,7 @@ use std::collections::VecDeque;
 use std::marker::Model;
 use std::mem::replace;
 
-/// The call that prints its lines now, where it is a tail, and those behind it.
+/// The calls whose lines are still to come: the one that prints its lines now, if it is a tail, and those after it.
 #[derive(Drop)]
 pub struct Calls {
     current: Now,
@@ -36,7 +36,7 @@ impl Calls {
         }
     }
 
-    /// Hears the line of an entry, and tells what it says of the table's rows.
+    /// Hears the line of an entry, and returns what it tells of the table's rows.
     pub fn hear(&mut self, said: Said) -> Fed
         ensures fed { result ≡ fed_by self.old said }
         ensures left { self.new ≡ left_by self.old said }
@@ -54,7 +54,7 @@ impl Calls {
         }
     }
 
-    /// Hears the line of a call.
+    /// Hears the line of a call, and returns what it tells of the table's rows.
     pub fn hear_call(&mut self, said: Said) -> Fed
         ensures fed { result ≡ fed_called self.old said }
         ensures left { self.new ≡ left_called self.old said }
@@ -104,7 +104,7 @@ fn fed_by_call(call: Meant, said: Said) -> Fed
     }
 }
 
-// What an entry tells of a tail with these rows, and which may be added yet.
+// What an entry tells of a tail with these rows, and the rows that may still be added.
 fn fed_by_tail(rows: Option<Rows>, said: Said) -> (Fed, Option<Rows>)
     ensures fed { result.0 ≡ fed_by_tail rows said }
     ensures left { result.1 ≡ rows_left rows said }

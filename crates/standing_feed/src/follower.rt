@@ -1,7 +1,7 @@
 // A standing query that follows its leaf's table.
 use standing_query::Standing;
 
-/// A standing query of the table in this place of this leaf.
+/// A standing query: the leaf and the place of its table, and its state.
 #[derive(Drop)]
 pub struct Follower {
     pub leaf: u32,

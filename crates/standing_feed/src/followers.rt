@@ -11,7 +11,7 @@ use standing_query::Standing;
 use std::alloc::{AllocError, Global};
 use std::collections::VecDeque;
 
-/// The standing queries that were declared so far, in that order.
+/// The standing queries that were declared, in the order of their declarations.
 #[derive(Drop)]
 pub struct Followers {
     pub list: Vec<Follower>,
@@ -27,7 +27,7 @@ impl Followers {
         }
     }
 
-    /// How many they are.
+    /// Their number.
     pub fn count(&self) -> u32
         requires { length self.now.list.items < 2 ^ 32 }
         ensures { result ≡ length self.now.list.items }
@@ -35,7 +35,7 @@ impl Followers {
         self.list.len() as u32
     }
 
-    /// Declares one more, of the table in this place of this leaf.
+    /// Declares another, of the table in this place of this leaf.
     pub fn declare(
         &mut self,
         alloc: Global,
@@ -55,7 +55,7 @@ impl Followers {
         Ok(())
     }
 
-    /// What an item means to the table of each.
+    /// What an item means to the table of each, as a list for each standing query.
     pub fn note(&self, alloc: Global, item: &Item) -> Result<Vec<Vec<Meant>>, AllocError>
         ensures { IfOk result (λ notes. map (λ (calls : _). calls.items) notes.items ≡ map (noted item.now) self.now.list.items) }
     {
@@ -66,8 +66,8 @@ impl Followers {
         Ok(notes)
     }
 
-    /// Feeds each what the lines of that item tell of its table; those that were declared since the notes were taken stay.
-    /// After an `Err` no more is said than that they are of the same tables.
+    /// Feeds each what the lines of the item tell of its table. Those that were declared after the notes were taken
+    /// stay. After an `Err` they are still of the same tables, and nothing else is claimed.
     pub fn follow(
         &mut self,
         alloc: Global,

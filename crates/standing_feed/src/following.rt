@@ -34,7 +34,7 @@ impl Follower {
         }
     }
 
-    /// What an item means to the table. Where the state is stale, no note is taken of it.
+    /// What an item means to the table. The list is empty if the state is stale.
     pub fn note(&self, alloc: Global, item: &Item) -> Result<Vec<Meant>, AllocError>
         ensures { IfOk result (λ calls. calls.items ≡ noted item.now self.now) }
     {
@@ -45,8 +45,8 @@ impl Follower {
         }
     }
 
-    /// Feeds the state the entries of the table that the lines of that item tell, in the order of their numbers. A stale state
-    /// hears nothing. After an `Err` no more is said than that it is of the same table.
+    /// Feeds the state the entries of the table that the lines of the item tell, in the order of their numbers. A stale
+    /// state hears nothing. After an `Err` it is still of the same table, and nothing else is claimed.
     pub fn follow(
         &mut self,
         alloc: Global,
@@ -63,7 +63,7 @@ impl Follower {
         heed_all(&mut self.standing, heard)
     }
 
-    /// Makes a stale state fresh, by what the table answered to the entry of this number.
+    /// Makes a stale state fresh, by the groups that the table answered in the entry of this number.
     pub fn settle(&mut self, number: u64, groups: Groups)
         requires stale { self.old.standing.stale ≡ true }
         requires number { 0 < number }
@@ -77,7 +77,7 @@ impl Follower {
         }
     }
 
-    /// The lines of what a fresh state tells.
+    /// The lines that a fresh state tells.
     pub fn tell(&self, alloc: Global) -> Result<Texts, AllocError>
         requires fresh { self.now.standing.stale ≡ false }
         ensures { (rows : List Row) → Means self.now.standing rows → AllByRecursion (λ (row : Row). IsTime row.time) rows
@@ -100,7 +100,7 @@ fn heed_all(standing: &mut Standing, heard: Vec<Heard>) -> Result<(), AllocError
     Ok(())
 }
 
-// One that the state knows already changes nothing. A state that missed one is stale.
+// An entry that the state knows already changes nothing. A state that missed an entry is stale.
 fn heed(standing: &mut Standing, heard: Heard) -> Result<(), AllocError>
     ensures query { standing.new.query ≡ standing.old.query }
     ensures heeds { OnOk result (Heeds standing.old heard standing.new) }

@@ -1,7 +1,7 @@
-// An entry that is heard.
+// An entry that was heard.
 use standing_query::Fed;
 
-/// An entry of a table by its number, as a state is fed it.
+/// An entry of a table: its number, and what it feeds to a state.
 #[derive(Drop)]
 pub struct Heard {
     pub number: u64,

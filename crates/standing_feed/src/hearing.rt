@@ -80,7 +80,7 @@ fn hear(place: &Place, calls: &mut Calls, line: &Line) -> Option<Heard>
     }
 }
 
-/// Entries in the order of their numbers.
+/// Sorts entries by their numbers.
 pub fn in_order(mut all: Vec<Heard>) -> Result<Vec<Heard>, AllocError>
     ensures same { IfOk result (λ sorted. IsPermutation all.items sorted.items) }
     ensures ascend { IfOk result (λ sorted. Ascend sorted.items) }

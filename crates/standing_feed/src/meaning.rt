@@ -10,14 +10,14 @@ use leaf_model::Rows;
 use script_text::{Command, Commands, Item};
 use std::alloc::{AllocError, Global};
 
-/// Whether these are the leaf and the table's place.
+/// Whether the place is this leaf's table.
 pub fn is_at(place: &Place, leaf: u32, table: u32) -> bool
     ensures { result ≡ is_at (place_in place.now) leaf table }
 {
     leaf == place.leaf && table == place.table
 }
 
-/// The calls of callers by which an item is to print lines of the table, lane by lane.
+/// The calls of callers by which an item will print lines of the table, lane by lane.
 pub fn meant_in(alloc: Global, place: &Place, item: &Item) -> Result<Vec<Meant>, AllocError>
     ensures { IfOk result (λ calls. calls.items ≡ meant_in (place_in place.now) item.now) }
 {

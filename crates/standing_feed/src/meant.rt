@@ -1,19 +1,19 @@
 // What commands mean to a table.
 use leaf_model::Rows;
 
-/// A call of callers that is to print a line of a table.
+/// A call of callers that will print a line of a table.
 #[derive(Drop)]
 pub enum Meant {
     Add(Rows),
-    /// Rows below this horizon are to go.
+    /// It removes the rows below this horizon.
     Expire(i64),
     Keep,
     Ask,
-    /// Calls of a tail, which a line of its own ends. It has the rows that are to be added, where they are for this table.
+    /// The calls of a tail, which a line of its own ends. It has the rows to be added, if they are for this table.
     Tail(Option<Rows>),
 }
 
-/// Which call prints its lines now: none, since each is done, or a tail, with the rows that may be added yet.
+/// The call that prints its lines now: none, if each is done, or a tail, with the rows that may still be added.
 #[derive(Drop)]
 pub enum Now {
     Between,

@@ -1,4 +1,4 @@
-// The table that a standing query is of.
+// The table of a standing query.
 use leaf_model::Text;
 
 /// The table in this place of this leaf, by its name.

@@ -1,7 +1,7 @@
 -- Blocks one after another: how many of their rows are live, and how rows leave them from the front.
 use Rattle.std.proofs.Common.{◌≡◌, ℕ, zero, suc, ◌+◌, ◌-◌, ◌<◌, ◌≤◌, Bool, true, false, ◌||◌, cond, List, [], ◌∷◌, ◌++◌, length, drop, get_or, filter, ℤ, int_le, refl, sym, ap, subst, ◌∙◌, arith}
 use Rattle.std.specs.List.{AllByRecursion, list_any}
-use Rattle.std.proofs.lemmas.List.{append-nil, append_assoc, drop-append-le, drop-drop, drop_all, drop_more, length-append}
+use Rattle.std.proofs.lemmas.List.{drop-append-le, drop-drop, drop_all, drop_more, length-append}
 use Rattle.std.proofs.lemmas.List.Elements.{filter-append}
 use Rattle.std.proofs.lemmas.List.FromFn.{length-map-range_with_len}
 use Rattle.std.proofs.Math.Seq.{drop-append_seam}
@@ -59,12 +59,6 @@ module _ (blocks : List Block) (i : ℕ) (b : Block) (cut : ℕ) (h : ℤ) (with
       let parts = length-append (live_rows cut h b) (sealed_rows (drop (i + 1) blocks) 0 h) in
       omega (arith, so_far, is, all, parts)
 
-  pub copy_next : (rows more now all : List Row) → rows ++ sealed_rows (drop i blocks) cut h ≡ all → more ≡ live_rows cut h b → now ≡ rows ++ more → now ++ sealed_rows (drop (i + 1) blocks) 0 h ≡ all
-  copy_next rows more now all so_far is pushed =
-      let rest = sealed_rows (drop (i + 1) blocks) 0 h in
-      ap (λ (l : List Row). l ++ rest) pushed ∙ append_assoc rows more rest
-      ∙ ap (λ (l : List Row). rows ++ (l ++ rest)) is ∙ ap (λ (l : List Row). rows ++ l) (sym sealed_at) ∙ so_far
-
   -- the first live rows end in this block
   pub ends_here : (left place : ℕ) (all : List Row) → left < length (live_rows cut h b) → place < b.rows → live_rows place h b ≡ drop left (live_rows cut h b)
       → drop left (sealed_rows (drop i blocks) cut h) ≡ all → sealed_rows (drop i blocks) place h ≡ all
@@ -98,10 +92,6 @@ none_behind blocks i cut h past = ap (λ (l : List Block). sealed_rows l cut h) 
 pub count_end : (blocks : List Block) (i cut : ℕ) (h : ℤ) (live total : ℕ) → length blocks ≤ i → live + length (sealed_rows (drop i blocks) cut h) ≡ total → live ≡ total
 count_end blocks i cut h live total past so_far =
     let none = ap (λ (l : List Row). length l) (none_behind blocks i cut h past) in omega (arith, so_far, none)
-
-pub copy_end : (blocks : List Block) (i cut : ℕ) (h : ℤ) (rows all : List Row) → length blocks ≤ i → rows ++ sealed_rows (drop i blocks) cut h ≡ all → rows ≡ all
-copy_end blocks i cut h rows all past so_far =
-    sym (append-nil rows) ∙ ap (λ (l : List Row). rows ++ l) (sym (none_behind blocks i cut h past)) ∙ so_far
 
 -- all live rows are gone
 pub ends_last : (blocks : List Block) (i cut : ℕ) (h : ℤ) (left : ℕ) (all : List Row) → length blocks ≤ i → drop left (sealed_rows (drop i blocks) cut h) ≡ all

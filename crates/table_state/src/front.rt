@@ -1,15 +1,12 @@
 // The blocks of a table: how many of their rows are live, and how rows leave them.
-ghost use Rattle.std.specs.Prelude.{◌≡◌, ◌<◌, ◌≤◌, ℕ, drop, length, IfOk};
+ghost use Rattle.std.specs.Prelude.{◌≡◌, ◌<◌, ◌≤◌, ℕ, drop, length};
 ghost use Rattle.std.specs.List.{AllByRecursion};
 ghost use Rattle.row_blocks.specs.Blocks.{IsBlock};
-ghost use Rattle.row_blocks.specs.Held.{IsSkip, columns_count, live_rows};
+ghost use Rattle.row_blocks.specs.Held.{IsSkip, columns_count};
 ghost use Rattle.table_state.specs.Stored.{AreAhead, IsCut, sealed_rows, skip_left};
 ghost use Rattle.table_state.specs.Tables.{most_rows};
 
-use crate::held::{drop_first, retain_from};
-use leaf_model::Row;
 use row_blocks::{Blocks, RowBlock};
-use std::alloc::{AllocError, Global};
 
 /// How many rows of the first block are cut away. Of its other rows at least `ahead` are live: a keep that removes fewer does not count them.
 #[derive(Clone, Copy)]
@@ -161,40 +158,4 @@ pub fn cut_front(blocks: &mut Blocks, cut: Cut, horizon: i64, gone: u64) -> Cut
         skip: front.skip,
         ahead: front.ahead,
     }
-}
-
-/// A copy of the live rows of a block.
-fn copy_block(
-    alloc: Global,
-    block: &RowBlock,
-    cut: u32,
-    horizon: i64,
-) -> Result<Vec<Row>, AllocError>
-    requires { cut ≤ block.now.rows }
-    ensures { IfOk result (λ rows. rows.items ≡ live_rows cut horizon block.now) }
-{
-    let mut rows = block.to_rows(alloc)?;
-    drop_first(&mut rows, cut as usize);
-    retain_from(&mut rows, horizon);
-    Ok(rows)
-}
-
-/// A copy of the live rows of the blocks.
-pub fn copy_blocks(
-    alloc: Global,
-    blocks: &[RowBlock],
-    skip: u32,
-    horizon: i64,
-) -> Result<Vec<Row>, AllocError>
-    requires { IsCut skip blocks.now }
-    ensures { IfOk result (λ rows. rows.items ≡ sealed_rows blocks.now skip horizon) }
-{
-    let mut rows = Vec::new(alloc);
-    let mut cut = skip;
-    for block in blocks {
-        let mut live = copy_block(alloc, block, cut, horizon)?;
-        rows.append(&mut live)?;
-        cut = 0;
-    }
-    Ok(rows)
 }

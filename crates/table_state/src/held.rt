@@ -1,11 +1,11 @@
 // Plain work on a table's rows.
-ghost use Rattle.std.specs.Prelude.{◌≡◌, ◌+◌, ◌≤◌, ◌↔◌, drop, length, vec_len, IsTrue};
+ghost use Rattle.std.specs.Prelude.{◌≡◌, ◌+◌, ◌≤◌, ◌↔◌, drop, length, IsTrue};
 ghost use Rattle.leaf_model.specs.Content.{rows_from};
 ghost use Rattle.leaf_model.specs.Lent.{lent_rows};
 ghost use Rattle.table_state.specs.Tables.{most_rows};
 
 use crate::tail::Tail;
-use leaf_model::{LentRows, Row};
+use leaf_model::LentRows;
 
 /// The most rows that a table holds.
 pub const MOST_ROWS: u64 = 1 << 40;
@@ -46,21 +46,4 @@ pub fn drop_front(tail: &mut Tail, count: usize)
     if count > 0 {
         tail.drop_first(count);
     }
-}
-
-/// Removes the rows below the horizon.
-pub fn retain_from(rows: &mut Vec<Row>, horizon: i64)
-    ensures { rows.new.items ≡ rows_from horizon rows.old.items }
-{
-    rows.retain(|row| row.time >= horizon);
-}
-
-/// Lets go of the first rows.
-pub fn drop_first(rows: &mut Vec<Row>, count: usize)
-    requires { count ≤ vec_len rows.old }
-    ensures { rows.new.items ≡ drop count rows.old.items }
-{
-    let left = rows.len() - count;
-    rows.rotate_left(count);
-    rows.truncate(left);
 }

@@ -1,5 +1,5 @@
 // One table: sealed blocks, and a tail of rows behind them.
-ghost use Rattle.std.specs.Prelude.{◌≡◌, ◌+◌, ◌≤◌, ◌<◌, ◌-◌, ◌^◌, [], None, IfOk, length};
+ghost use Rattle.std.specs.Prelude.{◌≡◌, ◌+◌, ◌≤◌, ◌<◌, ◌-◌, ◌^◌, [], None, length};
 ghost use Rattle.std.specs.List.{AllByRecursion};
 ghost use Rattle.leaf_model.specs.Lent.{lent_rows};
 ghost use Rattle.leaf_model.specs.Values.{IsRow, IsTime, IsWrite};
@@ -8,13 +8,13 @@ ghost use Rattle.row_blocks.specs.Held.{rows_and_cells};
 ghost use Rattle.table_state.specs.Tables.{added_by, bare, columns_most, empty_table, most_rows, replayed, Adds, IsParts, IsPartsOf, IsStored, MayWrite, Removes, Replays, Seals, Takes};
 
 use crate::fault::{AddFault, Added};
-use crate::front::{Cut, Live, copy_blocks, count_live, cut_front, leave_live, recount};
+use crate::front::{Cut, Live, count_live, cut_front, leave_live, recount};
 use crate::held::drop_front;
 use crate::parts::Parts;
 use crate::sealing::{drop_runs, prepare, seal_behind};
 use crate::tail::Tail;
 use expiry::{cut_for, masks_and_cuts};
-use leaf_model::{LentRows, Row, Rows, Text, Write};
+use leaf_model::{LentRows, Rows, Text, Write};
 use row_blocks::Blocks;
 use row_records::Pending;
 use std::alloc::{AllocError, Global};
@@ -266,16 +266,6 @@ impl TableState {
         ensures { result ≡ length self.now.store.tail }
     {
         self.tail.len() as u32
-    }
-
-    /// All rows, in order of arrival.
-    pub fn to_rows(&self, alloc: Global) -> Result<Vec<Row>, AllocError>
-        ensures { IfOk result (λ rows. rows.items ≡ self.now.contents.rows) }
-    {
-        let mut rows = copy_blocks(alloc, self.blocks.as_slice(), self.skip, self.horizon)?;
-        let mut tail = self.tail.lend().own(alloc)?;
-        rows.append(&mut tail)?;
-        Ok(rows)
     }
 
     /// Hands out the record of the writes since the last taking. It takes no memory.

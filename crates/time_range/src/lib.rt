@@ -1,4 +1,4 @@
-//! The range of some times: the least and the greatest, and whether they are in order.
+//! The range of a list of times: the least, the greatest, and whether they never fall.
 #![tactic(auto)]
 
 mod times;

@@ -9,11 +9,11 @@ pub struct TimeRange {
     pub from: i64,
     /// The greatest time.
     pub to: i64,
-    /// Where it is true, no time is below one that stands before it.
+    /// If true, no time is below one before it in the list. False claims nothing.
     pub in_order: bool,
 }
 
-/// The least and the greatest of some times, and whether none is below one that stands before it.
+/// The range of the times, in one pass. There is one time at least.
 pub fn range_of(times: &[i64]) -> TimeRange
     requires { 0 < length times.now }
     ensures { IsRangeOf times.now result }

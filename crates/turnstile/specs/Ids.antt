@@ -17,7 +17,7 @@ abbrev pub run_of : ℕ → ℕ → List ℕ
 run_of x zero = []
 run_of x (suc n) = x ∷ run_of (suc x) n
 
--- x is one of as many ids as the share, from id on
+-- x is one of the `share` ids from `id` on
 abbrev pub InShare : ℕ → ℕ → ℕ → Type 0
 InShare id share x = (id ≤ x) × (x < id + share)
 
@@ -25,7 +25,7 @@ InShare id share x = (id ≤ x) × (x < id + share)
 abbrev pub OwnsId : ℕ → ℕ → List ℕ → ℕ → Type 0
 OwnsId id share taken x = InShare id share x ⊎ Among x taken
 
--- of two lists, one of which begins the other, zs is the longer
+-- one of the lists xs and ys is a prefix of the other, and zs is the longer
 pub record LongerOf {A : Type 0} (xs ys zs : List A) : Type 0 where
   pub own : IsPrefix xs zs
   pub theirs : IsPrefix ys zs

@@ -40,7 +40,7 @@ module _ {B C R : Type 0} where
       -- each entry that it has seen has one of the ids of a turnstile
       pub ids : AreIds p.me.0.seen
 
-  -- the turn has come, and the value is out: it stands for all that was seen
+  -- the turn has come, and the value is out: it stands for the history that the seat has seen
   pub record Entered {O : Type 0} (legal : B → List (Entry C R) → Type 0) (stands : B → List (Entry C R) → O → Type 0) (b : B) (v : View B C R) (ticket : ℕ) (value : O) (m : Me (Option O) (View B C R)) : Type 0 where
     pub between : List (Entry C R)
     pub view : m.0 ≡ record v { seen = v.seen ++ between; stage = Inside ticket }

@@ -36,7 +36,7 @@ module _ {B C R O : Type 0} where
   looked legal stands st m found m' = (t : ℕ) → m.0.stage ≡ Waits t
       → (found ≡ t → (b : B) → m.0.base ≡ Some b → Comes legal stands b m found m') × (found ≢ t → m' ≡ m)
 
-  -- the entry was added to all that had been seen
+  -- the entry was added to the history that the seat had seen
   abbrev pub posted : Option (Entry C R) → At O → Sat B C R O → ℕ → Sat B C R O → Type 0
   posted said st m found m' = (t : ℕ) (e : Entry C R) → m.0.stage ≡ Inside t → said ≡ Some e
       → (room : ℕ) × (m'.0 ≡ record m.0 { seen = m.0.seen ++ e ∷ []; room = room; stage = Posted t }) × (m'.1 ≡ m.1) × (room ≤ m.0.room) × (m.0.room ≤ room + 1) × (length m.0.seen < 2 ^ 62 → room ≡ m.0.room) × AreIds m'.0.seen
@@ -45,14 +45,14 @@ module _ {B C R O : Type 0} where
   abbrev pub left : At O → Sat B C R O → ℕ → Sat B C R O → Type 0
   left st m found m' = (m'.0 ≡ staged m.0 Rests) × (m'.1 ≡ [])
 
-  -- the seat has seen the longer of what both had seen
+  -- the seat has seen the longer of the two prefixes
   pub record Met (m m' : Sat B C R O) : Type 0 where
     pub seen : List (Entry C R)
     pub view : m'.0 ≡ record m.0 { seen = seen; other = [] }
     pub slots : m'.1 ≡ m.1
     pub longer : LongerOf m.0.seen m.0.other seen
     pub ids : AreIds seen
-    -- what it had not seen has none of the ids that it had before it last took over another's
+    -- the entries that it had not seen have none of the ids that it had before it last took over another's
     pub others : (more : List (Entry C R)) → seen ≡ m.0.seen ++ more → AllByRecursion (λ (e : Entry C R). ¬ Owned m.0 e.by) more
 
   abbrev pub met : At O → Sat B C R O → ℕ → Sat B C R O → Type 0

@@ -13,7 +13,7 @@ use Rattle.turnstile.specs.declared.view.Stage.TheVariants.{Rests, Waits, Inside
 use Rattle.turnstile.specs.Views.{ticketed, InRange, Fresh, Owns, Owned, holds_ticket, share_of, room_of}
 use Rattle.turnstile.specs.Seats.{AreIds}
 
--- a value at home stands for the history; none is at home while one is out
+-- a value at home stands for the history; while the value is out none is at home
 abbrev pub Homes : {L O : Type 0} → (L → O → Type 0) → L → ℕ → List (maybe.Option (Option O)) → Type 0
 Homes {L} {O} stands log zero hs = (o : O) × (hs ≡ some (Some o) ∷ []) × stands log o
 Homes stands log (suc k) hs = hs ≡ none ∷ []
@@ -30,7 +30,7 @@ module _ {B C R : Type 0} where
   -- what the seat j knows
   pub record Knows (base : B) (log : List (Entry C R)) (serving tickets out : ℕ) (owner holder : ℕ → ℕ) (j : ℕ) (v : View B C R) : Type 0 where
     pub based : (b : B) → v.base ≡ Some b → b ≡ base
-    -- what it has seen begins the history, and so does what was handed to it
+    -- what it has seen is a prefix of the history, and so is what was handed to it
     pub begins : IsPrefix v.seen log
     pub other_begins : IsPrefix v.other log
     -- every entry of one of its ids has been seen
@@ -40,7 +40,7 @@ module _ {B C R : Type 0} where
     pub older_is : (x : ℕ) → Among x v.older → Among x v.taken
     -- no entry has one of its later ids, which it may give away
     pub fresh : (k : ℕ) (e : Entry C R) → get_elem? log k ≡ some e → ¬ Fresh v e.by
-    -- no id is two seats', and none stands twice
+    -- no id is owned by two seats, and none is owned twice
     pub holder_is : (x : ℕ) → Owns v x → holder x ≡ j
     pub taken_is : (x : ℕ) → Among x v.taken → ¬ InRange v x
     -- its own ids are ids of a turnstile
@@ -57,7 +57,7 @@ module _ {B C R : Type 0} where
     pub log : List (Entry C R)
     pub serving : ℕ
     pub tickets : ℕ
-    -- 0: the value is at home; 1: it is out, and its turn's entry is not posted; 2: it is posted
+    -- 0: the value is at home; 1: it is out, and the turn's entry is not posted; 2: the entry is posted
     pub out : ℕ
     -- which seat has which ticket, and which id
     pub owner : ℕ → ℕ

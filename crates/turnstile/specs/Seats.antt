@@ -1,4 +1,4 @@
--- What a seat and a turnstile are to a contract, and what each call asks of its seats and tells them.
+-- How contracts see a seat and a turnstile, and what each call asks of its seats and tells them.
 use Rattle.std.specs.Prelude.{◌≡◌, ◌≢◌, ◌⊎◌, ℕ, ◌+◌, ◌-◌, ◌<◌, ◌≤◌, ◌^◌, List, [], ◌∷◌, ◌++◌, length, Option, Some}
 use Rattle.std.specs.List.{AllByRecursion}
 use Rattle.atomic_table.specs.Seated.{TableId}
@@ -11,12 +11,12 @@ pub record Site (B : Type 0) : Type 0 where
   pub at : TableId
   pub base : B
 
--- a seat: where it is, the history as far as it has seen it, and its ids
+-- a seat: its turnstile, the prefix of the history that it has seen, and its ids
 pub record Standing (B C R : Type 0) : Type 0 where
   pub at : TableId
   pub base : Option B
   pub seen : List (Entry C R)
-  -- its own ids: as many as its share, from this one on
+  -- its own ids: `share` of them, from this one on
   pub id : ℕ
   pub share : ℕ
   -- the ids that it took over
@@ -47,15 +47,16 @@ module _ {B C R : Type 0} where
   abbrev pub Others : Standing B C R → List (Entry C R) → Type 0
   Others s es = AllByRecursion (λ (e : Entry C R). ¬ Owns s e.by) es
 
-  -- the seat may make the call after whatever others do first
+  -- the seat may make the call, whatever entries others make first
   abbrev pub MayCall : (B → List (Entry C R) → Type 0) → (B → List (Entry C R) → ℕ → C → Type 0) → B → Standing B C R → C → Type 0
   MayCall legal may b s call = (between : List (Entry C R)) → Others s between → legal b (s.seen ++ between) → may b (s.seen ++ between) s.id call
 
-  -- a seat that may still make an entry after the 2^62nd for each of its ids, or a caller's that has seen fewer than 2^62
+  -- a seat has room if it may still make one entry after the 2^62nd for each of its ids, or it is a caller's and has
+  -- seen fewer than 2^62
   abbrev pub HasRoom : Standing B C R → Type 0
   HasRoom s = (s.share ≤ s.room) ⊎ ((s.id ≢ 0) × (length s.seen < 2 ^ 62))
 
-  -- One entry was made, the last that the seat has seen. Before it others may have made theirs.
+  -- One entry was made; it is the last that the seat has seen. Others may have made entries before it.
   pub record Called (legal : B → List (Entry C R) → Type 0) (b : B) (clock : ℕ) (s : Standing B C R) (call : C) (reply : R) (s' : Standing B C R) : Type 0 where
     pub between : List (Entry C R)
     pub room : ℕ
@@ -69,7 +70,7 @@ module _ {B C R : Type 0} where
   abbrev pub keeps_all_but : ℕ → Standing B C R → Standing B C R
   keeps_all_but k s = record s { share = s.share - k; room = s.room - k }
 
-  -- the new seat has them, and has seen as much
+  -- the new seat has them, and has seen the same prefix
   abbrev pub given : ℕ → Standing B C R → Standing B C R
   given k s = record s { id = s.id + (s.share - k); share = k; taken = []; room = k }
 
@@ -83,7 +84,7 @@ module _ {B C R : Type 0} where
   abbrev pub LearnsOthers : Standing B C R → Standing B C R → Type 0
   LearnsOthers s s' = (more : List (Entry C R)) → s'.seen ≡ s.seen ++ more → Others s more
 
-  -- the seat s was told what the seat u had seen, and nothing else of it has changed
+  -- the seat s has seen what the seat u had seen; nothing else of it has changed
   pub record Told (s u s' : Standing B C R) : Type 0 where
     pub seen : List (Entry C R)
     pub view : s' ≡ record s { seen = seen }

@@ -58,7 +58,7 @@ module _ {B C R : Type 0} where
   abbrev pub keeps_all_but : ℕ → View B C R → View B C R
   keeps_all_but k v = record v { share = v.share - k; room = v.room - k }
 
-  -- the new seat has them, and has seen as much
+  -- the new seat has them, and has seen the same prefix
   abbrev pub given : ℕ → View B C R → View B C R
   given k v = record { base = v.base; seen = v.seen; other = []; id = v.id + (v.share - k); share = k; taken = []; older = []; room = k; stage = Rests }
 

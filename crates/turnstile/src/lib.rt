@@ -1,4 +1,4 @@
-//! An object that threads share by turns, whose calls stand in one legal history.
+//! An object that threads share by turns. Its calls make one legal history.
 #![tactic(auto)]
 
 mod object;

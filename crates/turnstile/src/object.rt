@@ -1,4 +1,4 @@
-// What is shared by turns, and the entries of its history.
+// An object that is shared by turns, and the entries of its history.
 ghost use Rattle.std.specs.Prelude.{ℕ};
 
 use std::marker::Brand;
@@ -8,19 +8,19 @@ use std::thread::Threads;
 pub struct Entry<C, R> {
     /// The id of the seat that made the call.
     pub by: u64,
-    /// The moment that the call's `Clock` names.
+    /// The moment that the call's `Clock` names. Contracts alone see it.
     pub clock: u64,
     pub call: C,
     pub reply: R,
 }
 
-/// A value that makes one step a call. Contracts see its calls as entries of a history.
+/// An object that makes one step for each call. Contracts see its calls as the entries of a history.
 pub trait Object: Send + Drop {
     type Call;
 
     type Reply;
 
-    /// What the histories begin from. It is fixed when the turnstile is made.
+    /// What each history begins from. It is fixed when the turnstile is made.
     type Base: Drop;
 
     ghost use Rattle.turnstile.specs.declared.object.Entry.{Entry};

@@ -1,4 +1,4 @@
-// What each atomic step tells, and how views part and meet.
+// What each atomic step tells, and how views split and meet.
 use crate::object::Object;
 use crate::view::View;
 use atomic_table::{Join, Play, Split};
@@ -62,7 +62,7 @@ impl<O, B, C, R> Play<Option<O>, View<B, C, R>> for Meet {
     ghost then = { met };
 }
 
-/// How many ids a split gives. Each call picks it.
+/// The number of ids that a split gives. Each call picks it.
 pub(crate) trait Amount {
     ghost use Rattle.std.specs.Prelude.{ℕ};
 

@@ -6,7 +6,7 @@ use crate::object::Object;
 use crate::view::Place;
 use std::marker::Model;
 
-/// A caller's place at a turnstile: the ids that it owns, and the history as far as it has seen it.
+/// A caller's place at a turnstile: the ids that it owns, and the prefix of the history that it has seen.
 #[derive(Drop)]
 pub struct Seat<O: Object> {
     pub(crate) place: Place<O>,
@@ -34,7 +34,7 @@ impl<O: Object> Seat<O> {
         self.id
     }
 
-    /// How many ids the seat owns, from its own on.
+    /// The number of ids that the seat owns, from its own on; at least 1.
     pub fn share(&self) -> u64
         ensures all { result ≡ self.now.share }
         ensures has_id { 0 < result }

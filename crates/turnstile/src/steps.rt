@@ -1,4 +1,4 @@
-// The steps of a turn, and of seats that part and meet, on the table itself.
+// The steps of a turn, and of seats that split and meet, on the table itself.
 ghost use Rattle.std.specs.Prelude.{◌≡◌, ◌≢◌, ℕ, ◌+◌, ◌<◌, ◌≤◌, ◌^◌, [], ◌∷◌, ◌++◌, length, Some, None, IfOk};
 ghost use Rattle.turnstile.specs.declared.object.Entry.{Entry};
 ghost use Rattle.turnstile.specs.declared.view.Stage.TheVariants.{Rests, Waits, Inside, Posted};
@@ -32,8 +32,8 @@ fn draw<O: Object>(turns: &Turns<O>, place: &mut Place<O>) -> u64
     turns.fetch_add::<Draw>(place, 1, 1)
 }
 
-// How often a thread spins between two looks before it sleeps. It does not yield: where others want the processor too, each
-// yield costs it as long as they take, and every turn behind it waits for that.
+// The number of times that a thread spins between two looks, before it sleeps. It does not yield: if others want the
+// processor, each yield costs the time that they take, and every later turn waits for that.
 const SPINS: u32 = 7;
 
 // Looks until the turn has come, and takes the value. After some looks it sleeps until a turn is passed on.
@@ -75,7 +75,7 @@ fn enter<O: Object, R: Wait>(rt: &R, turns: &Turns<O>, place: &mut Place<O>) -> 
     (ticket, turns.exchange(place, 0, None).unwrap())
 }
 
-// Posts the entry that N says. What it is made of is for the pick alone.
+// Posts the entry that N says. Its parts are for the pick alone.
 fn post<O: Object, N: Said<O::Call, O::Reply>>(
     turns: &Turns<O>,
     place: &mut Place<O>,
@@ -124,7 +124,7 @@ fn leave<O: Object>(turns: &Turns<O>, place: &mut Place<O>, ticket: u64, value: 
 {
     turns.exchange(place, 0, Some(value));
     turns.fetch_add::<Leave>(place, 2, 1);
-    // Who draws after this look finds the new number, and does not sleep on the old one.
+    // A thread that draws after this look finds the new number, and does not sleep on the old one.
     if turns.peek(1) != ticket + 1 {
         turns.wake_all(2);
     }
@@ -186,7 +186,7 @@ pub(crate) fn lay<O: Object>(
     }
 }
 
-// Gives as many of the seat's last ids as N says to a new seat.
+// Moves as many of the seat's last ids as N says to a new seat.
 fn cut<O: Object, N: Amount>(turns: &Turns<O>, place: &mut Place<O>, _share: u64) -> Place<O>
     requires table { Fits place.old.table_id turns.now.table_id }
     requires rests { (place.old.me.0.stage ≡ Rests) × (place.old.me.0.other ≡ []) }
@@ -198,7 +198,7 @@ fn cut<O: Object, N: Amount>(turns: &Turns<O>, place: &mut Place<O>, _share: u64
     turns.split_seat::<Cut<N>>(place)
 }
 
-// Gives so many of the seat's last ids to a new seat.
+// Moves the seat's last `share` ids to a new seat.
 pub(crate) fn cut_off<O: Object>(turns: &Turns<O>, place: &mut Place<O>, share: u64) -> Place<O>
     requires table { Fits place.old.table_id turns.now.table_id }
     requires rests { (place.old.me.0.stage ≡ Rests) × (place.old.me.0.other ≡ []) }

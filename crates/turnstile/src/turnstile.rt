@@ -12,11 +12,11 @@ use std::marker::Model;
 use std::sync::Wait;
 use std::thread::Threads;
 
-/// An object shared by turns. Each call draws a ticket, waits until it is served, makes one step of the object, and posts
-/// one entry of its history. The history is not kept in memory; its length is.
+/// An object shared by turns. Each call draws a ticket, waits until it is served, makes one step of the object, and
+/// posts one entry of its history. Memory holds the length of the history, and not the history.
 ///
-/// A thread that waits spins for a few looks, and then sleeps until a turn is passed on. Nothing is promised of progress, of
-/// fairness, or of how long a turn takes.
+/// A thread that waits spins for a few looks, and then sleeps until a turn is passed on. No clause promises progress,
+/// fairness, or a bound on the time of a turn.
 #[derive(Drop)]
 pub struct Turnstile<O: Object> {
     table: TurnTable<O>,
@@ -34,7 +34,8 @@ impl<O: Object> Model for Turnstile<O> {
 }
 
 impl<O: Object> Turnstile<O> {
-    /// The turnstile, the steward's seat, whose id is 0, and the first caller's, which has the share from id 1 on.
+    /// Makes a turnstile, with the steward's seat, whose id is 0, and the first caller's, which owns `share` ids from 1
+    /// on.
     pub fn new(
         alloc: Global,
         value: O,
@@ -65,8 +66,8 @@ impl<O: Object> Turnstile<O> {
         Ok((Turnstile { table }, steward, caller))
     }
 
-    /// Takes a turn, makes one step and posts its entry, whose number is then the seat's `seen`. The gate is called inside
-    /// the turn with the numbers of leaf and table, which are for it alone.
+    /// Takes a turn, makes one step of the object and posts its entry. The number of the entry is then the seat's
+    /// `seen`. The gate is called inside the turn; the numbers of leaf and table are for it alone.
     pub fn call<C: Clock, R: Wait + Threads + Sync, G: Gate>(
         &self,
         rt: &R,
@@ -97,7 +98,8 @@ impl<O: Object> Turnstile<O> {
         reply
     }
 
-    /// Gives the seat's last ids to a new seat, which has seen as much. It takes no memory.
+    /// Moves the seat's last `share` ids to a new seat, which has seen the same prefix. It makes no entry and takes no
+    /// memory.
     pub fn split(&self, seat: &mut Seat<O>, share: u64) -> Result<Seat<O>, AllocError>
         requires seat { IsSeatOf seat.old self.now }
         requires share { (1 ≤ share) × (share < seat.old.share) }
@@ -116,7 +118,7 @@ impl<O: Object> Turnstile<O> {
         })
     }
 
-    /// Takes over the ids of another seat, and what it has seen.
+    /// Takes over the ids of another seat, and what it has seen. It makes no entry.
     pub fn join(&self, seat: &mut Seat<O>, other: Seat<O>)
         requires seats { IsSeatOf seat.old self.now × IsSeatOf other self.now }
         ensures seat { IsSeatOf seat.new self.now }

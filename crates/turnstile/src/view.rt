@@ -1,5 +1,6 @@
-// What each seat knows, and the rule of the table. Word 0 is the number of entries, word 1 the next ticket, word 2 the
-// ticket that is served, and the slot has the value. No value of these types but `Start` is ever made.
+// What each seat knows, and the rule of the table. Word 0 is the number of entries, word 1 the next ticket, and word 2
+// the ticket that is served. The slot has the value. These types are specification only: of them `Start` alone is ever
+// constructed.
 use crate::object::{Entry, Object};
 use atomic_table::{Seat, Shared, Table, TableRule};
 use std::alloc::Global;
@@ -17,17 +18,17 @@ pub enum Stage {
 /// What a seat knows.
 pub struct View<B, C, R> {
     pub base: Option<B>,
-    /// The history as far as the seat has seen it.
+    /// The prefix of the history that the seat has seen.
     pub seen: LinkedList<Entry<C, R>>,
-    /// What another seat had seen that was joined to it, until the next look at the number of entries.
+    /// The prefix that a seat had seen which was joined to this one, until the next look at the number of entries.
     pub other: LinkedList<Entry<C, R>>,
     pub id: u64,
     pub share: u64,
     /// The ids that it took over. A clause reads an array as a list, of any length.
     pub taken: [u64; 0],
-    /// Those of them that it had before it last took over another's.
+    /// Those of them that it had before the last time that it took over another seat's.
     pub older: [u64; 0],
-    /// How many entries after the 2^62nd it may still make.
+    /// The number of entries after the 2^62nd that it may still make.
     pub room: u64,
     pub stage: Stage,
 }
