@@ -11,3 +11,4 @@ pub mod LentLaws
 pub mod PackedLaws
 pub mod PackedBytes
 pub mod SeenLaws
+pub mod LiveLaws

@@ -8,6 +8,7 @@ mod lent_cells;
 mod lent_rows;
 mod lent_texts;
 mod limits;
+mod live_bytes;
 mod looks;
 mod packed_bytes;
 mod packed_rows;

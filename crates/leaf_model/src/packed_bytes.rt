@@ -7,6 +7,7 @@ ghost use Rattle.leaf_model.specs.Lent.{lent_row};
 ghost use Rattle.leaf_model.specs.Packed.{packed_rows};
 
 use crate::lent_rows::LentRow;
+use crate::live_bytes::LiveBytes;
 use crate::packed_rows::{PackedRows, know};
 use crate::row_writer::put_row;
 use std::alloc::{AllocError, Global};
@@ -19,7 +20,7 @@ impl PackedRows {
         ensures kept { OnErr result (self.new ≡ self.old) }
     {
         know(self.count, self.bytes.as_slice());
-        put_whole(&mut self.bytes, row)?;
+        self.bytes.put(row)?;
         self.count = with_more(self.bytes.as_slice(), self.count, 1);
         Ok(())
     }
@@ -31,7 +32,7 @@ impl PackedRows {
     {
         know(self.count, self.bytes.as_slice());
         know(others.count, others.bytes.as_slice());
-        self.bytes.extend_from_slice(others.bytes.as_slice())?;
+        self.bytes.append(others.bytes.as_slice())?;
         self.count = with_more(self.bytes.as_slice(), self.count, others.count);
         Ok(())
     }
@@ -47,10 +48,11 @@ impl PackedRows {
     pub fn copy(&self) -> Result<PackedRows, AllocError>
         ensures { IfOk result (λ copy. copy ≡ self.now) }
     {
-        let mut bytes = Vec::with_capacity(*self.bytes.allocator(), self.bytes.len())?;
-        bytes.extend_from_slice(self.bytes.as_slice())?;
+        let bytes = self.bytes.as_slice();
+        let mut own = Vec::with_capacity(self.bytes.allocator(), bytes.len())?;
+        own.extend_from_slice(bytes)?;
         Ok(PackedRows {
-            bytes,
+            bytes: LiveBytes::of(own),
             count: self.count,
         })
     }
@@ -68,7 +70,22 @@ impl PackedRows {
         let len = bytes.len() - rest.len();
         let mut own = Vec::with_capacity(alloc, len)?;
         own.extend_from_slice(&bytes[..len])?;
-        Ok(PackedRows { bytes: own, count })
+        Ok(PackedRows {
+            bytes: LiveBytes::of(own),
+            count,
+        })
+    }
+}
+
+impl LiveBytes {
+    /// Puts a row's bytes at the end, or nothing.
+    #[tactic(auto, using(crate::proofs::LiveLaws::drop_more))]
+    fn put(&mut self, row: &LentRow) -> Result<(), AllocError>
+        requires { IsRow (lent_row row.now) }
+        ensures put { OnOk result (self.new ≡ self.old ++ rows_bytes (lent_row row.now ∷ [])) }
+        ensures kept { OnErr result (self.new ≡ self.old) }
+    {
+        put_whole(&mut self.all, row)
     }
 }
 

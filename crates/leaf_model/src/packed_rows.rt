@@ -11,6 +11,8 @@ ghost use Rattle.leaf_model.specs.Packed.{packed_rows, AreFrom, ArePacked, IsPac
 
 use crate::fronts::SpelledRows;
 use crate::lent_rows::{LentRows, behind_rows, row_in};
+use crate::live_bytes::{LiveBytes, drop_bytes, move_down};
+use crate::packed_bytes::with_more;
 use crate::row_writer::put_row;
 use std::alloc::{AllocError, Global};
 use std::marker::Model;
@@ -18,7 +20,7 @@ use std::marker::Model;
 /// Rows as bytes: a row takes what it has to say, and no heap of its own. Contracts see the list.
 #[derive(Drop)]
 pub struct PackedRows {
-    pub(crate) bytes: Vec<u8>,
+    pub(crate) bytes: LiveBytes,
     pub(crate) count: usize,
 }
 
@@ -29,9 +31,9 @@ impl Model for PackedRows {
 
     ghost Value = { List Row };
 
-    ghost view = { λ rows. packed_rows rows.count rows.bytes.items };
+    ghost view = { λ rows. packed_rows rows.count rows.bytes };
 
-    ghost invariant = { λ rows. ArePacked rows.count rows.bytes.items };
+    ghost invariant = { λ rows. ArePacked rows.count rows.bytes };
 }
 
 impl PackedRows {
@@ -41,7 +43,7 @@ impl PackedRows {
         ensures { result ≡ [] }
     {
         PackedRows {
-            bytes: Vec::new(alloc),
+            bytes: LiveBytes::of(Vec::new(alloc)),
             count: 0,
         }
     }
@@ -75,8 +77,8 @@ impl PackedRows {
         ensures kept { OnErr result (self.new ≡ self.old) }
     {
         know(self.count, self.bytes.as_slice());
-        let added = put_from(&mut self.bytes, rows, horizon)?;
-        self.count += added;
+        let added = self.bytes.put_from(rows, horizon)?;
+        self.count = with_more(self.bytes.as_slice(), self.count, added);
         Ok(())
     }
 
@@ -88,18 +90,18 @@ impl PackedRows {
         if are_from(&self.lend(), horizon) {
             return;
         }
-        let count = keep_bytes(&mut self.bytes, self.count, horizon);
+        let count = self.bytes.keep_from(self.count, horizon);
         self.count = count;
     }
 
-    /// Lets go of the first rows.
+    /// Lets go of the first rows. The others are moved only now and then: n rows that go one after another cost n steps, amortized.
     pub fn drop_first(&mut self, count: usize)
         requires { count ≤ length self.old }
         ensures { self.new ≡ drop count self.old }
     {
         know(self.count, self.bytes.as_slice());
         let len = front_len(self.bytes.as_slice(), self.count, count);
-        drop_bytes(&mut self.bytes, len);
+        self.bytes.cut_front(len);
         self.count -= count;
     }
 
@@ -125,7 +127,31 @@ impl PackedRows {
 
     /// Where their memory comes from.
     pub fn allocator(&self) -> Global {
-        *self.bytes.allocator()
+        self.bytes.allocator()
+    }
+}
+
+impl LiveBytes {
+    /// Puts the rows at the end whose time is at least the horizon; how many these are.
+    #[tactic(auto, using(crate::proofs::LiveLaws::drop_more))]
+    fn put_from(&mut self, rows: &LentRows, horizon: i64) -> Result<usize, AllocError>
+        requires { AllByRecursion IsRow (lent_rows rows.now) }
+        ensures put { OnOk result (self.new ≡ self.old ++ rows_bytes (rows_from horizon (lent_rows rows.now))) }
+        ensures counted { IfOk result (λ count. count ≡ length (rows_from horizon (lent_rows rows.now))) }
+        ensures kept { OnErr result (self.new ≡ self.old) }
+    {
+        put_from(&mut self.all, rows, horizon)
+    }
+
+    /// Lets go of the bytes of the rows below the horizon; how many rows stay.
+    fn keep_from(&mut self, count: usize, horizon: i64) -> usize
+        requires { IsPacked count self.old (packed_rows count self.old) }
+        ensures kept { self.new ≡ rows_bytes (rows_from horizon (packed_rows count self.old)) }
+        ensures counted { result ≡ length (rows_from horizon (packed_rows count self.old)) }
+    {
+        drop_bytes(&mut self.all, self.dead);
+        self.dead = 0;
+        keep_bytes(&mut self.all, count, horizon)
     }
 }
 
@@ -158,27 +184,6 @@ fn front_len(bytes: &[u8], all: usize, count: usize) -> usize
     ensures { result ≡ length (rows_bytes (take count (packed_rows all bytes.now))) }
 {
     bytes.len() - behind_rows(count, bytes).len()
-}
-
-/// Lets go of the first bytes.
-fn drop_bytes(bytes: &mut Vec<u8>, count: usize)
-    requires { count ≤ length bytes.old.items }
-    ensures { bytes.new.items ≡ drop count bytes.old.items }
-{
-    let len = bytes.len() - count;
-    move_down(bytes.as_mut_slice(), count, 0, len);
-    bytes.truncate(len);
-}
-
-/// Moves so many bytes down.
-fn move_down(bytes: &mut [u8], from: usize, to: usize, len: usize)
-    requires down { to ≤ from }
-    requires within { from + len ≤ length bytes.old }
-    ensures len { length bytes.new ≡ length bytes.old }
-    ensures front { take (to + len) bytes.new ≡ take to bytes.old ++ take len (drop from bytes.old) }
-    ensures back { drop (from + len) bytes.new ≡ drop (from + len) bytes.old }
-{
-    bytes.copy_within(from..from + len, to);
 }
 
 /// The time of the first row, and how many bytes it takes.

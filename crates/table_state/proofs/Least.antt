@@ -7,7 +7,7 @@ use Rattle.leaf_model.specs.Content.{rows_from}
 use Rattle.table_state.specs.Stored.{AreFrom}
 use Rattle.table_state.proofs.Keeping.{each-append}
 
-below : (s t u : ℤ) → int_le s t ≡ true → int_le t u ≡ true → int_le s u ≡ true
+pub below : (s t u : ℤ) → int_le s t ≡ true → int_le t u ≡ true → int_le s u ≡ true
 below s t u low high = true_from_ne_false (int_le s u) (λ no. omega (arith, ints, low, high, no))
 
 -- a lower time is as good

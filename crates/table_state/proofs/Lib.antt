@@ -2,6 +2,7 @@ mod Late
 mod Ahead
 mod Keeping
 mod Least
+mod Ascending
 mod Fronts
 mod Runs
 mod Counting

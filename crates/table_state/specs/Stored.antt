@@ -1,5 +1,5 @@
 -- Rows as they stand: sealed blocks, of the first of which some rows are cut away, and a tail behind them.
-use Rattle.std.specs.Prelude.{◌≡◌, ℕ, ◌+◌, ◌*◌, ◌/◌, ◌≤◌, List, [], ◌∷◌, ◌++◌, length, if◌then◌else◌, true, int_le, ℤ}
+use Rattle.std.specs.Prelude.{◌≡◌, ℕ, ◌+◌, ◌*◌, ◌/◌, ◌≤◌, List, [], ◌∷◌, ◌++◌, length, if◌then◌else◌, true, int_le, ℤ, Option, Some, None, IfSome, ⊤}
 use Rattle.std.specs.List.{AllByRecursion}
 use Rattle.leaf_model.specs.declared.rows.Row.{Row}
 use Rattle.leaf_model.specs.Values.{IsTime}
@@ -24,6 +24,22 @@ IsCut cut (b ∷ blocks) = cut ≤ b.rows
 -- none of the rows is below a time
 abbrev pub AreFrom : ℤ → List Row → Type 0
 AreFrom t rows = AllByRecursion (λ (row : Row). int_le t row.time ≡ true) rows
+
+-- the times of the rows never fall, and are in this range
+abbrev pub AreAscending : ℤ → List Row → ℤ → Type 0
+AreAscending from [] to = int_le from to ≡ true
+AreAscending from (row ∷ rows) to = (int_le from row.time ≡ true) × AreAscending row.time rows to
+
+-- what is noted of the rows of a tail: none is below the least time, and where there is a last time, they ascend up to it
+pub record AreNoted (least : ℤ) (last : Option ℤ) (rows : List Row) : Type 0 where
+  pub from : AreFrom least rows
+  pub order : IfSome last (λ to. AreAscending least rows to)
+
+-- rows behind others that ascend up to a time, where that is known: they ascend up to another, where that is known then
+abbrev pub AscendOn : Option ℤ → List Row → Option ℤ → Type 0
+AscendOn before rows None = ⊤
+AscendOn None rows (Some to) = ⊥
+AscendOn (Some from) rows (Some to) = AreAscending from rows to
 
 -- of the rows of the first block that are not cut away, at least so many are live
 abbrev pub AreAhead : ℕ → List Block → ℕ → ℤ → Type 0

@@ -4,6 +4,7 @@
 mod fault;
 mod front;
 mod held;
+mod order;
 mod parts;
 mod sealing;
 mod table;

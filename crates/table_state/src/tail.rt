@@ -6,27 +6,29 @@ ghost use Rattle.leaf_model.specs.Lent.{lent_rows};
 ghost use Rattle.leaf_model.specs.Values.{IsRow};
 ghost use Rattle.table_state.specs.Stored.{AreFrom};
 
+use crate::order::{ascend_on, drop_below, last_known, last_left};
 use leaf_model::{LentRows, PackedRows};
 use std::alloc::{AllocError, Global};
 use std::marker::Model;
 
-/// Rows, and a time that none of them is below: an expiry up to that time does not look at them. Contracts see the rows.
+/// Rows, and a time that none of them is below: an expiry up to that time does not look at them. If the times are known never to fall, there is a `last` that none of them is above: an expiry then looks only at the rows that it removes, and at one more. Contracts see the rows.
 #[derive(Drop)]
 pub struct Tail {
     rows: PackedRows,
     least: i64,
+    last: Option<i64>,
 }
 
 impl Model for Tail {
     ghost use Rattle.std.specs.Prelude.{List};
     ghost use Rattle.leaf_model.specs.declared.rows.Row.{Row};
-    ghost use Rattle.table_state.specs.Stored.{AreFrom};
+    ghost use Rattle.table_state.specs.Stored.{AreNoted};
 
     ghost Value = { List Row };
 
     ghost view = { λ t. t.rows };
 
-    ghost invariant = { λ t. AreFrom t.least t.rows };
+    ghost invariant = { λ t. AreNoted t.least t.last t.rows };
 }
 
 impl Tail {
@@ -37,6 +39,7 @@ impl Tail {
         Tail {
             rows: PackedRows::new(alloc),
             least: i64::MIN,
+            last: None,
         }
     }
 
@@ -68,6 +71,7 @@ impl Tail {
         ensures kept { OnErr result (self.new ≡ self.old) }
     {
         self.rows.extend_from(more, horizon)?;
+        self.last = ascend_on(self.last, horizon, more);
         self.least = least_with(self.least, horizon, more);
         Ok(())
     }
@@ -79,15 +83,16 @@ impl Tail {
         if horizon <= self.least {
             return;
         }
-        let before = self.rows.len();
-        self.rows.retain_from(horizon);
-        // After a removal the horizon is a bound that costs no walk. A walk that removed nothing is worth one more, for the least time.
-        let most = if self.rows.len() < before {
-            horizon
-        } else {
-            i64::MAX
-        };
-        self.least = least_with(most, horizon, &self.rows.lend());
+        match last_known(self.last, self.least, &self.rows) {
+            Some(last) => {
+                drop_below(&mut self.rows, horizon);
+                self.last = last_left(last, &self.rows);
+            }
+            None => {
+                self.last = None;
+                self.least = retain_each(&mut self.rows, horizon);
+            }
+        }
     }
 
     /// Lets go of the first rows.
@@ -111,12 +116,29 @@ impl Tail {
         ensures { self.new ≡ [] }
     {
         self.rows.clear();
+        self.last = None;
     }
 
     /// Where their memory comes from.
     pub fn allocator(&self) -> Global {
         self.rows.allocator()
     }
+}
+
+/// Removes the rows below the horizon, and answers a time that no row is below then.
+fn retain_each(rows: &mut PackedRows, horizon: i64) -> i64
+    ensures rows { rows.new ≡ rows_from horizon rows.old }
+    ensures least { AreFrom result rows.new }
+{
+    let before = rows.len();
+    rows.retain_from(horizon);
+    // After a removal the horizon is a bound that costs no walk. A walk that removed nothing is worth one more, for the least time.
+    let most = if rows.len() < before {
+        horizon
+    } else {
+        i64::MAX
+    };
+    least_with(most, horizon, &rows.lend())
 }
 
 /// A time that is at most `most`, and that no row at or after the horizon is below. If `most` is not above the horizon, it is `most`, and no row is looked at.

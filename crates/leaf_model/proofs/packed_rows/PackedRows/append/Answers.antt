@@ -8,10 +8,10 @@ use Rattle.leaf_model.proofs.packed_rows.PackedRows.append.Goals as goal
 pub with_more-self-inside-requires : goal.with_more-self-inside-requires
 with_more-self-inside-requires c =
     let count = c.self.inside.count in
-    let bytes = c.self.inside.bytes.items in
+    let bytes = c.self.inside.bytes in
     let more = c.others.inside.count in
-    let others = c.others.inside.bytes.items in
-    let now = c.extend_from_slice.new.self.items in
+    let others = c.others.inside.bytes in
+    let now = c.append.new.self in
     let put : now ≡ bytes ++ others = search rules in
     let few = packed_few (count + more) now (packed_rows count bytes ++ packed_rows more others) (rows_more count more bytes others now (packed_rows count bytes) (packed_rows more others) (search rules) (search rules) put) in
     subst (λ (w : List ℕ). count + more ≤ length w) (search rules) few
@@ -19,20 +19,20 @@ with_more-self-inside-requires c =
 pub invariant_of-self-2 : goal.invariant_of-self-2
 invariant_of-self-2 c =
     let count = c.self.inside.count in
-    let bytes = c.self.inside.bytes.items in
+    let bytes = c.self.inside.bytes in
     let more = c.others.inside.count in
-    let others = c.others.inside.bytes.items in
-    let now = c.extend_from_slice.new.self.items in
+    let others = c.others.inside.bytes in
+    let now = c.append.new.self in
     let put : now ≡ bytes ++ others = search rules in
     subst (λ (n : ℕ). ArePacked n now) (sym c.with_more-self-inside.ensures) (are_packed (count + more) now (packed_rows count bytes ++ packed_rows more others) (rows_more count more bytes others now (packed_rows count bytes) (packed_rows more others) (search rules) (search rules) put))
 
 pub returns-clause-put : goal.returns-clause-put
 returns-clause-put c =
     let count = c.self.inside.count in
-    let bytes = c.self.inside.bytes.items in
+    let bytes = c.self.inside.bytes in
     let more = c.others.inside.count in
-    let others = c.others.inside.bytes.items in
-    let now = c.extend_from_slice.new.self.items in
+    let others = c.others.inside.bytes in
+    let now = c.append.new.self in
     let put : now ≡ bytes ++ others = search rules in
     let whole = packed_is (count + more) now (packed_rows count bytes ++ packed_rows more others) (rows_more count more bytes others now (packed_rows count bytes) (packed_rows more others) (search rules) (search rules) put) in
     ap (λ (n : ℕ). packed_rows n now) c.with_more-self-inside.ensures ∙ whole ∙ ap (λ (w : List Row). w ++ packed_rows more others) c.self.view_is ∙ ap (λ (w : List Row). c.args.self.now ++ w) c.others.view_is

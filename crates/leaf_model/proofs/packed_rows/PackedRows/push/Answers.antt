@@ -10,8 +10,8 @@ use Rattle.leaf_model.proofs.packed_rows.PackedRows.push.Goals as goal
 pub with_more-self-inside-requires : goal.with_more-self-inside-requires
 with_more-self-inside-requires c =
     let count = c.self.inside.count in
-    let bytes = c.self.inside.bytes.items in
-    let now = c.put_whole.new.out.items in
+    let bytes = c.self.inside.bytes in
+    let now = c.put.new.self in
     let rows = packed_rows count bytes in
     let row = lent_row c.args.row.now in
     let put : now ≡ bytes ++ rows_bytes (row ∷ []) = search rules in
@@ -21,8 +21,8 @@ with_more-self-inside-requires c =
 pub invariant_of-self-2 : goal.invariant_of-self-2
 invariant_of-self-2 c =
     let count = c.self.inside.count in
-    let bytes = c.self.inside.bytes.items in
-    let now = c.put_whole.new.out.items in
+    let bytes = c.self.inside.bytes in
+    let now = c.put.new.self in
     let rows = packed_rows count bytes in
     let row = lent_row c.args.row.now in
     let put : now ≡ bytes ++ rows_bytes (row ∷ []) = search rules in
@@ -31,8 +31,8 @@ invariant_of-self-2 c =
 pub returns-clause-put : goal.returns-clause-put
 returns-clause-put c =
     let count = c.self.inside.count in
-    let bytes = c.self.inside.bytes.items in
-    let now = c.put_whole.new.out.items in
+    let bytes = c.self.inside.bytes in
+    let now = c.put.new.self in
     let rows = packed_rows count bytes in
     let row = lent_row c.args.row.now in
     let put : now ≡ bytes ++ rows_bytes (row ∷ []) = search rules in

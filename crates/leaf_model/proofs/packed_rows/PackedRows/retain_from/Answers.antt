@@ -7,10 +7,10 @@ use Rattle.leaf_model.proofs.packed_rows.PackedRows.retain_from.Goals as goal
 
 pub invariant_of-self : goal.invariant_of-self
 invariant_of-self c =
-    are_packed c.keep_bytes-count.result c.keep_bytes-count.new.bytes.items (rows_from c.args.horizon c.args.self.now)
-    (retained c.self.inside.count c.keep_bytes-count.result (to_z w64 (of_z w64 c.args.horizon)) c.args.horizon c.as_slice.result.now c.self.inside.bytes.items c.keep_bytes-count.new.bytes.items c.args.self.now c.self.view_is c.as_slice.ensures.value c.know.ensures (to_z-of_z w64 c.args.horizon c.ranges.horizon) c.keep_bytes-count.ensures.kept c.keep_bytes-count.ensures.counted)
+    are_packed c.keep_from-count.result c.keep_from-count.new.self (rows_from c.args.horizon c.args.self.now)
+    (retained c.self.inside.count c.keep_from-count.result (to_z w64 (of_z w64 c.args.horizon)) c.args.horizon c.as_slice.result.now c.self.inside.bytes c.keep_from-count.new.self c.args.self.now c.self.view_is c.as_slice.ensures c.know.ensures (to_z-of_z w64 c.args.horizon c.ranges.horizon) c.keep_from-count.ensures.kept c.keep_from-count.ensures.counted)
 
 pub returns : goal.returns
 returns c =
-    packed_is c.keep_bytes-count.result c.keep_bytes-count.new.bytes.items (rows_from c.args.horizon c.args.self.now)
-    (retained c.self.inside.count c.keep_bytes-count.result (to_z w64 (of_z w64 c.args.horizon)) c.args.horizon c.as_slice.result.now c.self.inside.bytes.items c.keep_bytes-count.new.bytes.items c.args.self.now c.self.view_is c.as_slice.ensures.value c.know.ensures (to_z-of_z w64 c.args.horizon c.ranges.horizon) c.keep_bytes-count.ensures.kept c.keep_bytes-count.ensures.counted)
+    packed_is c.keep_from-count.result c.keep_from-count.new.self (rows_from c.args.horizon c.args.self.now)
+    (retained c.self.inside.count c.keep_from-count.result (to_z w64 (of_z w64 c.args.horizon)) c.args.horizon c.as_slice.result.now c.self.inside.bytes c.keep_from-count.new.self c.args.self.now c.self.view_is c.as_slice.ensures c.know.ensures (to_z-of_z w64 c.args.horizon c.ranges.horizon) c.keep_from-count.ensures.kept c.keep_from-count.ensures.counted)

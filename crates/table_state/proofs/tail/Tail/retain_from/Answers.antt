@@ -13,12 +13,4 @@ returns-then-horizon-self c =
     let at : to_z w64 (of_z w64 t.least) ≡ t.least = search rules in
     let low = subst (λ (z : ℤ). int_le h z ≡ true) at
     (subst (λ (z : ℤ). int_le z (to_z w64 (of_z w64 t.least)) ≡ true) (to_z-of_z w64 h c.ranges.horizon) c.if-horizon-self.true) in
-    subst (λ (rows : List Row). rows ≡ rows_from h rows) c.self.view_is (sym (all_stay h t.least t.rows low c.self.invariant))
-
-pub invariant_of-self : goal.invariant_of-self
-invariant_of-self c =
-    let t = c.self.inside in let least = c.least_with-self-inside.result in let now = c.retain_from.new.self in
-    let h = to_z w64 (of_z w64 c.args.horizon) in
-    let fits : to_z w64 (of_z w64 least) ≡ least = search rules in
-    let all = subst (λ (rows : List Row). AreFrom least (rows_from h rows)) c.lend.ensures c.least_with-self-inside.ensures.least in
-    subst (λ (z : ℤ). AreFrom z now) (sym fits) (from_left least h t.rows now c.retain_from.ensures all)
+    subst (λ (rows : List Row). rows ≡ rows_from h rows) c.self.view_is (sym (all_stay h t.least t.rows low c.self.invariant.from))

@@ -1,0 +1,10 @@
+use Rattle.std.proofs.Common.{List, sym, subst}
+use Rattle.leaf_model.specs.declared.rows.Row.{Row}
+use Rattle.table_state.specs.Stored.{AreNoted}
+use Rattle.table_state.proofs.Ascending.{noted_drop}
+use Rattle.table_state.proofs.tail.Tail.drop_first.Goals as goal
+
+pub invariant_of-self : goal.invariant_of-self
+invariant_of-self c =
+    let t = c.self.inside in
+    subst (λ (rows : List Row). AreNoted t.least t.last rows) (sym c.drop_first.ensures) (noted_drop c.args.count t.least t.last t.rows c.self.invariant)
