@@ -1,11 +1,11 @@
 -- What a head says of a region that is closed, and of one that is not.
-use Rattle.std.proofs.Common.{◌≡◌, ℕ, Bool, true, false, cond, ltb, eqb, List, length, refl, sym, ap, ◌∙◌, arith, inl, inr}
+use Rattle.std.proofs.Common.{◌≡◌, ℕ, ◌≤◌, Bool, true, false, cond, ltb, eqb, List, length, refl, arith, inl, inr}
 use Rattle.std.specs.Prelude.{◌≢◌, slice_index}
-use Rattle.std.proofs.lemmas.Bool.{ltb-true, ltb-false, le-ltb, eqb-true, eqb-false}
-use Rattle.region_layout.specs.declared.head.Head.{Head}
-use Rattle.region_layout.specs.declared.head.Head.TheVariants.{NoHead, Closed, Version}
+use Rattle.std.proofs.lemmas.Bool.{ltb-true, ltb-false, eqb-true, eqb-false}
+use Rattle.region_head.specs.declared.head.Head.{Head}
+use Rattle.region_head.specs.declared.head.Head.TheVariants.{NoHead, Closed, Version}
 use Rattle.berth_face.specs.Berth.{IsClosed}
-use Rattle.region_layout.specs.Head.{head_of, version_of}
+use Rattle.region_head.specs.Head.{head_of, version_of}
 
 -- a head by its two tests
 abbrev head_by : Bool → Bool → ℕ → ℕ → Head
@@ -49,3 +49,7 @@ pub open_head : (region : List ℕ) → (IsClosed region → ⊥) → head_of re
 open_head region opened =
     open_by (ltb (length region) 16) (eqb (slice_index region 0) 1) (slice_index region 0) (version_of region)
     (not_short region (ltb (length region) 16) refl opened) (is_open region (eqb (slice_index region 0) 1) refl opened)
+
+-- where a version is told, there is a whole head
+pub head_long : (region : List ℕ) (version : ℕ) → head_of region ≡ Version version → 16 ≤ length region
+head_long region version e = ltb-false (length region) 16 (no_version (ltb (length region) 16) (eqb (slice_index region 0) 1) (slice_index region 0) (version_of region) version e).0

@@ -1,16 +1,14 @@
 -- What a crash may leave, and what may stand, at each moment while a region is read, its flag is closed and it is cut.
-use Rattle.std.proofs.Common.{◌≡◌, ◌⊎◌, inl, inr, ℕ, ◌≤◌, List, [], ◌∷◌, length, take, Ok, Err, refl, sym, ap, subst, ◌∙◌, arith, length-take}
+use Rattle.std.proofs.Common.{◌≡◌, ◌⊎◌, inl, inr, ℕ, List, [], ◌∷◌, length, take, Ok, Err, refl, sym, ap, subst, ◌∙◌, arith, length-take}
 use Rattle.std.specs.Prelude.{Result, OnOk, OnErr}
 use Rattle.berth_face.specs.Berth.{Pair, Meaning, IsClosed, Passes, Stays, Cut, Torn, RegionWritten, RegionCut}
 use Rattle.berth_face.specs.Moments.{EachNow, KeepsRegion, Meanwhile, StandsHeld, Throughout}
-use Rattle.berth_face.proofs.Moments.{started, goes_on, now_of, throughout_map, throughout_join, through_stay, meanwhile_call, meanwhile_here, meanwhile_join, meanwhile_map, meanwhile_stay}
-use Rattle.region_layout.specs.declared.head.Head.TheVariants.{Version}
-use Rattle.region_layout.specs.Head.{head_of, version_of}
-use Rattle.region_layout.proofs.Heads.{open_head}
-use Rattle.adopt.specs.Adopting.{AdoptsFrom, ClosedFrom, IsBroken, IsInImage, IsNoLonger}
-use Rattle.adopt.specs.Finding.{IsOpenRegion, closed_flag}
-use Rattle.adopt.specs.Taken.{AdoptState}
-use Rattle.adopt.proofs.Heads.{closed_breaks, cut_closed, flag_closed, torn_breaks, torn_cut, untouched}
+use Rattle.berth_face.proofs.Moments.{started, goes_on, now_of, throughout_map, throughout_join, through_stay, meanwhile_call, meanwhile_here, meanwhile_join, meanwhile_stay}
+use Rattle.region_head.specs.declared.head.Head.TheVariants.{Version}
+use Rattle.region_head.specs.Head.{head_of, version_of}
+use Rattle.region_head.proofs.Heads.{open_head}
+use Rattle.region_head.specs.Closing.{AdoptsFrom, ClosedFrom, IsBroken, IsNoLonger, IsOpenRegion, closed_flag}
+use Rattle.region_head.proofs.Closing.{closed_breaks, cut_closed, flag_closed, torn_breaks, torn_cut, untouched}
 
 left_by : (old now region : List ℕ) → IsBroken old now → (region ≡ now) ⊎ IsClosed region → IsClosed region ⊎ IsBroken old region
 left_by old now region broken keeps = elim keeps [
@@ -169,10 +167,3 @@ pub short_cut : {T E : Type 0} (result : Result T E) (n : ℕ) (a b : Meaning) �
 short_cut result n a b before after time made =
     meanwhile_call a a b (IsNoLonger a.held.region) (Cut n a.held.region) (short_start a before) time made.meanwhile (λ region cut. cut_short n a.held.region region cut)
     after (short_by result n a.held.region b.held.region made.ok made.err)
-
--- so what is held and the region stay within the image
-pub in_room : (s : AdoptState) (a b : Meaning) → IsInImage s a.held.region → Meanwhile (IsNoLonger a.held.region) a b → Meanwhile (IsInImage s) a b
-in_room s a b fits all = meanwhile_map a b (IsNoLonger a.held.region) (IsInImage s) fitting all
-  where
-    fitting : (region : List ℕ) → IsNoLonger a.held.region region → IsInImage s region
-    fitting region short = omega (arith, fits, short)

@@ -1,10 +1,9 @@
--- A region: its head, and the image of its tables.
-use Rattle.std.specs.Prelude.{ℕ, List, ◌∷◌, ◌++◌, length, take, drop, map, slice_index, if◌then◌else◌, nat_lt, ◌==◌, codes}
+-- The head of a region.
+use Rattle.std.specs.Prelude.{ℕ, List, ◌∷◌, ◌++◌, length, take, drop, slice_index, if◌then◌else◌, nat_lt, ◌==◌, codes}
 use Rattle.std.specs.Int.{w32, from_le_bytes}
 use Rattle.leaf_model.specs.Bytes.{u32_bytes, u64_bytes}
-use Rattle.region_layout.specs.declared.head.Head.{Head}
-use Rattle.region_layout.specs.declared.head.Head.TheVariants.{NoHead, Closed, Version}
-use Rattle.region_layout.specs.Images.{TableImage}
+use Rattle.region_head.specs.declared.head.Head.{Head}
+use Rattle.region_head.specs.declared.head.Head.TheVariants.{NoHead, Closed, Version}
 
 -- the four bytes after the flag and the letters
 abbrev pub version_of : List ℕ → ℕ
@@ -18,7 +17,3 @@ head_of region = if nat_lt (length region) 16 then NoHead
 -- the 16 bytes of an open head: the flag, three letters, the version, and the place of the directory
 abbrev pub head_bytes : ℕ → ℕ → List ℕ
 head_bytes version place = 1 ∷ (codes "SCB" ++ u32_bytes version ++ u64_bytes place)
-
--- the names of the tables of an image
-abbrev pub image_names : List TableImage → List (List ℕ)
-image_names tables = map (λ (t : TableImage). t.name) tables

@@ -1,6 +1,6 @@
 // The first 16 bytes of a region.
 ghost use Rattle.std.specs.Prelude.{◌≡◌, ◌∷◌};
-ghost use Rattle.region_layout.specs.Head.{head_of, head_bytes};
+ghost use Rattle.region_head.specs.Head.{head_of, head_bytes};
 
 /// What the head of a region says.
 #[derive(Clone, Copy, PartialEq, Eq)]

@@ -3,8 +3,7 @@ ghost use Rattle.std.specs.Prelude.{◌≡◌, take, OnOk, OnErr, IsTrue};
 ghost use Rattle.berth_face.specs.Causes.{HasCause};
 ghost use Rattle.berth_face.specs.Berth.{IsClosed, Passes, Ended, SameDisk, Torn};
 ghost use Rattle.berth_face.specs.Moments.{Meanwhile, Throughout};
-ghost use Rattle.adopt.specs.Adopting.{AdoptsFrom, ClosedFrom, IsNoLonger};
-ghost use Rattle.adopt.specs.Finding.{IsOpenRegion, closed_flag};
+ghost use Rattle.region_head.specs.Closing.{AdoptsFrom, ClosedFrom, IsNoLonger, IsOpenRegion, closed_flag};
 
 use berth_face::{Berth, Failed};
 

@@ -2,8 +2,8 @@
 ghost use Rattle.std.specs.Prelude.{◌≡◌, None, Some, map, bytes_eq, IfOk, IfErr, OnOk};
 ghost use Rattle.std.specs.List.{list_any, position};
 ghost use Rattle.region_layout.specs.declared.directory.TablePlaces.{TablePlaces};
-ghost use Rattle.adopt.specs.Adopting.{stranger_of};
-ghost use Rattle.adopt.specs.Finding.{is_stranger};
+ghost use Rattle.region_strangers.specs.Strangers.{stranger_of};
+ghost use Rattle.region_strangers.specs.Strangers.{is_stranger};
 
 use leaf_model::Text;
 use region_layout::{TablePlaces, TablePlacesList};

@@ -1,6 +1,6 @@
 use Rattle.std.proofs.Common.{rules, IsTrue, sym, subst}
-use Rattle.adopt.proofs.Moments.{flag_closes}
-use Rattle.adopt.proofs.region.close_flag.Goals as goal
+use Rattle.region_head.proofs.Moments.{flag_closes}
+use Rattle.region_head.proofs.region.close_flag.Goals as goal
 
 pub returns-clause-moments : goal.returns-clause-moments
 returns-clause-moments g c =

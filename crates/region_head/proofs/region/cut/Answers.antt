@@ -1,6 +1,6 @@
 use Rattle.std.proofs.Common.{rules, IsTrue, sym, subst}
-use Rattle.adopt.proofs.Moments.{region_cut, short_cut}
-use Rattle.adopt.proofs.region.cut.Goals as goal
+use Rattle.region_head.proofs.Moments.{region_cut, short_cut}
+use Rattle.region_head.proofs.region.cut.Goals as goal
 
 pub returns-clause-moments : goal.returns-clause-moments
 returns-clause-moments g c =

@@ -1,10 +1,10 @@
 use Rattle.std.proofs.Common.{◌≡◌, List, rules, length, position, Some, None, option_map, refl, ap, subst, ◌∙◌}
 use Rattle.std.proofs.lemmas.Option.{slice_get_read}
 use Rattle.region_layout.specs.declared.directory.TablePlaces.{TablePlaces}
-use Rattle.adopt.specs.Adopting.{stranger_of}
-use Rattle.adopt.specs.Finding.{is_stranger}
-use Rattle.adopt.proofs.Known.{names_of, no_stranger, stranger_at}
-use Rattle.adopt.proofs.strangers.all_known.Goals as goal
+use Rattle.region_strangers.specs.Strangers.{stranger_of}
+use Rattle.region_strangers.specs.Strangers.{is_stranger}
+use Rattle.region_strangers.proofs.First.{names_of, no_stranger, stranger_at}
+use Rattle.region_strangers.proofs.known.all_known.Goals as goal
 
 pub returns-in-None-clause-known : goal.returns-in-None-clause-known
 returns-in-None-clause-known c =
