@@ -12,7 +12,7 @@ ghost use Rattle.transcript_standing.specs.Followed.{AreFollowers};
 ghost use Rattle.play.specs.Standing.{MayRun};
 ghost use Rattle.play.specs.Played.{AreBases, LeavesBerths, leaves_in};
 ghost use Rattle.berth_face.specs.Streams.{WritesFront};
-ghost use Rattle.bursts.specs.Went.{told_lines};
+ghost use Rattle.lane_play.specs.Went.{told_lines};
 ghost use Rattle.play.specs.Shortened.{IfShort, RunShort, StopsAt, StopsShort};
 ghost use Rattle.play.specs.Runs.{Advances, HoldsKeep, IsEnd, IsFleetOf, RunSoFar, berths_in};
 

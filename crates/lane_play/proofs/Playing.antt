@@ -15,12 +15,12 @@ use Rattle.transcript.specs.Pieces.{Piece, Played, commands_in, lane_lines, line
 use Rattle.leaf_moves.specs.Holds.{Hold}
 use Rattle.leaf_moves.specs.Lanes.{PlaysOn}
 use Rattle.player.specs.Crew.{AllCounted, PlaysWith}
-use Rattle.bursts.specs.Played.{all_of}
-use Rattle.bursts.specs.Went.{AreBegun, LaneWent, LanesFit, TurnsWent, told_lines}
+use Rattle.lane_play.specs.Played.{all_of}
+use Rattle.lane_play.specs.Went.{AreBegun, LaneWent, LanesFit, TurnsWent, told_lines}
 use Rattle.transcript.specs.Watching.{Hears, HearsAll}
 use Rattle.leaf_moves.specs.Plays.{Plays}
-use Rattle.bursts.proofs.Held.{all_counted_on, counted_none}
-use Rattle.bursts.proofs.Hearing.{watched_join, watched_one}
+use Rattle.lane_play.proofs.Held.{all_counted_on, counted_none}
+use Rattle.lane_play.proofs.Heard.{watched_join, watched_one}
 
 -- ---- lists
 

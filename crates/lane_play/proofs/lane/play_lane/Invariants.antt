@@ -3,9 +3,9 @@ use Rattle.std.specs.List.{AllByRecursion}
 use Rattle.std.specs.VecDeque.{deque_len}
 use Rattle.script_text.specs.declared.command.Command.{Command}
 use Rattle.player.specs.Crew.{AllPass, StillHas}
-use Rattle.bursts.specs.Played.{MayPlayOn}
-use Rattle.bursts.specs.Went.{LaneWent}
-use Rattle.bursts.proofs.lane.play_lane.Given as goal
+use Rattle.lane_play.specs.Played.{MayPlayOn}
+use Rattle.lane_play.specs.Went.{LaneWent}
+use Rattle.lane_play.proofs.lane.play_lane.Given as goal
 
 -- some commands were played, and the others are left
 abbrev pub invariant-loop-command : goal.invariant-loop-command

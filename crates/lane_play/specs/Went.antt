@@ -13,9 +13,9 @@ use Rattle.transcript.specs.Pieces.{Played, PlayedItem, all_pieces, commands_in,
 use Rattle.leaf_moves.specs.Holds.{Hold, AllMeet}
 use Rattle.leaf_moves.specs.Lanes.{Fans, PlaysItem, PlaysOn}
 use Rattle.transcript.specs.Watching.{HearsAll}
-use Rattle.bursts.specs.Shortened.{Begins, BeginsItem}
+use Rattle.lane_play.specs.Shortened.{Begins, BeginsItem}
 use Rattle.player.specs.Crew.{AllCounted}
-use Rattle.bursts.specs.Played.{all_of}
+use Rattle.lane_play.specs.Played.{all_of}
 
 -- the lines of an answer, where there was memory for them
 abbrev pub told_lines : {E : Type 0} → Result (Vec Line Global) E → Option (List Line)

@@ -4,13 +4,13 @@ use Rattle.script_text.specs.Fits.{IsCommand}
 use Rattle.script_text.specs.declared.fleet.Fleet.{Fleet}
 use Rattle.script_text.specs.Commands.{leaf_count}
 use Rattle.player.specs.Crew.{HasFor}
-use Rattle.bursts.specs.Played.{MayPlayOn}
-use Rattle.bursts.proofs.Held.{pass_none, pass_on, still_on, still_same}
-use Rattle.bursts.proofs.Needed.{may_play, still_may}
-use Rattle.bursts.proofs.Playing.{command_over, has_lines, lane_begins, lane_goes_on, lane_stops, no_lines}
+use Rattle.lane_play.specs.Played.{MayPlayOn}
+use Rattle.lane_play.proofs.Held.{pass_none, pass_on, still_on, still_same}
+use Rattle.lane_play.proofs.Still.{may_play, still_may}
+use Rattle.lane_play.proofs.Playing.{command_over, has_lines, lane_begins, lane_goes_on, lane_stops, no_lines}
 use Rattle.std.proofs.lemmas.Result.{err_from_is_err_and}
 use Rattle.std.specs.Prelude.{Ok}
-use Rattle.bursts.proofs.lane.play_lane.Goals as goal
+use Rattle.lane_play.proofs.lane.play_lane.Goals as goal
 
 pub loop-command-init : goal.loop-command-init
 loop-command-init g c = record {

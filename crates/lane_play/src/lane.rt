@@ -2,8 +2,8 @@
 ghost use Rattle.std.specs.Prelude.{◌≡◌, map};
 ghost use Rattle.std.specs.List.{AllByRecursion};
 ghost use Rattle.player.specs.Crew.{AllPass, StillHas};
-ghost use Rattle.bursts.specs.Played.{MayPlayOn};
-ghost use Rattle.bursts.specs.Went.{LaneWent, told_lines};
+ghost use Rattle.lane_play.specs.Played.{MayPlayOn};
+ghost use Rattle.lane_play.specs.Went.{LaneWent, told_lines};
 
 use crate::command::play_command;
 use berth_face::{Berth, Gate};
