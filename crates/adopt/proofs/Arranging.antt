@@ -14,15 +14,13 @@ use Rattle.row_blocks.specs.Blocks.{Block}
 use Rattle.row_blocks.specs.Held.{columns_count, rows_and_cells}
 use Rattle.table_state.specs.declared.parts.Parts.{Parts}
 use Rattle.table_state.specs.Tables.{IsPartsOf, Table, bare, columns_most, no_store}
-use Rattle.region_layout.specs.Images.{TableImage}
-use Rattle.region_layout.specs.Head.{image_names}
-use Rattle.region_layout.specs.Images.{empty_image, is_named, table_named, table_of, tables_of}
+use Rattle.region_layout.specs.Images.{TableImage, empty_image, image_names, is_named, table_named, table_of, tables_of}
 use Rattle.region_layout.specs.declared.drained.DrainTable.{DrainTable}
 use Rattle.region_layout.specs.Region.{image_of_parts}
 use Rattle.region_layout.specs.Drained.{images_of}
-use Rattle.adopt.specs.Adopting.{stranger_of}
+use Rattle.region_strangers.specs.Strangers.{stranger_of}
 use Rattle.adopt.specs.Tables.{has_name, without}
-use Rattle.adopt.proofs.Known.{no_place_by, place_by}
+use Rattle.region_strangers.proofs.First.{no_place_by, place_by}
 
 -- ---- the table that parts make
 

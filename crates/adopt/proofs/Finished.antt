@@ -1,5 +1,5 @@
 -- The tables that all columns of an image make.
-use Rattle.std.proofs.Common.{◌≡◌, ℕ, suc, ◌<◌, ◌^◌, true, List, [], ◌∷◌, ◌++◌, length, map, take, drop, get_or, Result, Ok, Err, refl, sym, ap, ap₂, subst, ◌∙◌, arith, append_assoc}
+use Rattle.std.proofs.Common.{Err, List, Ok, Result, [], ℕ, ◌++◌, ◌<◌, ◌^◌, ◌∙◌, ◌∷◌, ◌≡◌, ap, append_assoc, ap₂, arith, drop, get_or, inl, length, map, refl, subst, suc, sym, take, true}
 use Rattle.std.specs.Prelude.{Contains}
 use Rattle.std.specs.List.{AllByRecursion, flat_map}
 use Rattle.std.proofs.lemmas.List.{append-nil, map-append}
@@ -18,7 +18,6 @@ use Rattle.region_layout.specs.Region.{IsTableIn, allows, block_in, column_in, d
 use Rattle.region_layout.specs.Drained.{images_of}
 use Rattle.region_layout.proofs.Ending.{table_columns}
 use Rattle.region_layout.proofs.Images.{table_in}
-use Rattle.std.proofs.Common.{inl}
 use Rattle.table_state.specs.Tables.{IsParts}
 use Rattle.adopt.specs.declared.found.AdoptFault.{AdoptFault}
 use Rattle.adopt.specs.declared.found.AdoptFault.TheVariants as fault
@@ -26,7 +25,7 @@ use Rattle.adopt.specs.declared.found.AdoptStep.{AdoptStep}
 use Rattle.adopt.specs.declared.found.AdoptStep.TheVariants as step
 use Rattle.adopt.specs.Adopting.{Adopting, AdoptsOn, AreAdopted, IsLeftBehind}
 use Rattle.adopt.specs.Finishing.{FinishesAs, IsMade, after_block, after_column, after_table, block_from, left_by, made_from, named_front, table_from, tables_from}
-use Rattle.adopt.specs.Finding.{closed_flag}
+use Rattle.region_head.specs.Closing.{closed_flag}
 use Rattle.region_reading.specs.Reading.{IsRead}
 use Rattle.adopt.specs.Taken.{AdoptState}
 use Rattle.adopt.proofs.Meanings.{each_table}

@@ -1,6 +1,6 @@
 pub mod Ending
 pub mod Heads
-pub mod Moments
+pub mod Room
 pub mod Columns
 pub mod Meanings
 pub mod Reading

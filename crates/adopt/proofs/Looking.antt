@@ -3,23 +3,25 @@ use Rattle.std.proofs.Common.{◌≡◌, ℕ, true, List, [], length, map, take,
 use Rattle.std.proofs.lemmas.List.{drop_all, get_or_past, length-map}
 use Rattle.std.proofs.Math.Seq.{take-length}
 use Rattle.column_bytes.specs.Coding.{joined}
-use Rattle.region_layout.specs.declared.head.Head.{Head}
-use Rattle.region_layout.specs.declared.head.Head.TheVariants as head
-use Rattle.region_layout.specs.Head.{head_of}
+use Rattle.region_head.specs.declared.head.Head.{Head}
+use Rattle.region_head.specs.declared.head.Head.TheVariants as head
+use Rattle.region_head.specs.Head.{head_of}
 use Rattle.region_layout.specs.declared.directory.Place.{Place}
 use Rattle.region_layout.specs.Directory.{columns_of}
 use Rattle.region_layout.specs.Region.{HasDirectory, column_in, directory_from, reads}
 use Rattle.adopt.specs.declared.spans.Span.{Span}
 use Rattle.region_reading.specs.declared.looked.Looked.{Looked}
 use Rattle.adopt.specs.declared.found.Found.TheVariants as found
-use Rattle.adopt.specs.Adopting.{Adopting, Finds, IsInImage, HasNoDirectory, IsLeftBehind, stranger_of}
+use Rattle.adopt.specs.Adopting.{Adopting, Finds, IsInImage, HasNoDirectory, IsLeftBehind}
+use Rattle.region_strangers.specs.Strangers.{stranger_of}
 use Rattle.region_reading.specs.Reading.{IsRead, LooksAt}
-use Rattle.region_reading.proofs.Directories.{head_long}
-use Rattle.adopt.specs.Finding.{closed_flag}
+use Rattle.region_head.proofs.Heads.{head_long}
+use Rattle.region_head.specs.Closing.{closed_flag}
 use Rattle.adopt.specs.Taken.{AdoptState, KeepsTrack, span_bytes, spans_of}
 use Rattle.adopt.proofs.Columns.{same_all, same_count}
 use Rattle.adopt.proofs.Heads.{closed_size, left_closed}
-use Rattle.adopt.proofs.Known.{all_among, names_of}
+use Rattle.adopt.proofs.Known.{all_among}
+use Rattle.region_strangers.proofs.First.{names_of}
 use Rattle.adopt.proofs.Reading.{directory_behind}
 
 one_version : (region : List ℕ) (v w : ℕ) → head_of region ≡ head.Version v → head_of region ≡ head.Version w → v ≡ w

@@ -4,9 +4,9 @@ use Rattle.std.specs.List.{AllByRecursion, flat_map}
 use Rattle.region_layout.specs.Images.{TableImage}
 use Rattle.row_blocks.specs.declared.column.BlockColumn.{BlockColumn}
 use Rattle.column_bytes.specs.Column.{kind_in}
-use Rattle.region_layout.specs.declared.head.Head.{Head}
-use Rattle.region_layout.specs.declared.head.Head.TheVariants.{NoHead, Closed, Version}
-use Rattle.region_layout.specs.Head.{head_of}
+use Rattle.region_head.specs.declared.head.Head.{Head}
+use Rattle.region_head.specs.declared.head.Head.TheVariants.{NoHead, Closed, Version}
+use Rattle.region_head.specs.Head.{head_of}
 use Rattle.row_blocks.specs.Blocks.{Block, IsBlock, IsOther}
 use Rattle.region_layout.specs.declared.directory.Place.{Place}
 use Rattle.region_layout.specs.declared.directory.BlockPlaces.{BlockPlaces}

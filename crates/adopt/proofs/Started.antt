@@ -5,7 +5,7 @@ use Rattle.berth_face.specs.Berth.{Meaning, IsClosed, Passes, Ended, SameDisk}
 use Rattle.berth_face.specs.Moments.{KeepsRegion, Throughout}
 use Rattle.berth_face.proofs.Moments.{passes_none, passes_on}
 use Rattle.table_state.specs.Tables.{HeldTables, Table}
-use Rattle.region_layout.proofs.Heads.{closed_head}
+use Rattle.region_head.proofs.Heads.{closed_head}
 use Rattle.region_layout.specs.Region.{IsAdoptable}
 use Rattle.region_layout.specs.Drained.{images_of}
 use Rattle.adopt.specs.declared.found.AdoptFault.{AdoptFault}
@@ -16,18 +16,19 @@ use Rattle.leaf_words.specs.declared.ways.WhyDisk.TheVariants as why
 use Rattle.adopt.specs.declared.found.Drained.{Drained}
 use Rattle.adopt.specs.declared.found.Adopted.{Adopted}
 use Rattle.adopt.specs.declared.found.Adoption.TheVariants.{NoTables, Tables}
-use Rattle.adopt.specs.Adopting.{Adopting, AdoptsFrom, AdoptsOn, AreAdopted, ClosedFrom, Finds, HasNoStranger, KeepsOn, cut_at, stranger_of}
+use Rattle.adopt.specs.Adopting.{Adopting, AdoptsOn, AreAdopted, Finds, HasNoStranger, KeepsOn, cut_at}
+use Rattle.region_strangers.specs.Strangers.{stranger_of}
+use Rattle.region_head.specs.Closing.{AdoptsFrom, ClosedFrom, closed_flag}
 use Rattle.adopt.specs.declared.found.Found.TheVariants as found
 use Rattle.region_layout.specs.declared.directory.Directory.{Directory}
 use Rattle.region_layout.specs.declared.directory.TablePlaces.{TablePlaces}
 use Rattle.region_layout.proofs.Images.{same_directory}
-use Rattle.adopt.specs.Finding.{closed_flag}
 use Rattle.adopt.specs.Starting.{Adopts, AreArranged, HasTables, IsDrained, TakesAll, TookSome}
 use Rattle.adopt.specs.Taken.{AdoptState}
 use Rattle.adopt.proofs.Arranging.{all_known, each_adopted, tables_size}
 use Rattle.adopt.proofs.Ending.{ended_on}
-use Rattle.adopt.proofs.Heads.{closed_breaks, cut_closed, flag_closed}
-use Rattle.adopt.proofs.Moments.{adopts_closed, closed_on, closed_start}
+use Rattle.region_head.proofs.Closing.{closed_breaks, cut_closed, flag_closed}
+use Rattle.region_head.proofs.Moments.{adopts_closed, closed_on, closed_start}
 
 -- ---- column after column
 

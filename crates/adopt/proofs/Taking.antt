@@ -1,5 +1,5 @@
 -- A column is taken off a region.
-use Rattle.std.proofs.Common.{◌≡◌, true, ℕ, suc, ◌+◌, ◌-◌, ◌≤◌, List, [], ◌∷◌, ◌++◌, length, map, take, drop, get_or, refl, sym, ap, ap₂, subst, ◌∙◌, arith, length-take, take-append-drop, append_assoc}
+use Rattle.std.proofs.Common.{List, Option, Some, [], ℕ, ◌++◌, ◌+◌, ◌-◌, ◌∙◌, ◌∷◌, ◌≡◌, ◌≤◌, ap, append_assoc, ap₂, arith, drop, get_or, inr, length, length-append, length-take, map, refl, subst, suc, sym, take, take-append-drop, true}
 use Rattle.std.proofs.lemmas.List.{drop-take, take-take}
 use Rattle.column_bytes.specs.Coding.{joined}
 use Rattle.column_bytes.specs.Column.{kind_in}
@@ -8,15 +8,15 @@ use Rattle.region_layout.specs.declared.directory.Place.{Place}
 use Rattle.region_layout.specs.Directory.{columns_of}
 use Rattle.region_layout.specs.Region.{MeanIn, allows, column_in, directory_from}
 use Rattle.std.specs.Prelude.{IfSome, slice_get}
-use Rattle.std.proofs.Common.{inr, length-append, Option, Some}
-use Rattle.adopt.specs.Adopting.{BreaksNow, NextMeansCells, next_span}
+use Rattle.adopt.specs.Adopting.{Adopting, BreaksNow, IsInImage, IsLeftBehind, IsNoImage, NextMeansCells, cut_at, next_span}
 use Rattle.adopt.specs.declared.spans.Span.{Span}
-use Rattle.adopt.specs.Adopting.{Adopting, IsInImage, IsLeftBehind, IsNoImage, cut_at}
-use Rattle.adopt.specs.Finding.{bytes_at, closed_flag}
+use Rattle.adopt.specs.Finding.{bytes_at}
+use Rattle.region_head.specs.Closing.{closed_flag}
 use Rattle.adopt.specs.Taken.{AdoptState, spans_of}
 use Rattle.adopt.proofs.Meanings.{no_cells}
-use Rattle.region_reading.proofs.Directories.{head_long}
-use Rattle.adopt.proofs.Heads.{behind_flag, closed_size, cut_closed, flag_closed, left_cut}
+use Rattle.region_head.proofs.Heads.{head_long}
+use Rattle.adopt.proofs.Heads.{behind_flag, closed_size, left_cut}
+use Rattle.region_head.proofs.Closing.{cut_closed, flag_closed}
 use Rattle.adopt.proofs.Reading.{directory_inside}
 use Rattle.adopt.proofs.Columns.{JoinedSpans, Stands, held_behind, at_split, past_split, from_split, behind_split, joined_short, places, same_all, same_bytes, same_joined, same_places, span_in, stands}
 

@@ -1,12 +1,12 @@
 -- What a look finds, and what is left in the region between the steps of an adoption.
-use Rattle.std.specs.Prelude.{◌≡◌, ◌⊎◌, ℕ, suc, ◌+◌, ◌-◌, ◌<◌, ◌≤◌, ◌^◌, true, false, not, List, [], ◌∷◌, length, map, take, drop, get_or, slice_get, IfSome, Option, Some, None, Result, Ok, Err, ⊤, Contains, bytes_eq}
-use Rattle.std.specs.List.{AllByRecursion, find, list_any}
-use Rattle.berth_face.specs.Berth.{Pair, Meaning, IsClosed}
+use Rattle.std.specs.Prelude.{◌≡◌, ◌⊎◌, ℕ, suc, ◌+◌, ◌-◌, ◌<◌, ◌≤◌, ◌^◌, true, false, List, [], ◌∷◌, length, map, take, drop, get_or, slice_get, IfSome, Option, Some, None, Result, Ok, Err, ⊤, Contains}
+use Rattle.std.specs.List.{AllByRecursion}
+use Rattle.berth_face.specs.Berth.{IsClosed}
 use Rattle.column_bytes.specs.Coding.{joined}
 use Rattle.column_bytes.specs.Column.{kind_in}
-use Rattle.region_layout.specs.declared.head.Head.TheVariants as head
+use Rattle.region_head.specs.declared.head.Head.TheVariants as head
 use Rattle.region_layout.specs.Images.{TableImage}
-use Rattle.region_layout.specs.Head.{head_of}
+use Rattle.region_head.specs.Head.{head_of}
 use Rattle.leaf_model.specs.Names.{AreDistinct}
 use Rattle.leaf_words.specs.declared.ways.WhyDisk.{WhyDisk}
 use Rattle.leaf_words.specs.declared.ways.WhyDisk.TheVariants as why
@@ -25,9 +25,10 @@ use Rattle.region_layout.specs.Directory.{columns_of}
 use Rattle.region_layout.specs.Region.{HasDirectory, IsAdoptable, MeanIn, allows, column_in, directory_from, parts_in, reads}
 use Rattle.region_layout.specs.Drained.{images_of}
 use Rattle.adopt.specs.declared.spans.Span.{Span}
+use Rattle.region_head.specs.Closing.{IsBroken}
+use Rattle.region_strangers.specs.Strangers.{stranger_of}
 use Rattle.adopt.specs.Finding.{bytes_at}
-use Rattle.adopt.specs.Taken.{spans_of}
-use Rattle.adopt.specs.Taken.{AdoptState}
+use Rattle.adopt.specs.Taken.{AdoptState, spans_of}
 
 -- ---- why there are no tables
 
@@ -39,10 +40,6 @@ IsWhy region why.NoHead = head_of region ≡ head.NoHead
 IsWhy region (why.Closed flag) = head_of region ≡ head.Closed flag
 IsWhy region (why.OtherVersion version) = (head_of region ≡ head.Version version) × (reads version ≡ false)
 IsWhy region why.NoImage = (version : ℕ) × (head_of region ≡ head.Version version) × (reads version ≡ true) × IsNoImage region
-
--- the first of the second names that is none of the first names
-abbrev pub stranger_of : List (List ℕ) → List (List ℕ) → Option (List ℕ)
-stranger_of names others = find (λ name. not (list_any (bytes_eq name) names)) others
 
 -- the directory names a table that the leaf does not have, the first such; no column was looked at
 abbrev pub IsStranger : List (List ℕ) → List ℕ → List ℕ → Type 0
@@ -69,24 +66,6 @@ pub record IsLeftBehind (old new : List ℕ) : Type 0 where
   pub closed : IsClosed old → new ≡ old
   pub opened : (version : ℕ) → head_of old ≡ head.Version version → head_of new ≡ head.Closed 0
 
--- after a fault: the region is as it was but for a flag that was open, or it is closed
-pub record IsBroken (old new : List ℕ) : Type 0 where
-  pub closed : IsClosed old → new ≡ old
-  pub either : ((drop 1 new ≡ drop 1 old) × (length new ≡ length old)) ⊎ IsClosed new
-
-pub record AdoptsFrom (old : Meaning) (p : Pair) : Type 0 where
-  pub from : Pair
-  pub was : old.leaves old.clock from
-  pub disk : p.disk ≡ from.disk
-  pub region : IsClosed p.region ⊎ IsBroken old.held.region p.region
-
--- once the flag was closed, every region that a crash leaves is closed, and the disk is as it was
-pub record ClosedFrom (old : Meaning) (p : Pair) : Type 0 where
-  pub from : Pair
-  pub was : old.leaves old.clock from
-  pub disk : p.disk ≡ from.disk
-  pub region : IsClosed p.region
-
 -- ---- between two steps
 
 -- the place where the region is cut off: the first column that was read, or the directory
@@ -108,10 +87,6 @@ pub record Adopting (region : List ℕ) (a : AdoptState) (now : List ℕ) : Type
 -- the taken columns and the region have together at most the length of the image
 abbrev pub IsInImage : AdoptState → List ℕ → Type 0
 IsInImage a region = length (joined a.heap) + length region ≤ a.image_len
-
--- a region no longer than it was
-abbrev pub IsNoLonger : List ℕ → List ℕ → Type 0
-IsNoLonger was region = length region ≤ length was
 
 -- what `find` finds, and the region that it leaves
 abbrev pub Finds : List (List ℕ) → List ℕ → List ℕ → Result Found AdoptFault → Type 0

@@ -1,24 +1,10 @@
 -- A region whose flag is closed, and how a column is taken off it.
-use Rattle.std.specs.Prelude.{◌≡◌, Bool, not, List, ℕ, ◌∷◌, take, drop, Option, Some, None, Result, Ok, Err, bytes_eq}
-use Rattle.std.specs.List.{list_any}
+use Rattle.std.specs.Prelude.{◌≡◌, List, ℕ, take, drop, Option, Some, None, Result, Ok, Err}
 use Rattle.berth_face.specs.Berth.{IsClosed}
-use Rattle.region_layout.specs.declared.directory.TablePlaces.{TablePlaces}
 use Rattle.region_layout.specs.Region.{MeanIn}
 use Rattle.adopt.specs.declared.spans.Span.{Span}
 use Rattle.adopt.specs.declared.found.AdoptFault.{AdoptFault}
 use Rattle.adopt.specs.declared.found.AdoptFault.TheVariants.{RegionFault, NoMemory}
-
--- the region with its flag closed
-abbrev pub closed_flag : List ℕ → List ℕ
-closed_flag region = 0 ∷ drop 1 region
-
--- there is a whole head, and its flag is open
-abbrev pub IsOpenRegion : List ℕ → Type 0
-IsOpenRegion region = IsClosed region → ⊥
-
--- the table has none of these names
-abbrev pub is_stranger : List (List ℕ) → TablePlaces → Bool
-is_stranger names t = not (list_any (bytes_eq t.name) names)
 
 -- the bytes of a column of this region
 abbrev pub bytes_at : List ℕ → Span → List ℕ

@@ -4,9 +4,7 @@ use Rattle.std.specs.List.{AllByRecursion}
 use Rattle.berth_face.specs.Berth.{Meaning, IsClosed, Passes, Ended, SameDisk}
 use Rattle.berth_face.specs.Moments.{Throughout}
 use Rattle.table_state.specs.Tables.{Table}
-use Rattle.region_layout.specs.Images.{TableImage}
-use Rattle.region_layout.specs.Head.{image_names}
-use Rattle.region_layout.specs.Images.{held_of}
+use Rattle.region_layout.specs.Images.{TableImage, held_of, image_names}
 use Rattle.region_layout.specs.Region.{IsAdoptable}
 use Rattle.region_layout.specs.Drained.{images_of}
 use Rattle.adopt.specs.declared.found.AdoptFault.{AdoptFault}
@@ -15,7 +13,9 @@ use Rattle.adopt.specs.declared.found.Drained.{Drained}
 use Rattle.adopt.specs.declared.found.Adopted.{Adopted}
 use Rattle.adopt.specs.declared.found.Adoption.{Adoption}
 use Rattle.adopt.specs.declared.found.Adoption.TheVariants.{NoTables, Stranger, Tables}
-use Rattle.adopt.specs.Adopting.{Adopting, AreDrained, ClosedFrom, IsBroken, IsLeftBehind, IsNoImage, IsStranger, IsWhyFor, stranger_of}
+use Rattle.adopt.specs.Adopting.{Adopting, AreDrained, IsLeftBehind, IsNoImage, IsStranger, IsWhyFor}
+use Rattle.region_strangers.specs.Strangers.{stranger_of}
+use Rattle.region_head.specs.Closing.{ClosedFrom, IsBroken}
 use Rattle.adopt.specs.Taken.{AdoptState}
 
 -- ---- all columns of an image

@@ -3,25 +3,26 @@ ghost use Rattle.std.specs.Prelude.{◌≡◌, ℕ, List, length, map, take, [],
 ghost use Rattle.berth_face.specs.Causes.{Rose};
 ghost use Rattle.berth_face.specs.Berth.{IsClosed, Passes, Ended, SameDisk};
 ghost use Rattle.berth_face.specs.Moments.{Throughout};
-ghost use Rattle.region_layout.specs.declared.head.Head.TheVariants.{Version};
-ghost use Rattle.region_layout.specs.Head.{head_of};
+ghost use Rattle.region_head.specs.declared.head.Head.TheVariants.{Version};
+ghost use Rattle.region_head.specs.Head.{head_of};
 ghost use Rattle.region_layout.specs.declared.directory.TablePlaces.{TablePlaces};
 ghost use Rattle.region_layout.specs.Region.{reads};
 ghost use Rattle.region_reading.specs.Reading.{IsRead, LooksAt};
 ghost use Rattle.adopt.specs.declared.found.AdoptFault.TheVariants as fault;
-ghost use Rattle.adopt.specs.Adopting.{ClosedFrom, Finds, KeepsNames, stranger_of};
-ghost use Rattle.adopt.specs.Finding.{closed_flag};
+ghost use Rattle.region_head.specs.Closing.{ClosedFrom, closed_flag};
+ghost use Rattle.adopt.specs.Adopting.{Finds, KeepsNames};
+ghost use Rattle.region_strangers.specs.Strangers.{stranger_of};
 ghost use Rattle.adopt.specs.Taken.{spans_of};
 
 use crate::found::{AdoptFault, Found};
-use crate::region::cut;
 use crate::spans::{Span, spans_of};
-use crate::strangers::all_known;
 use crate::taken::Adopt;
 use berth_face::Berth;
 use leaf_model::Names;
+use region_head::cut;
 use region_layout::{Directory, reads};
 use region_reading::{Looked, look};
+use region_strangers::all_known;
 use std::alloc::Global;
 use std::snapshot::Snapshot;
 

@@ -7,10 +7,8 @@ mod finding;
 mod finishing;
 mod found;
 mod lists;
-mod region;
 mod spans;
 mod starting;
-mod strangers;
 mod tables;
 mod taken;
 

@@ -6,7 +6,8 @@ ghost use Rattle.berth_face.specs.Causes.{Rose};
 ghost use Rattle.leaf_model.specs.Names.{AreDistinct};
 ghost use Rattle.region_layout.specs.Names.{AreNames};
 ghost use Rattle.adopt.specs.declared.found.AdoptFault.TheVariants as fault;
-ghost use Rattle.adopt.specs.Adopting.{Adopting, AdoptsFrom, ClosedFrom};
+ghost use Rattle.adopt.specs.Adopting.{Adopting};
+ghost use Rattle.region_head.specs.Closing.{AdoptsFrom, ClosedFrom};
 ghost use Rattle.adopt.specs.Starting.{Adopts, AreArranged, HasTables, IsDrained, TakesAll};
 
 use crate::adopting::find;

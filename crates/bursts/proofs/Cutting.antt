@@ -16,8 +16,8 @@ use Rattle.leaf_moves.specs.Lanes.{CutsOff, CutsOffAt, SplitsIf}
 use Rattle.player.specs.Crew.{HasAll, HasLeaf, HasSeats, Spares, StillHas, is_set}
 use Rattle.bursts.specs.declared.plan.Plan.{Plan}
 use Rattle.bursts.specs.Needs.{AreAlone, AreSpare, CanLend, IsAmong, IsPlan, acts_on, leaves_of, needed, needs_at, table_of}
-use Rattle.bursts.specs.Played.{MayPlayOn}
-use Rattle.bursts.proofs.Held.{still_leaf, still_seats, there_too}
+use Rattle.lane_play.specs.Played.{MayPlayOn}
+use Rattle.lane_play.proofs.Held.{still_leaf, still_seats, there_too}
 use Rattle.bursts.proofs.Needed.{all_marked, has_for, marked_by_length, set_below, table_below}
 
 -- ---- one seat

@@ -1,5 +1,5 @@
 -- What the watches hear of commands one after another, and which lane has the rollover.
-use Rattle.std.proofs.Common.{◌≡◌, ◌⊎◌, inl, inr, ℕ, ◌+◌, ◌≤◌, ◌||◌, Bool, true, false, cond, List, [], ◌∷◌, ◌++◌, length, Option, refl, sym, ap, subst, ◌∙◌, arith}
+use Rattle.std.proofs.Common.{◌≡◌, ◌⊎◌, inl, inr, ℕ, ◌+◌, ◌≤◌, ◌||◌, Bool, true, false, cond, List, [], ◌∷◌, ◌++◌, length, Option, refl, sym, ap, ◌∙◌, arith}
 use Rattle.std.specs.List.{filter}
 use Rattle.berth_face.specs.Berth.{Meaning}
 use Rattle.script_text.specs.declared.command.Command.{Command}
@@ -12,18 +12,11 @@ use Rattle.script_text.specs.declared.fleet.Fleet.{Fleet}
 use Rattle.transcript.specs.Pieces.{Piece, Played, commands_in}
 use Rattle.leaf_moves.specs.Holds.{Hold}
 use Rattle.transcript.specs.Watching.{Hears, HearsAll}
-use Rattle.bursts.specs.Went.{LaneWent}
+use Rattle.lane_play.specs.Went.{LaneWent}
 use Rattle.bursts.specs.Rolling.{has_rollover, is_rollover, one_if, rolling}
 use Rattle.bursts.proofs.Needed.{or_left, or_right}
 
 -- ---- what is heard
-
-pub watched_join : (fleet : Fleet) (a b : List Played) (old mid new : List Held) → HearsAll fleet a old mid → HearsAll fleet b mid new → HearsAll fleet (a ++ b) old new
-watched_join fleet [] b old mid new heard more = subst (λ (ws : List Held). HearsAll fleet b ws new) heard more
-watched_join fleet (p ∷ ps) b old mid new heard more = (heard.0, heard.1, watched_join fleet ps b heard.0 mid new heard.2 more)
-
-pub watched_one : (fleet : Fleet) (p : Played) (old new : List Held) → Hears fleet p old new → HearsAll fleet (p ∷ []) old new
-watched_one fleet p old new heard = (new, heard, refl)
 
 or_false : (a b : Bool) → (a || b) ≡ false → (a ≡ false) × (b ≡ false)
 or_false true b e = absurd cc

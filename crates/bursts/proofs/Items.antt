@@ -14,16 +14,16 @@ use Rattle.leaf_moves.specs.Lanes.{PlaysItem}
 use Rattle.player.specs.Crew.{AllCounted, HasAll, PlaysWith, StillHas}
 use Rattle.bursts.specs.declared.plan.Plan.{Plan}
 use Rattle.bursts.specs.Needs.{ArePlans, commands_in}
-use Rattle.bursts.specs.Played.{all_of}
-use Rattle.bursts.specs.Went.{AreBegun, BesideWent, FansWent, ItemWent, OrNothing, TurnsWent, told_lines}
-use Rattle.bursts.proofs.Playing.{lanes_fit}
+use Rattle.lane_play.specs.Played.{all_of}
+use Rattle.lane_play.specs.Went.{AreBegun, BesideWent, FansWent, ItemWent, OrNothing, TurnsWent, told_lines}
+use Rattle.lane_play.proofs.Playing.{lanes_fit}
 use Rattle.bursts.proofs.Taking.{fans_short}
 use Rattle.transcript.specs.Pieces as pieces
 use Rattle.std.specs.List.{AllByRecursion}
 use Rattle.printed_lines.specs.Lines.{IsOf}
 use Rattle.script_text.specs.declared.item.Item.{Item}
-use Rattle.bursts.proofs.Hearing.{watched_one}
-use Rattle.bursts.proofs.Held.{all_counted_on, counted_met, still_leaf, still_seats}
+use Rattle.lane_play.proofs.Heard.{watched_one}
+use Rattle.lane_play.proofs.Held.{all_counted_on, counted_met, still_leaf, still_seats}
 
 -- those of a burst, without those of items behind it
 alone_pieces : (lanes : List (List Played)) → pieces_in (all_of lanes ++ []) ≡ pieces_in (all_of lanes)

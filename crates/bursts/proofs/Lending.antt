@@ -13,14 +13,14 @@ use Rattle.leaf_moves.specs.Lanes.{CutsOff}
 use Rattle.player.specs.Crew.{AllPass, CrewState, StillHas, is_set}
 use Rattle.bursts.specs.declared.work.LaneWork.{LaneWork}
 use Rattle.bursts.specs.Lent.{IsDone, IsReady, IsWorked, Lent, MayWork}
-use Rattle.bursts.specs.Played.{MayPlayOn}
-use Rattle.bursts.specs.Went.{LaneWent, own_lines}
-use Rattle.bursts.proofs.Playing.{plays_none}
+use Rattle.lane_play.specs.Played.{MayPlayOn}
+use Rattle.lane_play.specs.Went.{LaneWent, own_lines}
+use Rattle.lane_play.proofs.Playing.{plays_none}
 use Rattle.bursts.specs.Rolling.{has_rollover}
 use Rattle.bursts.specs.declared.plan.Plan.{Plan}
 use Rattle.bursts.specs.Needs.{CanLend}
 use Rattle.bursts.proofs.Cutting.{lane_ready}
-use Rattle.bursts.proofs.Held.{counted_none, pass_none, still_same}
+use Rattle.lane_play.proofs.Held.{counted_none, pass_none, still_same}
 
 -- ---- lists
 

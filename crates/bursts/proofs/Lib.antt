@@ -1,7 +1,5 @@
-pub mod Held
 pub mod Needed
 pub mod Hearing
-pub mod Playing
 pub mod Handing
 pub mod Cutting
 pub mod Lending

@@ -17,11 +17,10 @@ use Rattle.script_text.proofs.Aimed.{aim_fits, stewards_aim}
 use Rattle.transcript.specs.Pieces.{place_among}
 use Rattle.leaf_moves.specs.Holds.{Hold}
 use Rattle.leaf_moves.specs.Plays.{MayPlay}
-use Rattle.player.specs.Crew.{HasAimed, HasAll, HasFor, HasLeaf, HasSeats, StillHas, is_set}
+use Rattle.player.specs.Crew.{HasAimed, HasAll, HasFor, HasLeaf, HasSeats, is_set}
 use Rattle.bursts.specs.declared.plan.Plan.{Plan}
 use Rattle.bursts.specs.Needs.{AreAlone, ArePlans, Everywhere, IsAmong, IsPlan, IsPlanOf, Nowhere, OnlyAt, Places, acts_on, leaves_at, leaves_of, marked, marked_by, needed, table_at, table_of}
-use Rattle.bursts.specs.Played.{MayPlayOn}
-use Rattle.bursts.proofs.Held.{still_leaf, still_seats}
+use Rattle.lane_play.specs.Played.{MayPlayOn}
 
 -- ---- commands
 
@@ -62,10 +61,6 @@ table_within fleet _ table is at = absurd at
 pub table_below : (fleet : Fleet) (c : Command) (table : ℕ) → IsCommand (leaf_count fleet) fleet.names c → IsAmong (table_of fleet.names c) table → table < length fleet.names
 table_below fleet c table is = table_within fleet (aim_of c) table (aim_fits (leaf_count fleet) fleet.names c is)
 
-pub may_play : (fleet : Fleet) (c : Command) → IsCommand (leaf_count fleet) fleet.names c → MayPlay fleet c
-may_play fleet (command.Fleet machines per_machine tables) is = absurd is
-may_play fleet _ is = is
-
 module _ {B : Type 0} (fleet : Fleet) (xs : List (Hold B)) where
   has_aimed : (aim : Aim) → IsAim (leaf_count fleet) fleet.names aim → ((table : ℕ) → IsAmong (table_at fleet.names aim) table → HasSeats xs table)
       → ((leaf : ℕ) → IsAmong (leaves_at aim) leaf → leaf < leaf_count fleet → HasLeaf xs leaf) → HasAimed fleet xs aim
@@ -90,22 +85,6 @@ module _ {B : Type 0} (fleet : Fleet) (xs : List (Hold B)) where
   pub all_may : HasAll fleet xs → (cs : List Command) → AllByRecursion (IsCommand (leaf_count fleet) fleet.names) cs → AllByRecursion (MayPlayOn fleet xs) cs
   all_may all [] are = tt
   all_may all (c ∷ cs) are = ((are.0, all_has_command all c are.0), all_may all cs are.1)
-
-module _ {B : Type 0} (fleet : Fleet) (xs ys : List (Hold B)) (still : StillHas xs ys) where
-  still_aimed : (aim : Aim) → HasAimed fleet xs aim → HasAimed fleet ys aim
-  still_aimed AtFleet has = λ leaf. still_leaf xs ys still leaf (has leaf)
-  still_aimed (AtTable table) has = still_seats xs ys still table has
-  still_aimed (AtNamed name) has = still_seats xs ys still (place_among name fleet.names) has
-  still_aimed (AtLeaf leaf) has = still_leaf xs ys still leaf has
-  still_aimed AtLeaves has = λ leaf below. still_leaf xs ys still leaf (has leaf below)
-  still_aimed AtRun has = tt
-
-  pub still_for : (c : Command) → HasFor fleet xs c → HasFor fleet ys c
-  still_for c = still_aimed (aim_of c)
-
-  pub still_may : (cs : List Command) → AllByRecursion (MayPlayOn fleet xs) cs → AllByRecursion (MayPlayOn fleet ys) cs
-  still_may [] may = tt
-  still_may (c ∷ cs) may = ((may.0.0, still_for c may.0.1), still_may cs may.1)
 
 -- ---- marks
 

@@ -22,17 +22,18 @@ use Rattle.leaf_moves.specs.Lanes.{ComesBack, CutsOff, CutsOffAt, Fans, TakesBac
 use Rattle.player.specs.Crew.{AllCounted, AllPass, CountedIf, CrewState, HasSeats, MayTakeBack, PassesIf, SameSeats, StillHas}
 use Rattle.bursts.specs.declared.work.LaneWork.{LaneWork}
 use Rattle.bursts.specs.Lent.{IsWorked, Lent, TakenBack, TakingBack}
-use Rattle.bursts.specs.Played.{IsBehind, all_of}
-use Rattle.bursts.specs.Went.{AreBegun, FansWent, LaneWent, own_lines, told_lines}
+use Rattle.lane_play.specs.Played.{IsBehind, all_of}
+use Rattle.lane_play.specs.Went.{AreBegun, FansWent, LaneWent, own_lines, told_lines}
 use Rattle.std.proofs.lemmas.Grind.{flat_map-append}
 use Rattle.bursts.proofs.Idle.{idle, idle_before, idle_snoc}
 use Rattle.bursts.specs.Rolling.{Between, has_rollover, one_if, rolling}
 use Rattle.transcript.specs.Watching.{HearsAll}
-use Rattle.bursts.proofs.Hearing.{one_if_false, one_if_true, quiet_lane, rolling_append, watched_join}
-use Rattle.bursts.proofs.Held.{counted_first, counted_none, counted_second, pass_none, still_same, there_too}
+use Rattle.bursts.proofs.Hearing.{one_if_false, one_if_true, quiet_lane, rolling_append}
+use Rattle.lane_play.proofs.Heard.{watched_join}
+use Rattle.lane_play.proofs.Held.{counted_first, counted_none, counted_second, pass_none, still_same, there_too}
 use Rattle.bursts.proofs.Cutting.{rest_same}
 use Rattle.bursts.proofs.Lending.{Last, lent_last, lent_nothing}
-use Rattle.bursts.proofs.Playing.{all_append, all_done, all_snoc, begun_append, lane_snoc, lanes_snoc, pieces_all_snoc, same_count, unplayed, unplayed_all, unplayed_begin, unplayed_fit}
+use Rattle.lane_play.proofs.Playing.{all_append, all_done, all_snoc, begun_append, lane_snoc, lanes_snoc, pieces_all_snoc, same_count, unplayed, unplayed_all, unplayed_begin, unplayed_fit}
 
 no_some : {A : Type 0} (h : Option A) → is_some h ≡ false → h ≡ None
 no_some None e = refl

@@ -11,8 +11,8 @@ use Rattle.script_text.specs.declared.fleet.Fleet.{Fleet}
 use Rattle.leaf_moves.specs.Holds.{Hold}
 use Rattle.leaf_moves.specs.Lanes.{CutsOff}
 use Rattle.player.specs.Crew.{AllPass, HasSeats, StillHas}
-use Rattle.bursts.specs.Played.{MayPlayOn}
-use Rattle.bursts.specs.Went.{FansWent, LaneWent, own_lines, told_lines}
+use Rattle.lane_play.specs.Played.{MayPlayOn}
+use Rattle.lane_play.specs.Went.{FansWent, LaneWent, own_lines, told_lines}
 use Rattle.bursts.specs.Rolling.{Between, has_rollover, rolling}
 use Rattle.bursts.specs.declared.work.LaneWork.{LaneWork}
 

@@ -8,15 +8,15 @@ ghost use Rattle.leaf_moves.specs.Holds.{Hold};
 ghost use Rattle.player.specs.Crew.{AllPass, HasAll, HasSeats, StillHas};
 ghost use Rattle.bursts.specs.Needs.{AreAlone, AreSpare, CanLend, IsPlan, commands_in};
 ghost use Rattle.bursts.specs.Lent.{IsDone, IsReady, IsWorked, Lent, MayWork, TakenBack};
-ghost use Rattle.bursts.specs.Went.{BesideWent, OrNothing, told_lines};
+ghost use Rattle.lane_play.specs.Went.{BesideWent, OrNothing, told_lines};
 ghost use Rattle.bursts.specs.Rolling.{rolling};
 
-use crate::lane::play_lane;
 use crate::lines::behind;
 use crate::plan::Plan;
 use crate::watches::{hand_over, has_rollover, take_over};
 use crate::work::LaneWork;
 use berth_face::{Berth, Gate};
+use lane_play::play_lane;
 use player::Crew;
 use printed_lines::Line;
 use rollover_watch::Watch;

@@ -6,7 +6,7 @@ ghost use Rattle.script_text.specs.Fits.{IsBurst};
 ghost use Rattle.printed_lines.specs.Lines.{IsOf};
 ghost use Rattle.script_text.specs.Commands.{leaf_count};
 ghost use Rattle.player.specs.Crew.{AllPass, HasAll};
-ghost use Rattle.bursts.specs.Went.{ItemWent, OrNothing, told_lines};
+ghost use Rattle.lane_play.specs.Went.{ItemWent, OrNothing, told_lines};
 
 use crate::beside::play_beside;
 use crate::plans::{are_spare, plan_all};

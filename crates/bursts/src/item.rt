@@ -4,7 +4,7 @@ ghost use Rattle.std.specs.List.{AllByRecursion};
 ghost use Rattle.printed_lines.specs.Lines.{IsOf};
 ghost use Rattle.player.specs.Crew.{AllPass, HasAll};
 ghost use Rattle.bursts.specs.Items.{MayPlayItem};
-ghost use Rattle.bursts.specs.Went.{ItemWent, OrNothing, told_lines};
+ghost use Rattle.lane_play.specs.Went.{ItemWent, OrNothing, told_lines};
 
 use crate::burst::play_burst;
 use crate::command::play_one;

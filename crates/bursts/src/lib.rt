@@ -5,7 +5,6 @@ mod beside;
 mod burst;
 mod command;
 mod item;
-mod lane;
 mod lines;
 mod needs;
 mod plan;

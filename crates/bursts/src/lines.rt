@@ -1,7 +1,7 @@
 // The lines of a burst.
 ghost use Rattle.std.specs.Prelude.{◌≡◌, ◌∷◌, ◌++◌, IfOk, OnOk};
 ghost use Rattle.printed_lines.specs.declared.line.Line.TheVariants.{Lane};
-ghost use Rattle.bursts.specs.Played.{IsBehind};
+ghost use Rattle.lane_play.specs.Played.{IsBehind};
 
 use printed_lines::Line;
 use std::alloc::AllocError;

@@ -3,12 +3,12 @@ ghost use Rattle.std.specs.Prelude.{◌≡◌, ◌≤◌, length, map};
 ghost use Rattle.std.specs.List.{AllByRecursion};
 ghost use Rattle.player.specs.Crew.{AllPass, HasAll, StillHas};
 ghost use Rattle.bursts.specs.Needs.{IsPlan, commands_in};
-ghost use Rattle.bursts.specs.Went.{TurnsWent, told_lines};
+ghost use Rattle.lane_play.specs.Went.{TurnsWent, told_lines};
 
-use crate::lane::play_lane;
 use crate::lines::put_lane;
 use crate::plan::Plan;
 use berth_face::{Berth, Gate};
+use lane_play::play_lane;
 use player::Crew;
 use printed_lines::Line;
 use rollover_watch::Watch;

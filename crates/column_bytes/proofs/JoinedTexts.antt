@@ -3,8 +3,8 @@ use Rattle.std.proofs.Common.{◌≡◌, ℕ, zero, suc, ◌+◌, ◌*◌, ◌<�
 use Rattle.std.proofs.lemmas.List.{take_all}
 use Rattle.std.proofs.lemmas.List.FromFn.{fill_by_all}
 use Rattle.std.proofs.Math.Seq.{drop-append_seam}
-use Rattle.column_bytes.specs.Fields.{u32_at}
-use Rattle.column_bytes.specs.Dictionary.{IsText, AreTexts, IsDictionary, text_count, text_from, text_at, texts_at}
+use Rattle.dictionaries.specs.Fields.{u32_at}
+use Rattle.dictionaries.specs.Dictionary.{IsText, AreTexts, IsDictionary, text_count, text_from, text_at, texts_at}
 use Rattle.column_bytes.specs.Coding.{joined, end_at}
 use Rattle.column_bytes.proofs.Spelled.{u32_front, part_between}
 

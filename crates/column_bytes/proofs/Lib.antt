@@ -1,6 +1,5 @@
 pub mod Parts
 pub mod Next
-pub mod Ends
 pub mod Spelled
 pub mod Laid
 mod Lent
@@ -8,7 +7,6 @@ pub mod Offsets
 pub mod Distinct
 pub mod JoinedTexts
 pub mod Reading
-pub mod SetParts
 pub mod Greatest
 pub mod Named
 pub mod SetCoding

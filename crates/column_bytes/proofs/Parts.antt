@@ -11,8 +11,7 @@ use Rattle.leaf_model.specs.declared.rows.Value.{Value}
 use Rattle.leaf_model.specs.declared.rows.Value.TheVariants as values
 use Rattle.column_bytes.specs.declared.kind.Kind.TheVariants as kinds
 use Rattle.column_bytes.specs.declared.form.Form.{Form}
-use Rattle.column_bytes.specs.Fields.{i64_at}
-use Rattle.column_bytes.specs.Dictionary.{text_count, text_at, texts_at}
+use Rattle.dictionaries.specs.Fields.{i64_at}
 use Rattle.column_bytes.specs.Cells.{anchors_at, is_there, there, coded_of, book_of, value_at, cell_at, cells_of, integer_cells, entry_cells, kind_of, has_entries, entries, no_value, IsCode, AreCodes, Coded, Codebook, Base, Anchors, Entries, Sets}
 
 pub length-codes : (bytes : List ℕ) (w n : ℕ) → length (codes bytes w n) ≡ n
@@ -26,12 +25,6 @@ length-there presence n = length-map-range_with_len (is_there presence) 0 n
 
 pub there_at : (presence : Option BitString) (n i : ℕ) (d : Bool) → i < n → slice_index_or (there presence n) i d ≡ is_there presence i
 there_at presence n i d within = get_or-map-range_with_len (is_there presence) 0 n i i d within (omega arith)
-
-pub length-texts : (extra : List ℕ) → length (texts_at extra) ≡ text_count extra
-length-texts extra = length-map-range_with_len (text_at extra) 0 (text_count extra)
-
-pub texts_at_place : (extra : List ℕ) (k : ℕ) → k < text_count extra → slice_index_or (texts_at extra) k [] ≡ text_at extra k
-texts_at_place extra k within = get_or-map-range_with_len (text_at extra) 0 (text_count extra) k k [] within (omega arith)
 
 pub anchors_at_place : (n : ℕ) (extra : List ℕ) (k : ℕ) → k < div_ceil n 64 → slice_index_or (anchors_at n extra) k (pos 0) ≡ i64_at extra (8 * k)
 anchors_at_place n extra k within = get_or-map-range_with_len (λ j. i64_at extra (8 * j)) 0 (div_ceil n 64) k k (pos 0) within (omega arith)

@@ -9,8 +9,8 @@ use Rattle.indexmap.specs.IndexSet.{insert_key}
 use Rattle.leaf_model.specs.declared.rows.Value.{Value}
 use Rattle.leaf_model.specs.declared.rows.Value.TheVariants as values
 use Rattle.leaf_model.specs.Values.{IsSet, bytes_in}
-use Rattle.column_bytes.specs.Dictionary.{AreKept, AreTexts, texts_by, with_text}
-use Rattle.column_bytes.specs.Sets.{AreNumbers, AreSetCodes, numbers_in}
+use Rattle.dictionaries.specs.Dictionary.{AreKept, AreTexts, texts_by, with_text}
+use Rattle.dictionaries.specs.Sets.{AreNumbers, AreSetCodes, numbers_in}
 
 -- ---- vectors of numbers
 

@@ -5,7 +5,7 @@ use Rattle.std.proofs.Math.Seq.{drop-append_seam, take-append_seam}
 use Rattle.byteorder.specs.Endian.{little_number, little_bytes}
 use Rattle.byteorder.specs.Numbers.{little_from-append, little_number-reads_back, length-bytes_low_first}
 use Rattle.std.specs.Int.{cast_signed}
-use Rattle.column_bytes.specs.Fields.{u32_at, u64_at, i64_at}
+use Rattle.dictionaries.specs.Fields.{u32_at, u64_at, i64_at}
 use Rattle.column_bytes.specs.Column.{codes_from, extra_from, presence_part, codes_part, extra_part, count_in}
 use Rattle.column_bytes.specs.Coding.{header_bytes, column_bytes}
 

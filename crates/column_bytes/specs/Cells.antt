@@ -12,9 +12,9 @@ use Rattle.column_bytes.specs.declared.form.Form.{Form}
 use Rattle.column_bytes.specs.declared.form.Form.TheVariants as forms
 use Rattle.column_bytes.specs.declared.value.ValueRef.{ValueRef}
 use Rattle.column_bytes.specs.declared.value.ValueRef.TheVariants as seen
-use Rattle.column_bytes.specs.Fields.{i64_at}
-use Rattle.column_bytes.specs.Dictionary.{IsDictionary, texts_at}
-use Rattle.column_bytes.specs.Sets.{IsSetDictionary, sets_at}
+use Rattle.dictionaries.specs.Fields.{i64_at}
+use Rattle.dictionaries.specs.Dictionary.{IsDictionary, texts_at}
+use Rattle.dictionaries.specs.Sets.{IsSetDictionary, sets_at}
 
 -- what codes stand for: a base to be added to, differences between anchors, texts, or sets
 pub data Codebook : Type 0 where

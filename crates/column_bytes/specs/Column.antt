@@ -6,7 +6,7 @@ use Rattle.column_bytes.specs.declared.kind.Kind.{Kind}
 use Rattle.column_bytes.specs.declared.kind.Kind.TheVariants.{Ints, Texts, Sets}
 use Rattle.column_bytes.specs.declared.form.Form.{Form}
 use Rattle.column_bytes.specs.declared.form.Form.TheVariants as forms
-use Rattle.column_bytes.specs.Fields.{u32_at, u64_at}
+use Rattle.dictionaries.specs.Fields.{u32_at, u64_at}
 use Rattle.column_bytes.specs.Cells.{Coded, IsExtra, AreCodes, cells_of, coded_of}
 
 -- the form that the bytes of kind and form name: integers by offset or by delta, texts or sets by a dictionary

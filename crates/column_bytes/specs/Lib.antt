@@ -1,6 +1,3 @@
-pub mod Fields
-pub mod Dictionary
-pub mod Sets
 pub mod Cells
 pub mod Next
 pub mod Column

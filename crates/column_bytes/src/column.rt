@@ -6,7 +6,7 @@ ghost use Rattle.column_bytes.specs.declared.kind.Kind.TheVariants.{Ints, Texts}
 ghost use Rattle.column_bytes.specs.Cells.{Entries};
 ghost use Rattle.column_bytes.specs.Column.{HasCells, kind_in};
 ghost use Rattle.column_bytes.specs.Coding.{AreIntegers, AreOfKind, IsCoding, IsOfKind};
-ghost use Rattle.column_bytes.specs.Dictionary.{AreTexts};
+ghost use Rattle.dictionaries.specs.Dictionary.{AreTexts};
 
 use crate::integers::{encode_integers, integer_column};
 use crate::kind::Kind;

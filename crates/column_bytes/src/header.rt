@@ -3,8 +3,8 @@ ghost use Rattle.std.specs.Prelude.{◌≡◌, ◌+◌, ◌<◌, ◌≤◌, ◌=
 ghost use Rattle.column_bytes.specs.declared.form.Form.{Form};
 ghost use Rattle.column_bytes.specs.Column.{form_at, width_in, count_in, codes_from, extra_from, AreFields, AreOffsets, IsHeader};
 
-use crate::fields::{u32_at, u64_at};
 use crate::form::Form;
+use dictionaries::{u32_at, u64_at};
 
 pub(crate) const HEADER_LEN: usize = 40;
 

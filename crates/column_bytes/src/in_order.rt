@@ -7,10 +7,10 @@ ghost use Rattle.leaf_model.specs.declared.rows.Value.TheVariants.{Int};
 ghost use Rattle.column_bytes.specs.declared.kind.Kind.TheVariants.{Ints};
 ghost use Rattle.column_bytes.specs.Cells.{IsCode, IsExtra, anchors_at, book_of, kind_of, there, value_at};
 
-use crate::fields::i64_at;
 use crate::form::Form;
 use bit_columns::PresenceBits;
 use delta_codes::undo;
+use dictionaries::i64_at;
 
 fn fill_all(present: &mut [bool])
     ensures { present.new ≡ there None (length present.old) }

@@ -5,7 +5,7 @@ ghost use Rattle.leaf_model.specs.Lent.{each_value, lent_value};
 ghost use Rattle.leaf_model.specs.declared.rows.Value.{Value};
 ghost use Rattle.leaf_model.specs.declared.rows.Value.TheVariants.{Int};
 ghost use Rattle.column_bytes.specs.declared.kind.Kind.TheVariants.{Ints};
-ghost use Rattle.column_bytes.specs.Fields.{i64_at};
+ghost use Rattle.dictionaries.specs.Fields.{i64_at};
 ghost use Rattle.column_bytes.specs.Cells.{IsExtra, book_of, kind_of};
 ghost use Rattle.column_bytes.specs.Column.{HasCells, kind_in};
 ghost use Rattle.column_bytes.specs.Coding.{IsOfKind, AreOfKind, AreIntegers, AreCodesOf};

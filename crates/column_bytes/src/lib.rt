@@ -2,7 +2,6 @@
 #![tactic(auto)]
 
 mod column;
-mod fields;
 mod form;
 mod header;
 mod in_order;
@@ -13,11 +12,9 @@ mod present;
 mod set_codes;
 mod set_numbers;
 mod set_ref;
-mod sets;
 mod slots;
 mod text_codes;
 mod text_set;
-mod texts;
 mod value;
 mod view;
 mod writer;

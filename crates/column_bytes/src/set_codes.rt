@@ -6,11 +6,11 @@ ghost use Rattle.leaf_model.specs.Values.{IsSet, bytes_in};
 ghost use Rattle.leaf_model.specs.declared.rows.Value.{Value};
 ghost use Rattle.leaf_model.specs.declared.rows.Value.TheVariants as values;
 ghost use Rattle.column_bytes.specs.declared.kind.Kind.TheVariants as kinds;
-ghost use Rattle.column_bytes.specs.Fields.{u32_at};
+ghost use Rattle.dictionaries.specs.Fields.{u32_at};
 ghost use Rattle.column_bytes.specs.Cells.{Sets};
 ghost use Rattle.column_bytes.specs.Column.{HasCells, kind_in};
-ghost use Rattle.column_bytes.specs.Dictionary.{AreKept, AreTexts, lent, texts_by};
-ghost use Rattle.column_bytes.specs.Sets.{AreNumbers, AreSetCodes, IsSetDictionary, number_bytes, numbers_in, sets_at, sets_by};
+ghost use Rattle.dictionaries.specs.Dictionary.{AreKept, AreTexts, lent, texts_by};
+ghost use Rattle.dictionaries.specs.Sets.{AreNumbers, AreSetCodes, IsSetDictionary, number_bytes, numbers_in, sets_at, sets_by};
 ghost use Rattle.column_bytes.specs.Coding.{IsOfKind, AreOfKind, IsCoding, end_at, joined};
 
 use crate::form::Form;

@@ -1,7 +1,7 @@
 // Sets as the numbers of their texts, each once, in the order in which they were first met.
 ghost use Rattle.std.specs.Prelude.{◌≡◌, ◌<◌, ℕ, List, [], length, slice_index_or, IfOk, OnOk};
-ghost use Rattle.column_bytes.specs.Dictionary.{with_text};
-ghost use Rattle.column_bytes.specs.Sets.{numbers_in};
+ghost use Rattle.dictionaries.specs.Dictionary.{with_text};
+ghost use Rattle.dictionaries.specs.Sets.{numbers_in};
 
 use indexmap::IndexSet;
 use std::alloc::{AllocError, Global};
@@ -15,7 +15,7 @@ pub(crate) struct SetNumbers {
 
 impl Model for SetNumbers {
     ghost use Rattle.std.specs.Prelude.{List, ℕ};
-    ghost use Rattle.column_bytes.specs.Sets.{numbers_in};
+    ghost use Rattle.dictionaries.specs.Sets.{numbers_in};
 
     ghost Value = { List (List ℕ) };
 

@@ -1,9 +1,9 @@
 // A set in the extra part of a column.
 ghost use Rattle.std.specs.Prelude.{◌≡◌, ◌<◌, [], length, slice_index_or};
-ghost use Rattle.column_bytes.specs.Dictionary.{text_count};
-ghost use Rattle.column_bytes.specs.Sets.{IsSetDictionary, set_in, sets_part};
+ghost use Rattle.dictionaries.specs.Dictionary.{text_count};
+ghost use Rattle.dictionaries.specs.Sets.{IsSetDictionary, set_in, sets_part};
 
-use crate::sets::{text_of_set, texts_in_set};
+use dictionaries::{text_of_set, texts_in_set};
 use std::marker::Model;
 
 /// The texts of a set, lent by the column: ascending, each once. Contracts see them as the list.
@@ -15,8 +15,8 @@ pub struct SetRef<'a> {
 
 impl<'a> Model for SetRef<'a> {
     ghost use Rattle.std.specs.Prelude.{List, ℕ, ◌<◌};
-    ghost use Rattle.column_bytes.specs.Dictionary.{text_count};
-    ghost use Rattle.column_bytes.specs.Sets.{IsSetDictionary, set_in, sets_part};
+    ghost use Rattle.dictionaries.specs.Dictionary.{text_count};
+    ghost use Rattle.dictionaries.specs.Sets.{IsSetDictionary, set_in, sets_part};
 
     ghost Value = { List (List ℕ) };
 

@@ -5,9 +5,9 @@ ghost use Rattle.bit_columns.specs.Bits.{code, codes};
 ghost use Rattle.delta_codes.specs.Slots.{slot};
 ghost use Rattle.column_bytes.specs.Cells.{anchors_at};
 
-use crate::fields::i64_at;
 use bit_columns::Packed;
 use delta_codes::undo;
+use dictionaries::i64_at;
 
 /// The integer at a place: the anchor before it, and the differences since, of which there are at most 63.
 pub(crate) fn slot_at(packed: &Packed, extra: &[u8], i: u32) -> i64

@@ -5,10 +5,10 @@ ghost use Rattle.leaf_model.specs.Lent.{each_value, lent_value};
 ghost use Rattle.leaf_model.specs.declared.rows.Value.{Value};
 ghost use Rattle.leaf_model.specs.declared.rows.Value.TheVariants as values;
 ghost use Rattle.column_bytes.specs.declared.kind.Kind.TheVariants as kinds;
-ghost use Rattle.column_bytes.specs.Fields.{u32_at};
+ghost use Rattle.dictionaries.specs.Fields.{u32_at};
 ghost use Rattle.column_bytes.specs.Cells.{Entries};
 ghost use Rattle.column_bytes.specs.Column.{HasCells, kind_in};
-ghost use Rattle.column_bytes.specs.Dictionary.{AreKept, AreTexts, IsDictionary, distinct, lent, texts_at, texts_by};
+ghost use Rattle.dictionaries.specs.Dictionary.{AreKept, AreTexts, IsDictionary, distinct, lent, texts_at, texts_by};
 ghost use Rattle.column_bytes.specs.Coding.{IsOfKind, AreOfKind, IsCoding, end_at, joined};
 
 use crate::form::Form;

@@ -1,6 +1,6 @@
 // Texts, each once, in the order in which they were first met.
 ghost use Rattle.std.specs.Prelude.{◌≡◌, ◌<◌, [], length, slice_index_or, IfOk, IsUtf8, OnOk};
-ghost use Rattle.column_bytes.specs.Dictionary.{lent, with_text};
+ghost use Rattle.dictionaries.specs.Dictionary.{lent, with_text};
 
 use indexmap::IndexSet;
 use std::alloc::{AllocError, Global};
@@ -14,7 +14,7 @@ pub struct TextSet<'a> {
 
 impl<'a> Model for TextSet<'a> {
     ghost use Rattle.std.specs.Prelude.{List, ℕ};
-    ghost use Rattle.column_bytes.specs.Dictionary.{lent};
+    ghost use Rattle.dictionaries.specs.Dictionary.{lent};
 
     ghost Value = { List (List ℕ) };
 

@@ -10,18 +10,16 @@ ghost use Rattle.column_bytes.specs.Cells.{Coded, coded_of, cells_of, cell_at, v
 ghost use Rattle.column_bytes.specs.Next.{AreBitsOf, TellsFirst};
 ghost use Rattle.column_bytes.specs.Column.{HasCells, IsColumn, IsPresence, coded_in, kind_in, presence_bits};
 
-use crate::fields::i64_at;
 use crate::form::Form;
 use crate::header::{HEADER_LEN, Header, header_of};
 use crate::in_order::{fill_present, fill_values, offset_sum};
 use crate::kind::Kind;
 use crate::present::next_present;
 use crate::set_ref::SetRef;
-use crate::sets::{is_set_dictionary, set_count};
 use crate::slots::{slot_at, slot_behind};
-use crate::texts::{is_dictionary, text_count, text_of};
 use crate::value::ValueRef;
 use bit_columns::{Packed, PresenceBits};
+use dictionaries::{i64_at, is_dictionary, is_set_dictionary, set_count, text_count, text_of};
 use leaf_model::Steps;
 use std::marker::Model;
 use std::sync::ledger::Ledger;

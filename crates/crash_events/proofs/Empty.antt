@@ -6,7 +6,7 @@ use Rattle.berth_face.specs.Berth.{Pair, Meaning}
 use Rattle.leaf_model.specs.declared.writes.Write.{Write}
 use Rattle.leaf_model.specs.Content.{content}
 use Rattle.leaf_history.specs.History.{no_base}
-use Rattle.region_layout.proofs.Heads.{closed_head}
+use Rattle.region_head.proofs.Heads.{closed_head}
 use Rattle.row_records.specs.Records.{LogRecord}
 use Rattle.disk_backup.specs.Logs.{IsLog, is_short, is_closed, writes_of}
 use Rattle.crash_moments.specs.Left.{NamedStates, Left, closed}

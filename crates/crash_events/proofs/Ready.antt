@@ -7,13 +7,13 @@ use Rattle.std.proofs.lemmas.Slice.Eq.{bytes_eq-Decides}
 use Rattle.berth_face.specs.Berth.{Pair, Meaning}
 use Rattle.leaf_model.specs.declared.writes.Write.{Write}
 use Rattle.leaf_history.specs.History.{HistoryState, base_of, no_base}
-use Rattle.region_layout.specs.declared.head.Head.TheVariants.{Version}
+use Rattle.region_head.specs.declared.head.Head.TheVariants.{Version}
 use Rattle.region_layout.specs.Images.{TableImage}
 use Rattle.region_layout.specs.ImageWrites.{AreImagesOf}
 use Rattle.leaf_model.specs.Names.{AreDistinct}
-use Rattle.region_layout.specs.Head.{head_of}
+use Rattle.region_head.specs.Head.{head_of}
 use Rattle.region_layout.specs.Region.{IsImage}
-use Rattle.region_layout.proofs.Heads.{closed_head}
+use Rattle.region_head.proofs.Heads.{closed_head}
 use Rattle.row_records.specs.Records.{LogRecord}
 use Rattle.disk_backup.specs.Logs.{writes_of}
 use Rattle.disk_backup.specs.Settling.{HasLog}

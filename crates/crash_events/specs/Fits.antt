@@ -3,10 +3,10 @@ use Rattle.std.specs.Prelude.{◌≡◌, ℕ, Bool, true, false, List, [], ◌�
 use Rattle.std.specs.List.{AllByRecursion}
 use Rattle.berth_face.specs.Berth.{Pair, IsClosed}
 use Rattle.leaf_history.specs.History.{no_base}
-use Rattle.region_layout.specs.declared.head.Head.TheVariants.{Version}
+use Rattle.region_head.specs.declared.head.Head.TheVariants.{Version}
 use Rattle.region_layout.specs.Images.{TableImage}
 use Rattle.region_layout.specs.ImageWrites.{AreImagesOf}
-use Rattle.region_layout.specs.Head.{head_of}
+use Rattle.region_head.specs.Head.{head_of}
 use Rattle.region_layout.specs.Region.{IsImage}
 use Rattle.row_records.specs.Records.{LogRecord}
 use Rattle.disk_backup.specs.Logs.{IsSound, ClosedLog, writes_of}

@@ -10,15 +10,15 @@ use Rattle.row_records.specs.Records.{LogRecord}
 use Rattle.berth_face.specs.Berth.{Pair, Meaning, IsClosed, Passes, Ended, SameDisk}
 use Rattle.berth_face.specs.Moments.{EachNow}
 use Rattle.table_state.specs.Tables.{HeldTables, Table, added_count}
-use Rattle.region_layout.specs.declared.head.Head.TheVariants.{Version}
-use Rattle.region_layout.specs.Images.{TableImage, table_of, table_named}
+use Rattle.region_head.specs.declared.head.Head.TheVariants.{Version}
+use Rattle.region_layout.specs.Images.{TableImage, image_names, table_named, table_of}
 use Rattle.region_layout.specs.Images as layout
 use Rattle.region_layout.specs.ImageWrites.{AreImagesOf}
-use Rattle.region_layout.specs.Head.{image_names}
 use Rattle.region_layout.specs.Region.{IsAdoptable, reads}
 use Rattle.region_layout.proofs.Images.{one_tables, one_log_end}
 use Rattle.leaf_words.specs.declared.ways.WhyDisk.{WhyDisk}
-use Rattle.adopt.specs.Adopting.{IsLeftBehind, stranger_of}
+use Rattle.adopt.specs.Adopting.{IsLeftBehind}
+use Rattle.region_strangers.specs.Strangers.{stranger_of}
 use Rattle.disk_backup.specs.Logs.{ClosedLog, writes_of}
 use Rattle.disk_backup.specs.State.{LogState}
 use Rattle.disk_backup.specs.Scanning.{begun}
@@ -30,11 +30,10 @@ use Rattle.leaf_words.specs.declared.ways.Way.{Way}
 use Rattle.leaf_words.specs.declared.ways.Way.TheVariants.{Memory, Disk}
 use Rattle.leaf_opening.specs.OpenedLeaf.{OpenedLeaf}
 use Rattle.disk_backup.specs.SoundLogs.{HasSoundLog}
-use Rattle.leaf_opening.proofs.Strangers.{is_one_of}
+use Rattle.leaf_opening.proofs.Strangers.{is_one_of, no_writes_read, no_writes_there}
 use Rattle.leaf_opening.specs.Starts.{IsCome, disk_after}
 use Rattle.leaf_opening.proofs.Regions.{left_closed, closed_no_image}
 use Rattle.disk_backup.proofs.SoundLogs.{same_writes}
-use Rattle.leaf_opening.proofs.Strangers.{no_writes_there, no_writes_read}
 use Rattle.leaf_opening.proofs.Places.{table_at}
 use Rattle.leaf_opening.proofs.Origins.{log_at}
 use Rattle.crash_moments.specs.Left.{NamedStates, RegionLeft, closed, other_version, image}

@@ -7,8 +7,8 @@ use Rattle.std.proofs.lemmas.Bool.{le-ltb}
 use Rattle.std.proofs.lemmas.Nat.{from_le_bytes-to_le_bytes_8}
 use Rattle.leaf_model.specs.Names.{AreDistinct}
 use Rattle.column_bytes.specs.Coding.{joined}
-use Rattle.region_layout.specs.declared.head.Head.TheVariants.{Version}
-use Rattle.region_layout.specs.Head.{head_bytes, head_of}
+use Rattle.region_head.specs.declared.head.Head.TheVariants.{Version}
+use Rattle.region_head.specs.Head.{head_bytes, head_of}
 use Rattle.table_state.specs.Tables.{IsParts}
 use Rattle.region_layout.specs.declared.drained.DrainTable.{DrainTable}
 use Rattle.region_layout.specs.Directory.{IsDirectory}

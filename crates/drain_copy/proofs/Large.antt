@@ -8,11 +8,11 @@ use Rattle.std.proofs.lemmas.List.{get_or-drop, length-drop}
 use Rattle.std.proofs.lemmas.Nat.{mul-le}
 use Rattle.column_bytes.specs.declared.form.Form.{Form}
 use Rattle.column_bytes.specs.declared.form.Form.TheVariants.{Offset, Delta, Dictionary, Sets}
-use Rattle.column_bytes.specs.Fields.{u32_at}
+use Rattle.dictionaries.specs.Fields.{u32_at}
 use Rattle.column_bytes.specs.Cells.{IsExtra}
 use Rattle.column_bytes.specs.Column.{IsPresence, codes_from, codes_part, count_in, extra_from, extra_part, presence_bits, presence_part, width_in}
-use Rattle.column_bytes.specs.Dictionary.{IsDictionary, text_count, text_from}
-use Rattle.column_bytes.specs.Sets.{IsSetDictionary, sets_part, texts_part, texts_size}
+use Rattle.dictionaries.specs.Dictionary.{IsDictionary, text_count, text_from}
+use Rattle.dictionaries.specs.Sets.{IsSetDictionary, sets_part, texts_part, texts_size}
 use Rattle.row_blocks.specs.declared.column.BlockColumn.{BlockColumn}
 use Rattle.row_blocks.specs.Columns.{MeanCells}
 use Rattle.row_blocks.specs.Blocks.{Block, IsBlock, IsOther}

@@ -3,7 +3,7 @@ use Rattle.std.specs.Prelude.{◌≡◌, ◌⊎◌, ℕ, suc, ◌+◌, ◌≤◌
 use Rattle.berth_face.specs.Berth.{Pair, Meaning, IsClosed}
 use Rattle.berth_face.specs.Moments.{EachNow}
 use Rattle.column_bytes.specs.Coding.{joined}
-use Rattle.region_layout.specs.Head.{head_bytes}
+use Rattle.region_head.specs.Head.{head_bytes}
 use Rattle.drain_copy.specs.declared.step.Next.{Next}
 use Rattle.drain_copy.specs.declared.step.Next.TheVariants as next
 use Rattle.drain_copy.specs.declared.step.DrainStep.{DrainStep}

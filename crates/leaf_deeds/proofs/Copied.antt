@@ -6,10 +6,10 @@ use Rattle.std.proofs.lemmas.List.{length-drop}
 use Rattle.leaf_model.specs.declared.writes.Write.{Write}
 use Rattle.berth_face.specs.Berth.{Meaning, Passes}
 use Rattle.berth_face.proofs.Moments.{passes_none, passes_on}
-use Rattle.region_layout.specs.declared.head.Head.TheVariants as head
+use Rattle.region_head.specs.declared.head.Head.TheVariants as head
 use Rattle.region_layout.specs.Images.{TableImage}
-use Rattle.region_layout.specs.Head.{head_of}
-use Rattle.region_layout.proofs.Heads.{closed_head}
+use Rattle.region_head.specs.Head.{head_of}
+use Rattle.region_head.proofs.Heads.{closed_head}
 use Rattle.region_layout.specs.Region.{IsAdoptable}
 use Rattle.drain_copy.specs.declared.step.Next.{Next}
 use Rattle.drain_copy.specs.declared.step.Next.TheVariants as next

@@ -6,14 +6,14 @@ use Rattle.std.proofs.lemmas.Bool.{or_left, or_right}
 use Rattle.std.proofs.lemmas.Slice.Eq.{bytes_eq-Decides}
 use Rattle.region_layout.specs.declared.drained.DrainTable.{DrainTable}
 use Rattle.region_layout.specs.Drained.{images_of}
-use Rattle.region_layout.specs.Images.{TableImage}
+use Rattle.region_layout.specs.Images.{TableImage, image_names}
 use Rattle.berth_face.specs.Berth.{IsClosed}
-use Rattle.region_layout.specs.Head.{image_names}
-use Rattle.region_layout.proofs.Heads.{closed_head}
+use Rattle.region_head.proofs.Heads.{closed_head}
 use Rattle.region_layout.specs.declared.directory.TablePlaces.{TablePlaces}
 use Rattle.region_layout.specs.Region.{IsAdoptable, image_of_parts, parts_in}
 use Rattle.region_layout.proofs.Images.{same_directory}
-use Rattle.adopt.specs.Adopting.{HasNoStranger, stranger_of}
+use Rattle.adopt.specs.Adopting.{HasNoStranger}
+use Rattle.region_strangers.specs.Strangers.{stranger_of}
 
 -- ---- images of tables with these names
 

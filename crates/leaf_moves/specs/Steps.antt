@@ -3,7 +3,8 @@ use Rattle.std.specs.Prelude.{◌≡◌, ◌≢◌, ℕ, zero, suc, ◌+◌, ◌
 use Rattle.berth_face.specs.Berth.{Meaning}
 use Rattle.leaf_history.specs.Calls.{Call}
 use Rattle.leaf_words.specs.declared.ways.WhyDisk.TheVariants as why
-use Rattle.adopt.specs.Adopting.{HasNoStranger, IsBroken, IsLeftBehind}
+use Rattle.adopt.specs.Adopting.{HasNoStranger, IsLeftBehind}
+use Rattle.region_head.specs.Closing.{IsBroken}
 use Rattle.disk_backup.specs.Scanning.{BeginsScan}
 use Rattle.leaf_words.specs.declared.ways.Way.{Way}
 use Rattle.leaf_words.specs.declared.ways.Way.TheVariants.{Memory, Disk}

@@ -1,15 +1,16 @@
 -- Bytes decide one answer of a start.
 use Rattle.std.proofs.Common.{◌≡◌, inl, inr, ℕ, Bool, true, false, List, [], ◌∷◌, map, Option, Some, None, Result, Ok, Err, refl, sym, ap, subst, ◌∙◌}
-use Rattle.region_layout.specs.declared.head.Head.{Head}
-use Rattle.region_layout.specs.declared.head.Head.TheVariants as head
-use Rattle.region_layout.specs.Images.{TableImage}
-use Rattle.region_layout.specs.Head.{head_of, image_names}
+use Rattle.region_head.specs.declared.head.Head.{Head}
+use Rattle.region_head.specs.declared.head.Head.TheVariants as head
+use Rattle.region_layout.specs.Images.{TableImage, image_names}
+use Rattle.region_head.specs.Head.{head_of}
 use Rattle.region_layout.specs.declared.directory.TablePlaces.{TablePlaces}
 use Rattle.region_layout.specs.Region.{IsAdoptable, image_of_parts, parts_in, reads}
 use Rattle.region_layout.proofs.Images.{same_directory}
 use Rattle.leaf_words.specs.declared.ways.WhyDisk.{WhyDisk}
 use Rattle.leaf_words.specs.declared.ways.WhyDisk.TheVariants as why
-use Rattle.adopt.specs.Adopting.{IsStranger, IsWhy, IsWhyFor, stranger_of}
+use Rattle.adopt.specs.Adopting.{IsStranger, IsWhy, IsWhyFor}
+use Rattle.region_strangers.specs.Strangers.{stranger_of}
 use Rattle.disk_backup.specs.Scanning.{begun}
 use Rattle.log_recovery.proofs.LogAnswers.{one_stranger, recovered_no_stranger, recovered_not_damaged, stranger_not_damaged}
 use Rattle.leaf_words.specs.declared.ways.Way.{Way}

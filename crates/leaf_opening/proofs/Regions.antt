@@ -4,11 +4,12 @@ use Rattle.std.specs.Prelude.{slice_index}
 use Rattle.std.proofs.lemmas.Bool.{cases_lt, cases_eq}
 use Rattle.region_layout.specs.Images.{TableImage}
 use Rattle.berth_face.specs.Berth.{IsClosed}
-use Rattle.region_layout.specs.Head.{version_of}
-use Rattle.region_layout.proofs.Heads.{open_head, shut_head}
+use Rattle.region_head.specs.Head.{version_of}
+use Rattle.region_head.proofs.Heads.{open_head, shut_head}
 use Rattle.region_layout.specs.Region.{IsAdoptable}
 use Rattle.region_layout.proofs.Images.{not_closed}
-use Rattle.adopt.specs.Adopting.{IsBroken, IsLeftBehind}
+use Rattle.region_head.specs.Closing.{IsBroken}
+use Rattle.adopt.specs.Adopting.{IsLeftBehind}
 
 -- ---- what is left is closed
 

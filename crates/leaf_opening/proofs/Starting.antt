@@ -4,7 +4,7 @@ use Rattle.std.specs.Prelude.{◌≢◌}
 use Rattle.berth_face.specs.Berth.{Pair, Meaning, IsClosed, Ended, SameDisk}
 use Rattle.berth_face.specs.Moments.{KeepsRegion, Throughout}
 use Rattle.berth_face.proofs.Moments.{throughout_map, throughout_join, now_of}
-use Rattle.adopt.specs.Adopting.{AdoptsFrom, IsBroken}
+use Rattle.region_head.specs.Closing.{AdoptsFrom, IsBroken}
 use Rattle.adopt.specs.declared.found.AdoptFault.{AdoptFault}
 use Rattle.adopt.specs.declared.found.AdoptFault.TheVariants as adopting
 use Rattle.disk_backup.specs.Scanning.{StepsFrom, BeginsScan}

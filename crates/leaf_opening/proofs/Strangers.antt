@@ -7,9 +7,8 @@ use Rattle.std.proofs.lemmas.List.{nil_from_length}
 use Rattle.std.proofs.lemmas.Slice.Eq.{bytes_eq-Decides}
 use Rattle.leaf_model.specs.declared.writes.Write.{Write}
 use Rattle.row_records.specs.Records.{LogRecord}
-use Rattle.region_layout.specs.Images.{TableImage, empty_image, is_named, table_named}
-use Rattle.region_layout.specs.Head.{image_names}
-use Rattle.adopt.specs.Adopting.{stranger_of}
+use Rattle.region_layout.specs.Images.{TableImage, empty_image, image_names, is_named, table_named}
+use Rattle.region_strangers.specs.Strangers.{stranger_of}
 use Rattle.disk_backup.specs.Logs.{writes_of}
 use Rattle.log_recovery.specs.Recovery.{stranger_in}
 use Rattle.log_recovery.specs.Recovery as recovery

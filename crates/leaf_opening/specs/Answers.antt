@@ -1,11 +1,11 @@
 -- What a start answers: the bytes of region and disk and the names of the leaf decide it.
 use Rattle.std.specs.Prelude.{◌≡◌, ◌⊎◌, ℕ, List, None, Result, Ok, Err}
 use Rattle.table_state.specs.Tables.{Table}
-use Rattle.region_layout.specs.Images.{TableImage}
-use Rattle.region_layout.specs.Head.{image_names}
+use Rattle.region_layout.specs.Images.{TableImage, image_names}
 use Rattle.region_layout.specs.Region.{IsAdoptable}
 use Rattle.leaf_words.specs.declared.ways.WhyDisk.{WhyDisk}
-use Rattle.adopt.specs.Adopting.{IsStranger, IsWhyFor, stranger_of}
+use Rattle.adopt.specs.Adopting.{IsStranger, IsWhyFor}
+use Rattle.region_strangers.specs.Strangers.{stranger_of}
 use Rattle.disk_backup.specs.State.{LogState}
 use Rattle.disk_backup.specs.Scanning.{begun}
 use Rattle.log_recovery.specs.Recovery.{IsRecovered, IsRecoveryRefusal}

@@ -4,13 +4,13 @@ use Rattle.std.specs.List.{AllByRecursion}
 use Rattle.berth_face.specs.Berth.{Meaning, Pair, IsClosed, Ended, SameDisk}
 use Rattle.berth_face.specs.Moments.{EachNow}
 use Rattle.table_state.specs.Tables.{Table}
-use Rattle.region_layout.specs.Images.{TableImage}
-use Rattle.region_layout.specs.Head.{image_names}
+use Rattle.region_layout.specs.Images.{TableImage, held_of, image_names}
 use Rattle.region_layout.specs.Region.{IsAdoptable}
-use Rattle.region_layout.specs.Images.{held_of}
 use Rattle.leaf_words.specs.declared.ways.WhyDisk.{WhyDisk}
 use Rattle.leaf_words.specs.declared.ways.WhyDisk.TheVariants as why
-use Rattle.adopt.specs.Adopting.{IsWhy, IsBroken, IsLeftBehind, IsStranger, stranger_of}
+use Rattle.adopt.specs.Adopting.{IsWhy, IsLeftBehind, IsStranger}
+use Rattle.region_strangers.specs.Strangers.{stranger_of}
+use Rattle.region_head.specs.Closing.{IsBroken}
 use Rattle.disk_backup.specs.Scanning.{begun, BeginsScan}
 use Rattle.log_recovery.specs.Recovery.{AreFew, IsRecovered}
 use Rattle.log_recovery.specs.Recovery as recovery

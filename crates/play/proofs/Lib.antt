@@ -12,4 +12,3 @@ pub mod Short
 pub mod Statuses
 pub mod Soaked
 pub mod Looked
-pub mod Pieces

@@ -44,10 +44,10 @@ use Rattle.player.specs.Asked.{AsksLeaf}
 use Rattle.player.specs.Crew.{AllCounted, CountedIf}
 use Rattle.player.proofs.Chains.{counted_calm, goes_more}
 use Rattle.transcript_leaf.proofs.Lists.{length_mapped}
-use Rattle.bursts.specs.Shortened.{BeginsItem}
-use Rattle.bursts.specs.Went.{ItemWent, OrNothing, told_lines}
-use Rattle.bursts.proofs.Hearing.{watched_one}
-use Rattle.bursts.proofs.Held.{all_counted_on}
+use Rattle.lane_play.specs.Shortened.{BeginsItem}
+use Rattle.lane_play.specs.Went.{ItemWent, OrNothing, told_lines}
+use Rattle.lane_play.proofs.Heard.{watched_one}
+use Rattle.lane_play.proofs.Held.{all_counted_on}
 use Rattle.bursts.proofs.Needed.{place_below}
 use Rattle.play.specs.Standing.{DoesSo, FollowsLines, IsBefore, ItemDid, MayRunAlone, PlaysOwn, TellsBy, TellsLine, TellsSo, is_of_run}
 use Rattle.play.proofs.AskedLines.{piece_of, piece_is, held_times, held_above, in_any, right, same_ok, not_ok}

@@ -25,7 +25,7 @@ use Rattle.leaf_moves.specs.Stage.{Leaf}
 use Rattle.leaf_moves.specs.Holds.{GoOn, HasMet, Hold, grounds_in}
 use Rattle.transcript.specs.Watching.{HearsAll}
 use Rattle.player.specs.Crew.{AllPass, CountedIf, PassesIf, AllCounted}
-use Rattle.bursts.specs.Went.{OrNothing, told_lines}
+use Rattle.lane_play.specs.Went.{OrNothing, told_lines}
 use Rattle.play.specs.Played.{KeepsCounts}
 use Rattle.play.specs.Runs.{Advances, HoldsKeep, IsRun, RunSoFar, ToldFleet, berths_in}
 use Rattle.play.specs.Standing.{FollowsLines, ItemDid, MayRun}
@@ -39,7 +39,7 @@ use Rattle.transcript_standing.proofs.Right.{tell_right}
 use Rattle.transcript_leaf.proofs.Lists.{element_at, within}
 use Rattle.berth_face.specs.Streams.{Written, WritesFront}
 use Rattle.leaf_moves.specs.Lanes.{PlaysItem}
-use Rattle.bursts.specs.Shortened.{BeginsItem}
+use Rattle.lane_play.specs.Shortened.{BeginsItem}
 use Rattle.play.specs.Cut.{PlaysSome, last_lines}
 use Rattle.play.specs.Shortened.{RunShort, StopsAt}
 

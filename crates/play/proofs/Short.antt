@@ -23,7 +23,7 @@ use Rattle.transcript.specs.Watching.{HearsAll}
 use Rattle.leaf_moves.specs.Holds.{HasMet, Hold, berth_in}
 use Rattle.transcript_leaf.proofs.Lists.{within}
 use Rattle.transcript_fleet.proofs.Ending.{ended}
-use Rattle.bursts.specs.Shortened.{BeginsItem}
+use Rattle.lane_play.specs.Shortened.{BeginsItem}
 use Rattle.play.specs.Cut.{IsShortened, PlaysSome}
 use Rattle.play.specs.Played.{leaves_in, soak_leaves}
 use Rattle.play.specs.Runs.{berths_in}

@@ -7,7 +7,7 @@ use Rattle.rollover_watch.specs.Watches.{Held}
 use Rattle.script_text.specs.declared.item.Item.{Item}
 use Rattle.printed_lines.specs.declared.line.Line.{Line}
 use Rattle.printed_lines.specs.Lines.{lines_text}
-use Rattle.bursts.specs.Shortened.{Begins, BeginsItem}
+use Rattle.lane_play.specs.Shortened.{Begins, BeginsItem}
 use Rattle.transcript.specs.Pieces.{PlayedItem, all_lines, item_lines, item_of, script_fleet}
 use Rattle.transcript.specs.Transcript.{Known}
 use Rattle.transcript.specs.Leaving.{AreKnown, IsToldRun}

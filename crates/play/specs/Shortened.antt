@@ -20,7 +20,7 @@ use Rattle.transcript.specs.Leaving.{AreKnown}
 use Rattle.leaf_moves.specs.Holds.{GoOn, Hold, grounds_in}
 use Rattle.leaf_moves.specs.Lanes.{PlaysItem}
 use Rattle.transcript.specs.Watching.{HearsAll}
-use Rattle.bursts.specs.Shortened.{Begins, BeginsItem}
+use Rattle.lane_play.specs.Shortened.{Begins, BeginsItem}
 use Rattle.play.specs.Cut.{IsShortened, PlaysSome, last_lines}
 use Rattle.player.specs.Crew.{AllCounted}
 use Rattle.transcript_fleet.specs.Session.{Session}

@@ -28,7 +28,7 @@ use Rattle.leaf_moves.specs.Holds.{GoOn, Hold, grounds_in}
 use Rattle.leaf_moves.specs.Plays.{MayPlay, Plays}
 use Rattle.player.specs.Crew.{AllCounted}
 use Rattle.bursts.specs.Items.{MayPlayItem}
-use Rattle.bursts.specs.Went.{ItemWent}
+use Rattle.lane_play.specs.Went.{ItemWent}
 
 -- the run itself plays it
 abbrev pub is_of_run : Command → Bool

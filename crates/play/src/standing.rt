@@ -12,7 +12,7 @@ ghost use Rattle.transcript.specs.Pieces.{place_among};
 ghost use Rattle.transcript_standing.specs.Followed.{AreFollowers, IsFollower, TellsState};
 ghost use Rattle.player.specs.Asked.{AreGroups, IfGroups};
 ghost use Rattle.player.specs.Crew.{AllPass, HasAll};
-ghost use Rattle.bursts.specs.Went.{OrNothing, told_lines};
+ghost use Rattle.lane_play.specs.Went.{OrNothing, told_lines};
 ghost use Rattle.play.specs.Standing.{DoesSo, FollowsLines, IsBefore, ItemDid, MayRun, MayRunAlone, PlaysOwn, SettlesBy, TellsBy, TellsLine, TellsSo, is_of_run};
 
 use berth_face::{Berth, Gate};

@@ -6,10 +6,10 @@ use Rattle.std.proofs.lemmas.Bool.Decides.{nat_tests}
 use Rattle.leaf_model.specs.declared.writes.Write.{Write}
 use Rattle.berth_face.specs.Berth.{Pair, Meaning, IsClosed}
 use Rattle.leaf_history.specs.History.{Entry}
-use Rattle.region_layout.specs.declared.head.Head.{Head}
-use Rattle.region_layout.specs.declared.head.Head.TheVariants as head
-use Rattle.region_layout.specs.Head.{head_of}
-use Rattle.region_layout.proofs.Heads.{closed_head}
+use Rattle.region_head.specs.declared.head.Head.{Head}
+use Rattle.region_head.specs.declared.head.Head.TheVariants as head
+use Rattle.region_head.specs.Head.{head_of}
+use Rattle.region_head.proofs.Heads.{closed_head}
 use Rattle.region_layout.specs.Region.{reads}
 use Rattle.row_records.specs.Records.{LogRecord}
 use Rattle.disk_backup.specs.Logs.{IsLog, writes_of}

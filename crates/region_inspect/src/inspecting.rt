@@ -1,19 +1,19 @@
 // What a region shows.
-ghost use Rattle.std.specs.Prelude.{◌≡◌, IfOk, IsTrue, Err};
+ghost use Rattle.std.specs.Prelude.{Err, IfOk, IsTrue, Some, ◌≡◌, ◌≤◌, length, take, true};
 ghost use Rattle.berth_face.specs.Causes.{Rose};
-ghost use Rattle.region_layout.specs.declared.head.Head.TheVariants.{Version};
-ghost use Rattle.region_layout.specs.Head.{head_of};
+ghost use Rattle.region_head.specs.declared.head.Head.TheVariants.{Version};
+ghost use Rattle.region_head.specs.Head.{head_of};
 ghost use Rattle.region_layout.specs.Region.{HasDirectory, reads};
 ghost use Rattle.region_layout.specs.Directory.{IsDirectory};
 ghost use Rattle.region_reading.specs.declared.fault.LookFault.TheVariants as fault;
 ghost use Rattle.region_reading.specs.Reading.{LooksAt, Untouched};
-ghost use Rattle.std.specs.Prelude.{Some, true, length, take, ◌≤◌};
 ghost use Rattle.region_inspect.specs.Shows.{Shows};
 
 use crate::seen::{Seen, TableLines};
 use crate::tables::inspect_tables;
 use berth_face::Berth;
-use region_layout::{Directory, Head, reads};
+use region_head::Head;
+use region_layout::{Directory, reads};
 use region_reading::{Front, LookFault, Looked, look, read_front};
 use std::alloc::Global;
 

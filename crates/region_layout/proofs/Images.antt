@@ -3,7 +3,7 @@ use Rattle.std.proofs.Common.{◌≡◌, ℕ, List, map, drop, sym, ap, ◌∙�
 use Rattle.leaf_model.proofs.Fields.{some_is}
 use Rattle.region_layout.specs.Images.{TableImage}
 use Rattle.berth_face.specs.Berth.{IsClosed}
-use Rattle.region_layout.proofs.Heads.{closed_head}
+use Rattle.region_head.proofs.Heads.{closed_head}
 use Rattle.region_layout.specs.declared.directory.TablePlaces.{TablePlaces}
 use Rattle.region_layout.specs.declared.directory.Directory.{Directory}
 use Rattle.region_layout.specs.Region.{HasDirectory, IsAdoptable, directory_from, image_of_parts, parts_in}

@@ -1,4 +1,3 @@
-pub mod Heads
 pub mod Numbers
 pub mod Answered
 pub mod Repeating

@@ -53,3 +53,7 @@ tables_of names images = map (λ name. table_of (table_named images name)) names
 -- the same, with the number of columns of each
 abbrev pub held_of : List (List ℕ) → List TableImage → HeldTables
 held_of names images = record { each = tables_of names images; columns = map (λ name. (table_named images name).columns) names }
+
+-- the names of the tables of an image
+abbrev pub image_names : List TableImage → List (List ℕ)
+image_names tables = map (λ (t : TableImage). t.name) tables

@@ -1,4 +1,3 @@
-pub mod Head
 pub mod Names
 pub mod Images
 pub mod Reading

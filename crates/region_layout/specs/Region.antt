@@ -5,9 +5,9 @@ use Rattle.std.specs.Int.{w64, from_le_bytes}
 use Rattle.column_bytes.specs.declared.kind.Kind.{Kind}
 use Rattle.column_bytes.specs.declared.kind.Kind.TheVariants.{Ints, Texts, Sets}
 use Rattle.column_bytes.specs.Column.{kind_in}
-use Rattle.region_layout.specs.declared.head.Head.TheVariants.{Version}
+use Rattle.region_head.specs.declared.head.Head.TheVariants.{Version}
 use Rattle.region_layout.specs.Images.{TableImage}
-use Rattle.region_layout.specs.Head.{head_of}
+use Rattle.region_head.specs.Head.{head_of}
 use Rattle.row_blocks.specs.declared.column.BlockColumn.{BlockColumn}
 use Rattle.table_state.specs.declared.parts.Parts.{Parts}
 use Rattle.region_layout.specs.declared.directory.Place.{Place}

@@ -1,8 +1,8 @@
 // Laws of heads and of images.
 ghost use Rattle.std.specs.Prelude.{◌≡◌, ◌≢◌, ℕ, List};
-ghost use Rattle.region_layout.specs.declared.head.Head.TheVariants.{Version};
+ghost use Rattle.region_head.specs.declared.head.Head.TheVariants.{Version};
 ghost use Rattle.berth_face.specs.Berth.{IsClosed};
-ghost use Rattle.region_layout.specs.Head.{head_of, version_of};
+ghost use Rattle.region_head.specs.Head.{head_of, version_of};
 ghost use Rattle.region_layout.specs.Images.{TableImage};
 ghost use Rattle.region_layout.specs.Region.{IsAdoptable};
 

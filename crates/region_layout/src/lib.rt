@@ -5,7 +5,6 @@ mod directory;
 mod directory_reader;
 mod directory_writer;
 mod drained;
-mod head;
 mod laws;
 mod rules;
 mod version;
@@ -14,6 +13,5 @@ pub use directory::{
     BlockPlaces, BlockPlacesList, Directory, Place, Places, TablePlaces, TablePlacesList,
 };
 pub use drained::{DrainTable, DrainTables};
-pub use head::{Head, head_rest, read_head};
 pub use laws::{one_head, one_reading};
 pub use version::{LAYOUT, allows, reads};

@@ -1,12 +1,12 @@
 -- What the bytes of a directory tell.
-use Rattle.std.proofs.Common.{◌≡◌, ℕ, zero, suc, ◌+◌, ◌<◌, ◌≤◌, ◌^◌, Bool, true, false, cond, ltb, eqb, List, [], ◌∷◌, length, take, drop, Option, Some, None, Ok, Err, refl, sym, ap, subst, ◌∙◌, arith, length-drop, ltb-false}
-use Rattle.std.specs.Prelude.{Result, IfOk, slice_index}
+use Rattle.std.proofs.Common.{◌≡◌, ℕ, zero, suc, ◌+◌, ◌<◌, ◌≤◌, ◌^◌, List, [], ◌∷◌, length, take, drop, Option, Some, None, Ok, Err, refl, sym, ap, subst, ◌∙◌, arith, length-drop}
+use Rattle.std.specs.Prelude.{Result, IfOk}
 use Rattle.std.specs.Int.{w64, from_le_bytes}
 use Rattle.std.specs.List.{AllByRecursion}
 use Rattle.std.proofs.lemmas.List.{drop-take, take-take}
 use Rattle.std.proofs.Math.Seq.{drop-nil}
-use Rattle.region_layout.specs.declared.head.Head.TheVariants.{NoHead, Closed, Version}
-use Rattle.region_layout.specs.Head.{head_of, version_of}
+use Rattle.region_head.specs.declared.head.Head.TheVariants.{Version}
+use Rattle.region_head.specs.Head.{head_of}
 use Rattle.region_layout.specs.declared.directory.Place.{Place}
 use Rattle.region_layout.specs.declared.directory.TablePlaces.{TablePlaces}
 use Rattle.region_layout.specs.declared.directory.Directory.{Directory}
@@ -32,14 +32,6 @@ letters_of front region is = ap (λ (l : List ℕ). take 3 (drop 1 l)) is ∙ ap
 
 place_of : (front region : List ℕ) → front ≡ take 16 region → from_le_bytes w64 (take 8 (drop 8 front)) ≡ directory_from region
 place_of front region is = ap (λ (l : List ℕ). from_le_bytes w64 (take 8 (drop 8 l))) is ∙ ap (λ (l : List ℕ). from_le_bytes w64 (take 8 l)) (drop-take 8 8 region) ∙ ap (from_le_bytes w64) (take-take 8 8 (drop 8 region) (omega arith))
-
-long_by : (short opened : Bool) (byte version other : ℕ) → cond short NoHead (cond opened (Version version) (Closed byte)) ≡ Version other → short ≡ false
-long_by true opened byte version other e = absurd cc
-long_by false opened byte version other e = refl
-
--- where a version is told, there is a whole head
-pub head_long : (region : List ℕ) (version : ℕ) → head_of region ≡ Version version → 16 ≤ length region
-head_long region version e = ltb-false (length region) 16 (long_by (ltb (length region) 16) (eqb (slice_index region 0) 1) (slice_index region 0) (version_of region) version e)
 
 drop_suc : (n : ℕ) (l : List ℕ) → drop (suc n) l ≡ drop n (drop 1 l)
 drop_suc n [] = sym (drop-nil {A = ℕ} n)

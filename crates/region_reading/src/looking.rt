@@ -2,8 +2,8 @@
 ghost use Rattle.std.specs.Prelude.{◌≡◌, ◌↔◌, ℕ, List, length, take, drop, codes, None, IsTrue, IfOk, IfSome, IsSome, Err};
 ghost use Rattle.std.specs.Int.{w64, from_le_bytes};
 ghost use Rattle.berth_face.specs.Causes.{Rose};
-ghost use Rattle.region_layout.specs.declared.head.Head.TheVariants.{Version};
-ghost use Rattle.region_layout.specs.Head.{head_of};
+ghost use Rattle.region_head.specs.declared.head.Head.TheVariants.{Version};
+ghost use Rattle.region_head.specs.Head.{head_of};
 ghost use Rattle.region_reading.specs.declared.fault.LookFault.TheVariants as fault;
 ghost use Rattle.region_reading.specs.Reading.{IsRead, IsThere, LooksAt, StandsAt, TellsPlace, Untouched};
 

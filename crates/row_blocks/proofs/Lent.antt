@@ -15,7 +15,7 @@ use Rattle.column_bytes.specs.declared.kind.Kind.{Kind}
 use Rattle.column_bytes.specs.Cells.{Entries}
 use Rattle.column_bytes.specs.Coding.{AreIntegers, AreOfKind, IsCoding, IsOfKind}
 use Rattle.column_bytes.specs.Column.{HasCells, kind_in}
-use Rattle.column_bytes.specs.Dictionary.{AreKept}
+use Rattle.dictionaries.specs.Dictionary.{AreKept}
 use Rattle.row_blocks.specs.declared.column.BlockColumn.{BlockColumn}
 use Rattle.row_blocks.specs.Columns.{MeanCells}
 use Rattle.row_blocks.specs.Headings.{Heading, heading_of, kind_of}

@@ -13,13 +13,14 @@ use Rattle.leaf_model.specs.Values.{IsSet, IsValue}
 use Rattle.delta_codes.specs.Slots.{after, slot, unzigzag}
 use Rattle.column_bytes.specs.declared.form.Form.{Form}
 use Rattle.column_bytes.specs.declared.form.Form.TheVariants as forms
-use Rattle.column_bytes.specs.Fields.{i64_at, u64_at}
-use Rattle.column_bytes.specs.Dictionary.{text_count}
-use Rattle.column_bytes.specs.Sets.{sets_part}
+use Rattle.dictionaries.specs.Fields.{i64_at, u64_at}
+use Rattle.dictionaries.specs.Dictionary.{text_count}
+use Rattle.dictionaries.specs.Sets.{sets_part}
 use Rattle.column_bytes.specs.Cells.{IsCode, IsExtra, anchors_at, book_of, cell_at, value_at}
 use Rattle.column_bytes.specs.Column.{IsColumn, coded_in, codes_part, count_in, extra_from, extra_part, width_in}
-use Rattle.column_bytes.proofs.Parts.{anchors_at_place, length-codes, length-texts, texts_at_place}
-use Rattle.column_bytes.proofs.SetParts.{length-sets, sets_at_place}
+use Rattle.dictionaries.proofs.Places.{length-texts, texts_at_place}
+use Rattle.column_bytes.proofs.Parts.{anchors_at_place, length-codes}
+use Rattle.dictionaries.proofs.SetParts.{length-sets, sets_at_place}
 use Rattle.row_blocks.specs.Columns.{MeanCells, cells_in}
 
 positive : (n : ℕ) → n < 2 ^ 63 → FitsSigned w64 (pos n)

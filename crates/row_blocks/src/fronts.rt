@@ -4,7 +4,7 @@ ghost use Rattle.leaf_model.specs.Lent.{each_cells, each_value, lent_cell, lent_
 ghost use Rattle.column_bytes.specs.Cells.{Entries};
 ghost use Rattle.column_bytes.specs.Column.{HasCells, kind_in};
 ghost use Rattle.column_bytes.specs.Coding.{AreIntegers, AreOfKind, IsCoding};
-ghost use Rattle.column_bytes.specs.Dictionary.{AreTexts};
+ghost use Rattle.dictionaries.specs.Dictionary.{AreTexts};
 ghost use Rattle.column_bytes.specs.declared.kind.Kind.TheVariants as kinds;
 ghost use Rattle.row_blocks.specs.Headings.{heading_of, kind_of};
 ghost use Rattle.row_blocks.specs.Merging.{AreCells, ArePassed, HasFront, IsEarliest, IsNext, IsNotBefore, earlier, front, front_value, fronts, rest_after};

@@ -2,9 +2,10 @@
 use Rattle.std.proofs.Common.{◌≡◌, ◌∙◌, inl, inr, ℕ, ◌≤◌, List, [], ◌∷◌, ◌++◌, length, take, min, refl, sym, ap, subst, arith, length-append}
 use Rattle.berth_face.specs.Berth.{Meaning}
 use Rattle.row_records.specs.Records.{LogRecord}
-use Rattle.region_layout.proofs.Heads.{closed_head}
-use Rattle.adopt.specs.Adopting.{IsBroken, IsLeftBehind, IsStranger}
-use Rattle.adopt.proofs.Heads.{untouched}
+use Rattle.region_head.proofs.Heads.{closed_head}
+use Rattle.region_head.specs.Closing.{IsBroken}
+use Rattle.adopt.specs.Adopting.{IsLeftBehind, IsStranger}
+use Rattle.region_head.proofs.Closing.{untouched}
 use Rattle.disk_backup.specs.Logs.{open_records}
 use Rattle.disk_backup.specs.Scanning.{BeginsScan, FirstByte, Scanned, begun}
 use Rattle.disk_backup.proofs.Logs.{end_snoc}

@@ -6,9 +6,9 @@ use Rattle.berth_face.specs.Berth.{Meaning}
 use Rattle.row_records.specs.Records.{LogRecord}
 use Rattle.leaf_model.specs.declared.writes.Write.{Write}
 use Rattle.disk_backup.proofs.Logs.{closed_is_log}
-use Rattle.region_layout.specs.declared.head.Head.{Head}
-use Rattle.region_layout.specs.declared.head.Head.TheVariants.{Version}
-use Rattle.region_layout.specs.Head.{head_of}
+use Rattle.region_head.specs.declared.head.Head.{Head}
+use Rattle.region_head.specs.declared.head.Head.TheVariants.{Version}
+use Rattle.region_head.specs.Head.{head_of}
 use Rattle.region_layout.specs.Images.{TableImage}
 use Rattle.region_layout.specs.Images as images
 use Rattle.region_layout.specs.ImageWrites.{AreImagesOf}

@@ -2,7 +2,7 @@
 use Rattle.std.proofs.Common.{◌≡◌, ◌⊎◌, inl, inr, ◌∙◌, ℕ, zero, suc, Bool, true, List, [], ◌∷◌, length, map, Option, refl, sym, ap, subst, arith}
 use Rattle.std.specs.Prelude.{◌≢◌, IsTrue}
 use Rattle.berth_face.specs.Berth.{Meaning, Pair}
-use Rattle.region_layout.proofs.Heads.{shut_head}
+use Rattle.region_head.proofs.Heads.{shut_head}
 use Rattle.adopt.specs.Adopting.{HasNoStranger, IsStranger}
 use Rattle.log_recovery.specs.Recovery.{IsRecoveryRefusal}
 use Rattle.log_recovery.specs.declared.fault.RecoveryFault.TheVariants as found

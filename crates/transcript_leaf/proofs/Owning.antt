@@ -8,8 +8,9 @@ use Rattle.leaf_model.specs.declared.writes.Write.{Write}
 use Rattle.leaf_history.specs.History.{HistoryState}
 use Rattle.row_records.specs.Records.{LogRecord, IsRecord}
 use Rattle.berth_face.specs.Berth.{Meaning, IsClosed}
-use Rattle.region_layout.proofs.Heads.{closed_head}
-use Rattle.adopt.specs.Adopting.{HasNoStranger, IsBroken, IsStranger}
+use Rattle.region_head.proofs.Heads.{closed_head}
+use Rattle.adopt.specs.Adopting.{HasNoStranger, IsStranger}
+use Rattle.region_head.specs.Closing.{IsBroken}
 use Rattle.disk_backup.specs.Logs.{writes_of}
 use Rattle.disk_backup.specs.Settling.{with_writes}
 use Rattle.disk_backup.specs.SoundLogs.{HasSoundLog}

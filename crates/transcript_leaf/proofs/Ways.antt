@@ -3,11 +3,11 @@ use Rattle.std.proofs.Common.{◌≡◌, inl, ℕ, Bool, true, false, cond, ltb,
 use Rattle.std.specs.Prelude.{slice_index}
 use Rattle.std.proofs.lemmas.Bool.{ltb-true}
 use Rattle.berth_face.specs.Berth.{Meaning, Pair, IsClosed}
-use Rattle.region_layout.specs.declared.head.Head.{Head}
-use Rattle.region_layout.specs.declared.head.Head.TheVariants as head
+use Rattle.region_head.specs.declared.head.Head.{Head}
+use Rattle.region_head.specs.declared.head.Head.TheVariants as head
 use Rattle.region_layout.specs.Images.{TableImage}
-use Rattle.region_layout.specs.Head.{head_of, version_of}
-use Rattle.region_layout.proofs.Heads.{closed_head, shut_head}
+use Rattle.region_head.specs.Head.{head_of, version_of}
+use Rattle.region_head.proofs.Heads.{closed_head, shut_head}
 use Rattle.region_layout.specs.Region.{IsAdoptable, reads}
 use Rattle.leaf_words.specs.declared.ways.WhyDisk.{WhyDisk}
 use Rattle.leaf_words.specs.declared.ways.WhyDisk.TheVariants as why

@@ -1,10 +1,10 @@
 use Rattle.std.proofs.Common.{◌≡◌, rules, IsTrue, sym, subst}
-use Rattle.region_layout.specs.declared.head.Head.TheVariants.{Version}
-use Rattle.region_layout.specs.Head.{head_of}
-use Rattle.region_layout.proofs.Heads.{closed_head}
-use Rattle.adopt.specs.Finding.{IsOpenRegion}
+use Rattle.region_head.specs.declared.head.Head.TheVariants.{Version}
+use Rattle.region_head.specs.Head.{head_of}
+use Rattle.region_head.proofs.Heads.{closed_head}
+use Rattle.region_head.specs.Closing.{IsOpenRegion}
 use Rattle.adopt.proofs.Ending.{ended_on, untouched_disks}
-use Rattle.adopt.proofs.Moments.{adopts_stay, adopts_after}
+use Rattle.region_head.proofs.Moments.{adopts_stay, adopts_after}
 use Rattle.adopt.proofs.adopting.find.Goals as goal
 
 pub returns-in-Version-clause-disks : goal.returns-in-Version-clause-disks

@@ -1,9 +1,9 @@
 use Rattle.std.proofs.Common.{◌≡◌, IsTrue, sym, subst}
 use Rattle.berth_face.specs.Berth.{IsClosed}
-use Rattle.adopt.specs.Finding.{closed_flag}
+use Rattle.region_head.specs.Closing.{closed_flag}
 use Rattle.adopt.proofs.Ending.{ended_on}
-use Rattle.adopt.proofs.Heads.{flag_closed}
-use Rattle.adopt.proofs.Moments.{adopts_closed}
+use Rattle.region_head.proofs.Closing.{flag_closed}
+use Rattle.region_head.proofs.Moments.{adopts_closed}
 use Rattle.adopt.proofs.adopting.find_open.Goals as goal
 
 pub returns-clause-told : goal.returns-clause-told

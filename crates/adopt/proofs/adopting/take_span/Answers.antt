@@ -1,7 +1,7 @@
 use Rattle.std.proofs.Common.{IsTrue, sym, subst}
 use Rattle.berth_face.specs.Berth.{Pair, IsClosed}
 use Rattle.adopt.proofs.Ending.{ended_on, untouched_disks}
-use Rattle.adopt.proofs.Moments.{closed_after, short_after}
+use Rattle.region_head.proofs.Moments.{closed_after, short_after}
 use Rattle.adopt.proofs.adopting.take_span.Goals as goal
 
 pub returns-in_err-cut-clause-moments : goal.returns-in_err-cut-clause-moments

@@ -3,8 +3,8 @@ use Rattle.berth_face.specs.Berth.{Pair, IsClosed}
 use Rattle.region_layout.specs.Region.{reads}
 use Rattle.region_reading.specs.declared.looked.Looked.{Looked}
 use Rattle.region_reading.specs.Reading.{LooksAt}
-use Rattle.adopt.specs.Finding.{closed_flag}
-use Rattle.adopt.proofs.Moments.{closed_after}
+use Rattle.region_head.specs.Closing.{closed_flag}
+use Rattle.region_head.proofs.Moments.{closed_after}
 use Rattle.adopt.proofs.Looking.{none_found}
 use Rattle.adopt.proofs.finding.find_closed.Goals as goal
 

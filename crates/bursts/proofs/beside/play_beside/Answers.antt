@@ -6,9 +6,9 @@ use Rattle.bursts.specs.Lent.{MayWork}
 use Rattle.bursts.specs.Needs.{commands_in}
 use Rattle.bursts.specs.Rolling.{rolling}
 use Rattle.bursts.proofs.Cutting.{can_lend}
-use Rattle.bursts.proofs.Held.{pass_on, still_on}
+use Rattle.lane_play.proofs.Held.{pass_on, still_on}
 use Rattle.bursts.proofs.Items.{beside_from, beside_short}
-use Rattle.bursts.specs.Went.{told_lines}
+use Rattle.lane_play.specs.Went.{told_lines}
 use Rattle.bursts.proofs.Hearing.{rolling_append}
 use Rattle.bursts.proofs.Lending.{all_may_work, all_played, none_played}
 use Rattle.bursts.proofs.beside.play_beside.Goals as goal

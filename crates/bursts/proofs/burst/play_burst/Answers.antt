@@ -2,7 +2,7 @@ use Rattle.std.proofs.Common.{◌≤◌, List, map, subst, sym, arith, inl}
 use Rattle.script_text.specs.declared.command.Command.{Command}
 use Rattle.bursts.specs.Needs.{commands_in}
 use Rattle.bursts.proofs.Items.{all_on, beside_or, lines_of_item, plans_lanes, turns_went}
-use Rattle.bursts.specs.Went.{told_lines}
+use Rattle.lane_play.specs.Went.{told_lines}
 use Rattle.script_text.specs.declared.item.Item.TheVariants as item
 use Rattle.bursts.proofs.Hearing.{one_rolls}
 use Rattle.bursts.proofs.Needed.{alone, plans_all, plans_count}

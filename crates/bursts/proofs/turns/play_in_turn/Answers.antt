@@ -4,12 +4,12 @@ use Rattle.script_text.specs.declared.command.Command.{Command}
 use Rattle.script_text.specs.declared.fleet.Fleet.{Fleet}
 use Rattle.bursts.specs.declared.plan.Plan.{Plan}
 use Rattle.bursts.specs.Needs.{IsPlan, commands_in}
-use Rattle.bursts.specs.Played.{MayPlayOn}
+use Rattle.lane_play.specs.Played.{MayPlayOn}
 use Rattle.bursts.proofs.Cutting.{length_snoc}
-use Rattle.bursts.proofs.Held.{pass_none, pass_on, still_on, still_same}
+use Rattle.lane_play.proofs.Held.{pass_none, pass_on, still_on, still_same}
 use Rattle.bursts.proofs.Items.{all_on}
 use Rattle.bursts.proofs.Needed.{all_may}
-use Rattle.bursts.proofs.Playing.{lane_over, turns_begin, turns_go_on, turns_stop, no_lines}
+use Rattle.lane_play.proofs.Playing.{lane_over, turns_begin, turns_go_on, turns_stop, no_lines}
 use Rattle.std.proofs.lemmas.Result.{err_from_is_err_and}
 use Rattle.std.specs.Prelude.{Some}
 use Rattle.bursts.proofs.turns.play_in_turn.Goals as goal

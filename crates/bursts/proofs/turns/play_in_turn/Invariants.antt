@@ -4,7 +4,7 @@ use Rattle.std.specs.VecDeque.{deque_len}
 use Rattle.script_text.specs.declared.command.Command.{Command}
 use Rattle.player.specs.Crew.{AllPass, HasAll, StillHas}
 use Rattle.bursts.specs.Needs.{IsPlan, commands_in}
-use Rattle.bursts.specs.Went.{TurnsWent}
+use Rattle.lane_play.specs.Went.{TurnsWent}
 use Rattle.bursts.proofs.turns.play_in_turn.Given as goal
 
 -- some lanes were played, and the others are left

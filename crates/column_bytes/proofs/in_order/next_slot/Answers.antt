@@ -3,7 +3,7 @@ use Rattle.std.specs.Int.{div_ceil}
 use Rattle.std.proofs.lemmas.Int.{to_z-of_z}
 use Rattle.delta_codes.specs.Slots.{after}
 use Rattle.delta_codes.proofs.Slots.{slot_anchored, slot_between}
-use Rattle.column_bytes.specs.Fields.{i64_at}
+use Rattle.dictionaries.specs.Fields.{i64_at}
 use Rattle.column_bytes.specs.Cells.{anchors_at}
 use Rattle.column_bytes.proofs.Parts.{anchors_at_place}
 use Rattle.column_bytes.proofs.in_order.next_slot.Goals as goal

@@ -1,5 +1,5 @@
 use Rattle.std.proofs.Common.{◌≡◌, ℕ, ◌*◌, ◌<◌, length, slice_index_or, pos}
-use Rattle.column_bytes.specs.Fields.{i64_at}
+use Rattle.dictionaries.specs.Fields.{i64_at}
 use Rattle.column_bytes.proofs.integers.integer_bytes.Given as goal
 
 abbrev pub invariant-loop-integer : goal.invariant-loop-integer

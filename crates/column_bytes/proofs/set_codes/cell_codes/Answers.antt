@@ -5,8 +5,8 @@ use Rattle.leaf_model.specs.Values.{bytes_in}
 use Rattle.leaf_model.specs.declared.rows.Value.TheVariants as values
 use Rattle.leaf_model.specs.Lent.{each_value, lent_value}
 use Rattle.column_bytes.specs.Coding.{IsOfKind}
-use Rattle.column_bytes.specs.Dictionary.{texts_by}
-use Rattle.column_bytes.specs.Sets.{AreSetCodes}
+use Rattle.dictionaries.specs.Dictionary.{texts_by}
+use Rattle.dictionaries.specs.Sets.{AreSetCodes}
 use Rattle.column_bytes.specs.declared.kind.Kind.TheVariants as kinds
 use Rattle.column_bytes.proofs.Lent.{kind_here, length-values, value_here}
 use Rattle.column_bytes.proofs.SetCoding.{codes_none, set_coded_more}

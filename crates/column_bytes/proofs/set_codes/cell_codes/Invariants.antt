@@ -3,8 +3,8 @@ use Rattle.leaf_model.specs.Values.{bytes_in}
 use Rattle.leaf_model.specs.declared.rows.Value.{Value}
 use Rattle.leaf_model.specs.declared.rows.Value.TheVariants.{Set}
 use Rattle.leaf_model.specs.Lent.{each_value}
-use Rattle.column_bytes.specs.Dictionary.{texts_by}
-use Rattle.column_bytes.specs.Sets.{AreSetCodes}
+use Rattle.dictionaries.specs.Dictionary.{texts_by}
+use Rattle.dictionaries.specs.Sets.{AreSetCodes}
 use Rattle.column_bytes.proofs.set_codes.cell_codes.Given as goal
 
 abbrev pub invariant-loop-cell : goal.invariant-loop-cell

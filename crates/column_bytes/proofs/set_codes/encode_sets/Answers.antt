@@ -4,7 +4,7 @@ use Rattle.leaf_model.specs.Lent.{each_value}
 use Rattle.column_bytes.specs.Cells.{Sets}
 use Rattle.column_bytes.specs.Coding.{IsCoding, joined}
 use Rattle.column_bytes.specs.Column.{HasCells}
-use Rattle.column_bytes.specs.Sets.{sets_at, sets_by}
+use Rattle.dictionaries.specs.Sets.{sets_at, sets_by}
 use Rattle.column_bytes.proofs.Lent.{there_same}
 use Rattle.column_bytes.proofs.SetBytes.{bytes_joined}
 use Rattle.column_bytes.proofs.set_codes.encode_sets.Goals as goal

@@ -1,8 +1,8 @@
 use Rattle.std.proofs.Common.{◌≡◌, ◌∷◌, ◌≤◌, ◌++◌, ℕ, List, [], length, sym, ap, subst, arith}
 use Rattle.leaf_model.specs.Lent.{lent_texts}
 use Rattle.leaf_model.specs.Values.{bytes_in}
-use Rattle.column_bytes.specs.Dictionary.{AreKept, AreTexts, texts_by}
-use Rattle.column_bytes.specs.Sets.{AreNumbers}
+use Rattle.dictionaries.specs.Dictionary.{AreKept, AreTexts, texts_by}
+use Rattle.dictionaries.specs.Sets.{AreNumbers}
 use Rattle.column_bytes.proofs.Distinct.{texts_with}
 use Rattle.column_bytes.proofs.SetCoding.{bytes_left, bytes_with, grows_with, kept_on, kept_with, numbered_more, parted_more}
 use Rattle.column_bytes.proofs.set_codes.numbers_of.Goals as goal

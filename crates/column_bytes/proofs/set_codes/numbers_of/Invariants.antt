@@ -1,8 +1,8 @@
 use Rattle.std.proofs.Common.{◌≡◌, ◌+◌, ◌≤◌, ◌++◌, length}
 use Rattle.leaf_model.specs.Lent.{lent_texts}
 use Rattle.leaf_model.specs.Values.{bytes_in}
-use Rattle.column_bytes.specs.Dictionary.{AreKept, AreTexts, texts_by}
-use Rattle.column_bytes.specs.Sets.{AreNumbers}
+use Rattle.dictionaries.specs.Dictionary.{AreKept, AreTexts, texts_by}
+use Rattle.dictionaries.specs.Sets.{AreNumbers}
 use Rattle.column_bytes.proofs.set_codes.numbers_of.Given as goal
 
 abbrev pub invariant-loop-text : goal.invariant-loop-text

@@ -1,5 +1,5 @@
 use Rattle.std.proofs.Common.{◌≡◌, ◌++◌, take}
-use Rattle.column_bytes.specs.Sets.{number_bytes}
+use Rattle.dictionaries.specs.Sets.{number_bytes}
 use Rattle.column_bytes.proofs.set_codes.put_numbers.Given as goal
 
 abbrev pub invariant-loop-number : goal.invariant-loop-number

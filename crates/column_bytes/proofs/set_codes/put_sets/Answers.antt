@@ -1,6 +1,6 @@
 use Rattle.std.proofs.Common.{ℕ, Vec, Global, ◌≡◌, ◌++◌, [], take, slice_index_or, sym, ap, ap₂, ◌∙◌, append_assoc, arith}
 use Rattle.column_bytes.specs.Coding.{joined}
-use Rattle.column_bytes.specs.Sets.{number_bytes, numbers_in}
+use Rattle.dictionaries.specs.Sets.{number_bytes, numbers_in}
 use Rattle.column_bytes.proofs.JoinedTexts.{joined_more}
 use Rattle.column_bytes.proofs.SetBytes.{numbers_both}
 use Rattle.column_bytes.proofs.SetCoding.{numbers_at, length-numbers_in}

@@ -4,7 +4,7 @@ use Rattle.leaf_model.specs.Lent.{lent_value}
 use Rattle.leaf_model.specs.Values.{IsSet}
 use Rattle.column_bytes.specs.declared.kind.Kind.TheVariants as kinds
 use Rattle.column_bytes.specs.Coding.{IsOfKind}
-use Rattle.column_bytes.specs.Sets.{AreSetCodes}
+use Rattle.dictionaries.specs.Sets.{AreSetCodes}
 use Rattle.column_bytes.proofs.SetCoding.{codes_with}
 use Rattle.column_bytes.proofs.set_codes.set_code.Goals as goal
 

@@ -1,7 +1,7 @@
 use Rattle.std.proofs.Common.{◌≡◌, ◌++◌, sym, ap, subst, ◌∙◌, append_assoc, arith}
 use Rattle.column_bytes.specs.Coding.{joined}
-use Rattle.column_bytes.specs.Dictionary.{lent}
-use Rattle.column_bytes.specs.Sets.{number_bytes, numbers_in}
+use Rattle.dictionaries.specs.Dictionary.{lent}
+use Rattle.dictionaries.specs.Sets.{number_bytes, numbers_in}
 use Rattle.column_bytes.proofs.Distinct.{length-lent}
 use Rattle.column_bytes.proofs.SetBytes.{IsSetsMade, members_few, sets_made}
 use Rattle.column_bytes.proofs.SetCoding.{length-numbers_in}

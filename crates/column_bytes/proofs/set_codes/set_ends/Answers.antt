@@ -1,8 +1,8 @@
 use Rattle.std.proofs.Common.{ℕ, Vec, Global, ◌≡◌, ◌+◌, ◌*◌, ◌<◌, ◌^◌, ◌++◌, [], length, slice_index_or, refl, sym, ap, below_more, ◌∙◌, length-append, arith}
 use Rattle.byteorder.specs.Endian.{little_bytes}
-use Rattle.column_bytes.specs.Fields.{u32_at}
+use Rattle.dictionaries.specs.Fields.{u32_at}
 use Rattle.column_bytes.specs.Coding.{end_at}
-use Rattle.column_bytes.specs.Sets.{numbers_in}
+use Rattle.dictionaries.specs.Sets.{numbers_in}
 use Rattle.column_bytes.proofs.Spelled.{length-little, u32_front, u32_written}
 use Rattle.column_bytes.proofs.JoinedTexts.{end_more, end_upto}
 use Rattle.column_bytes.proofs.SetCoding.{length-numbers_in, numbers_at}

@@ -1,7 +1,7 @@
 use Rattle.std.proofs.Common.{◌≡◌, ℕ, ◌+◌, ◌*◌, ◌<◌, length}
-use Rattle.column_bytes.specs.Fields.{u32_at}
+use Rattle.dictionaries.specs.Fields.{u32_at}
 use Rattle.column_bytes.specs.Coding.{end_at}
-use Rattle.column_bytes.specs.Sets.{numbers_in}
+use Rattle.dictionaries.specs.Sets.{numbers_in}
 use Rattle.column_bytes.proofs.set_codes.set_ends.Given as goal
 
 abbrev pub invariant-loop-numbers : goal.invariant-loop-numbers

@@ -4,7 +4,7 @@ use Rattle.std.specs.Int.{div_ceil}
 use Rattle.bit_columns.specs.Bits.{codes}
 use Rattle.delta_codes.specs.Slots.{slot, after}
 use Rattle.delta_codes.proofs.Slots.{slot_anchored, slot_between}
-use Rattle.column_bytes.specs.Fields.{i64_at}
+use Rattle.dictionaries.specs.Fields.{i64_at}
 use Rattle.column_bytes.specs.Cells.{anchors_at}
 use Rattle.column_bytes.proofs.Parts.{codes_at, anchors_at_place}
 use Rattle.column_bytes.proofs.slots.slot_at.Goals as goal

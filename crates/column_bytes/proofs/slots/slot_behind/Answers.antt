@@ -4,7 +4,7 @@ use Rattle.std.proofs.lemmas.Int.{to_z-of_z}
 use Rattle.bit_columns.specs.Bits.{codes}
 use Rattle.delta_codes.specs.Slots.{after}
 use Rattle.delta_codes.proofs.Slots.{slot_anchored, slot_between}
-use Rattle.column_bytes.specs.Fields.{i64_at}
+use Rattle.dictionaries.specs.Fields.{i64_at}
 use Rattle.column_bytes.specs.Cells.{anchors_at}
 use Rattle.column_bytes.proofs.Parts.{codes_at, anchors_at_place}
 use Rattle.column_bytes.proofs.slots.slot_behind.Goals as goal

@@ -2,7 +2,7 @@ use Rattle.std.proofs.Common.{◌≡◌, ℕ, ◌<◌, ◌≤◌, [], length, So
 use Rattle.leaf_model.specs.declared.rows.Value.{Value}
 use Rattle.leaf_model.specs.declared.rows.Value.TheVariants.{Text}
 use Rattle.leaf_model.specs.Lent.{each_value}
-use Rattle.column_bytes.specs.Dictionary.{AreTexts}
+use Rattle.dictionaries.specs.Dictionary.{AreTexts}
 use Rattle.column_bytes.proofs.text_codes.cell_codes.Given as goal
 
 abbrev pub invariant-loop-cell : goal.invariant-loop-cell

@@ -1,7 +1,7 @@
 use Rattle.std.proofs.Common.{◌≡◌, [], length, slice_index_or, sym, ap, ap₂, subst, ◌∙◌, arith}
 use Rattle.std.proofs.lemmas.List.{get_or_default, length_push}
 use Rattle.std.proofs.lemmas.List.Sums.{fold_more}
-use Rattle.column_bytes.specs.Dictionary.{AreKept, with_text}
+use Rattle.dictionaries.specs.Dictionary.{AreKept, with_text}
 use Rattle.column_bytes.proofs.Distinct.{texts_by_each, value_more}
 use Rattle.column_bytes.proofs.SetCoding.{kept_with}
 use Rattle.column_bytes.proofs.text_codes.codes_of.Goals as goal

@@ -1,5 +1,5 @@
 use Rattle.std.proofs.Common.{◌≡◌, ℕ, ◌<◌, [], length, take, slice_index, slice_index_or}
-use Rattle.column_bytes.specs.Dictionary.{distinct}
+use Rattle.dictionaries.specs.Dictionary.{distinct}
 use Rattle.column_bytes.proofs.text_codes.codes_of.Given as goal
 
 abbrev pub invariant-loop-value : goal.invariant-loop-value

@@ -1,5 +1,5 @@
 use Rattle.std.proofs.Common.{◌+◌, ◌*◌, sym, ap, ◌∙◌, arith}
-use Rattle.column_bytes.specs.Dictionary.{lent}
+use Rattle.dictionaries.specs.Dictionary.{lent}
 use Rattle.column_bytes.proofs.Distinct.{length-lent}
 use Rattle.column_bytes.proofs.JoinedTexts.{IsMade, made}
 use Rattle.column_bytes.proofs.text_codes.dictionary_bytes.Goals as goal

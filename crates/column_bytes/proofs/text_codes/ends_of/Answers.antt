@@ -1,7 +1,7 @@
 use Rattle.std.proofs.Common.{List, ℕ, Bor, ◌≡◌, ◌+◌, ◌*◌, ◌<◌, ◌^◌, ◌++◌, [], length, slice_index_or, refl, ap, below_more, ◌∙◌, length-append, arith}
 use Rattle.byteorder.specs.Endian.{little_bytes}
-use Rattle.column_bytes.specs.Fields.{u32_at}
-use Rattle.column_bytes.specs.Dictionary.{lent}
+use Rattle.dictionaries.specs.Fields.{u32_at}
+use Rattle.dictionaries.specs.Dictionary.{lent}
 use Rattle.column_bytes.specs.Coding.{end_at}
 use Rattle.column_bytes.proofs.Spelled.{length-little, u32_front, u32_written}
 use Rattle.column_bytes.proofs.Distinct.{lent_at, length-lent}

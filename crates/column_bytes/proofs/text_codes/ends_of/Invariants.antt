@@ -1,6 +1,6 @@
 use Rattle.std.proofs.Common.{◌≡◌, ℕ, ◌+◌, ◌*◌, ◌<◌, length}
-use Rattle.column_bytes.specs.Fields.{u32_at}
-use Rattle.column_bytes.specs.Dictionary.{lent}
+use Rattle.dictionaries.specs.Fields.{u32_at}
+use Rattle.dictionaries.specs.Dictionary.{lent}
 use Rattle.column_bytes.specs.Coding.{end_at}
 use Rattle.column_bytes.proofs.text_codes.ends_of.Given as goal
 

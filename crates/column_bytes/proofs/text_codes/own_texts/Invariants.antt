@@ -1,5 +1,5 @@
 use Rattle.std.proofs.Common.{◌≡◌, take}
-use Rattle.column_bytes.specs.Dictionary.{lent}
+use Rattle.dictionaries.specs.Dictionary.{lent}
 use Rattle.column_bytes.proofs.text_codes.own_texts.Given as goal
 
 abbrev pub invariant-loop-text : goal.invariant-loop-text

@@ -1,5 +1,5 @@
 use Rattle.std.proofs.Common.{◌≡◌, ◌+◌, ◌++◌, [], take, slice_index_or, sym, ap, ap₂, ◌∙◌, append_assoc, arith}
-use Rattle.column_bytes.specs.Dictionary.{lent}
+use Rattle.dictionaries.specs.Dictionary.{lent}
 use Rattle.column_bytes.specs.Coding.{joined}
 use Rattle.column_bytes.proofs.Distinct.{lent_at, lent_take, length-lent}
 use Rattle.column_bytes.proofs.JoinedTexts.{joined_more}

@@ -1,5 +1,5 @@
 use Rattle.std.proofs.Common.{◌≡◌, ◌++◌, take}
-use Rattle.column_bytes.specs.Dictionary.{lent}
+use Rattle.dictionaries.specs.Dictionary.{lent}
 use Rattle.column_bytes.specs.Coding.{joined}
 use Rattle.column_bytes.proofs.text_codes.put_texts.Given as goal
 

@@ -1,6 +1,6 @@
 use Rattle.std.proofs.Common.{List, ℕ, ◌<◌, length, sym, subst, arith}
 use Rattle.column_bytes.specs.Coding.{joined}
-use Rattle.column_bytes.specs.Dictionary.{AreTexts}
+use Rattle.dictionaries.specs.Dictionary.{AreTexts}
 use Rattle.column_bytes.proofs.JoinedTexts.{joined_small}
 use Rattle.column_bytes.proofs.text_codes.text_column.Goals as goal
 

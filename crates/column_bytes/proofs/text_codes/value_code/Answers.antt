@@ -3,7 +3,7 @@ use Rattle.leaf_model.specs.declared.lent_cells.LentValue.{LentValue}
 use Rattle.leaf_model.specs.Lent.{lent_value}
 use Rattle.column_bytes.specs.declared.kind.Kind.TheVariants as kinds
 use Rattle.column_bytes.specs.Coding.{IsOfKind}
-use Rattle.column_bytes.specs.Dictionary.{AreTexts}
+use Rattle.dictionaries.specs.Dictionary.{AreTexts}
 use Rattle.column_bytes.proofs.Distinct.{texts_with}
 use Rattle.column_bytes.proofs.text_codes.value_code.Goals as goal
 

@@ -1,6 +1,6 @@
 use Rattle.std.proofs.Common.{rules, ◌<◌, sym, ◌∙◌, arith, tests}
-use Rattle.column_bytes.proofs.Parts.{length-texts}
-use Rattle.column_bytes.proofs.SetParts.{length-sets}
+use Rattle.dictionaries.proofs.Places.{length-texts}
+use Rattle.dictionaries.proofs.SetParts.{length-sets}
 use Rattle.column_bytes.proofs.view.is_code.Goals as goal
 
 pub returns-in-Dictionary : goal.returns-in-Dictionary

@@ -1,7 +1,7 @@
 use Rattle.std.proofs.Common.{sym, subst, ◌∙◌, arith}
 use Rattle.column_bytes.specs.Cells.{IsCode, book_of}
-use Rattle.column_bytes.proofs.Parts.{length-texts}
-use Rattle.column_bytes.proofs.SetParts.{length-sets}
+use Rattle.dictionaries.proofs.Places.{length-texts}
+use Rattle.dictionaries.proofs.SetParts.{length-sets}
 use Rattle.column_bytes.proofs.view.last_code.Goals as goal
 
 pub returns-in-Dictionary : goal.returns-in-Dictionary

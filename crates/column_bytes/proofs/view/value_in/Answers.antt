@@ -2,12 +2,13 @@ use Rattle.std.proofs.Common.{rules, ◌<◌, ◌+ℤ◌, pos, slice_index_or, [
 use Rattle.std.proofs.lemmas.Int.{to_z-of_z}
 use Rattle.bit_columns.specs.Bits.{code}
 use Rattle.leaf_model.specs.declared.rows.Value.TheVariants as values
-use Rattle.column_bytes.specs.Dictionary.{text_count, texts_at}
+use Rattle.dictionaries.specs.Dictionary.{text_count, texts_at}
 use Rattle.column_bytes.specs.declared.form.Form.{Form}
 use Rattle.column_bytes.specs.Cells.{IsCode, book_of}
-use Rattle.column_bytes.proofs.Parts.{codes_at, length-texts, texts_at_place}
-use Rattle.column_bytes.specs.Sets.{sets_at, sets_part}
-use Rattle.column_bytes.proofs.SetParts.{length-sets, sets_at_place}
+use Rattle.dictionaries.proofs.Places.{length-texts, texts_at_place}
+use Rattle.column_bytes.proofs.Parts.{codes_at}
+use Rattle.dictionaries.specs.Sets.{sets_at, sets_part}
+use Rattle.dictionaries.proofs.SetParts.{length-sets, sets_at_place}
 use Rattle.column_bytes.proofs.view.value_in.Goals as goal
 
 pub text_of-requires-clause-within : goal.text_of-requires-clause-within

@@ -1,4 +1,4 @@
-use Rattle.region_layout.proofs.Heads.{closed_head, open_head}
+use Rattle.region_head.proofs.Heads.{closed_head, open_head}
 use Rattle.region_layout.proofs.laws.one_head.Goals as goal
 
 pub returns-clause-closed : goal.returns-clause-closed

@@ -2,7 +2,7 @@ use Rattle.std.proofs.Common.{◌≡◌, ◌≤◌, is_some, length, map, take}
 use Rattle.leaf_model.specs.Lent.{each_cells, lent_cell}
 use Rattle.column_bytes.specs.Cells.{Entries}
 use Rattle.column_bytes.specs.Coding.{IsCoding}
-use Rattle.column_bytes.specs.Dictionary.{AreTexts}
+use Rattle.dictionaries.specs.Dictionary.{AreTexts}
 use Rattle.row_blocks.specs.Headings.{heading_of}
 use Rattle.row_blocks.specs.Merging.{ArePassed, fronts}
 use Rattle.row_blocks.proofs.fronts.codes_under.Given as goal

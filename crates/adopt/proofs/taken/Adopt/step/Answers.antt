@@ -1,4 +1,5 @@
-use Rattle.adopt.proofs.Moments.{closed_start, in_room, short_start}
+use Rattle.region_head.proofs.Moments.{closed_start, short_start}
+use Rattle.adopt.proofs.Room.{in_room}
 use Rattle.adopt.proofs.Taking.{begins_inside}
 use Rattle.adopt.proofs.taken.Adopt.step.Goals as goal
 

@@ -4,7 +4,7 @@ use Rattle.std.proofs.lemmas.Result.{err_from_is_err_and}
 use Rattle.adopt.specs.Adopting.{Adopting, AdoptsOn, BreaksNow, IsLeftBehind, IsNoImage, NextMeansCells}
 use Rattle.adopt.specs.Finding.{TakesSpan}
 use Rattle.adopt.specs.Taken.{AdoptState}
-use Rattle.adopt.proofs.Moments.{in_room}
+use Rattle.adopt.proofs.Room.{in_room}
 use Rattle.adopt.proofs.Stepping.{column_fails, column_none, column_taken, held_fits, put_fails}
 use Rattle.adopt.proofs.Taking.{begins_inside}
 use Rattle.adopt.proofs.Tracking.{keeps_track, one_less}

@@ -1,7 +1,7 @@
 use Rattle.std.proofs.Common.{ap, sym, ◌∙◌}
 use Rattle.std.proofs.lemmas.Slice.Eq.{bytes_eq-Decides}
-use Rattle.column_bytes.specs.Dictionary.{with_text}
-use Rattle.column_bytes.specs.Sets.{numbers_in}
+use Rattle.dictionaries.specs.Dictionary.{with_text}
+use Rattle.dictionaries.specs.Sets.{numbers_in}
 use Rattle.column_bytes.proofs.SetCoding.{numbers_insert, numbers_found}
 use Rattle.column_bytes.proofs.set_numbers.SetNumbers.code_of.Goals as goal
 

@@ -2,11 +2,11 @@ use Rattle.std.proofs.Common.{length, sym, ap, ◌∙◌}
 use Rattle.std.proofs.lemmas.List.{length-map}
 use Rattle.leaf_model.specs.declared.rows.Value.TheVariants as values
 use Rattle.column_bytes.specs.declared.form.Form.{Form}
-use Rattle.column_bytes.specs.Dictionary.{texts_at}
-use Rattle.column_bytes.specs.Sets.{sets_at}
+use Rattle.dictionaries.specs.Dictionary.{texts_at}
+use Rattle.dictionaries.specs.Sets.{sets_at}
 use Rattle.column_bytes.specs.Cells.{Coded, book_of, entries}
-use Rattle.column_bytes.proofs.Parts.{length-texts}
-use Rattle.column_bytes.proofs.SetParts.{length-sets}
+use Rattle.dictionaries.proofs.Places.{length-texts}
+use Rattle.dictionaries.proofs.SetParts.{length-sets}
 use Rattle.column_bytes.proofs.view.ColumnView.entries.Goals as goal
 
 pub returns-in-Dictionary : goal.returns-in-Dictionary

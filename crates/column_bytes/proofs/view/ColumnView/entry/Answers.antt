@@ -2,11 +2,11 @@ use Rattle.std.proofs.Common.{◌<◌, [], length, slice_index_or, sym, ap, ◌�
 use Rattle.std.proofs.lemmas.List.{get_or-map, length-map}
 use Rattle.leaf_model.specs.declared.rows.Value.TheVariants as values
 use Rattle.column_bytes.specs.declared.form.Form.{Form}
-use Rattle.column_bytes.specs.Dictionary.{text_count, texts_at}
-use Rattle.column_bytes.specs.Sets.{sets_at, sets_part}
+use Rattle.dictionaries.specs.Dictionary.{text_count, texts_at}
+use Rattle.dictionaries.specs.Sets.{sets_at, sets_part}
 use Rattle.column_bytes.specs.Cells.{Coded, book_of, entries, no_value}
-use Rattle.column_bytes.proofs.Parts.{length-texts, texts_at_place}
-use Rattle.column_bytes.proofs.SetParts.{length-sets, sets_at_place}
+use Rattle.dictionaries.proofs.Places.{length-texts, texts_at_place}
+use Rattle.dictionaries.proofs.SetParts.{length-sets, sets_at_place}
 use Rattle.column_bytes.proofs.view.ColumnView.entry.Goals as goal
 
 pub text_of-requires-clause-within : goal.text_of-requires-clause-within

@@ -1,0 +1,4 @@
+pub mod Heard
+pub mod Held
+pub mod Still
+pub mod Playing
