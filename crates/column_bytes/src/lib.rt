@@ -4,6 +4,7 @@
 mod column;
 mod fields;
 mod form;
+mod guesses;
 mod header;
 mod in_order;
 mod integers;
