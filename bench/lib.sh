@@ -125,6 +125,12 @@ most() {
   sort -g -k "$2,$2" "$out/$1.times" | awk -v column="$2" '{ figure = $column } END { print figure }'
 }
 
+# least NAME [COLUMN]: the least figure of its runs in that column, the first where none is named
+least() {
+  local column=${2-1}
+  sort -g -k "$column,$column" "$out/$1.times" | awk -v column="$column" 'NR == 1 { print $column }'
+}
+
 # at_least FIGURE LEAST: whether a figure is at least so great
 at_least() {
   awk -v figure="$1" -v least="$2" 'BEGIN { exit !(figure + 0 >= least + 0) }'
@@ -173,4 +179,67 @@ fill() {
 # times N LINE: a line, so many times
 times() {
   awk -v n="$1" -v line="$2" 'BEGIN { for (i = 0; i < n; i++) print line }'
+}
+
+# ---- ClickHouse: a server of its own, whose files stand in a folder; $clickhouse is its process
+
+# has_clickhouse: whether its server and its client are there; where they are not, says that the peer is skipped
+has_clickhouse() {
+  has clickhouse-server ClickHouse && has clickhouse-client ClickHouse
+}
+
+# clickhouse_up FOLDER: starts a server over a folder that is there
+clickhouse_up() {
+  local i
+  "$bench/peers/clickhouse" "$1" >"$out/server" 2>&1 &
+  clickhouse=$!
+  for ((i = 0; i < 100; i++)); do
+    if [ -s "$1/port" ]; then
+      port=$(cat "$1/port")
+      by_clickhouse 'SELECT 1' </dev/null >"$out/server" 2>&1 && return
+    fi
+    sleep 0.1
+  done
+  fail "ClickHouse did not start"
+}
+
+clickhouse_down() {
+  kill "$clickhouse" && wait "$clickhouse"
+}
+
+# by_clickhouse [QUERY]: what the server answers to a query, whose rows the input has where it inserts; without one, to the queries of the input
+by_clickhouse() {
+  clickhouse-client --host 127.0.0.1 --port "$port" --multiquery ${1:+--query "$1"}
+}
+
+# clickhouse_used: the processor seconds of the server so far
+clickhouse_used() {
+  awk -v second="$(getconf CLK_TCK)" '{ printf "%.2f", ($14 + $15) / second }' "/proc/$clickhouse/stat"
+}
+
+# once_clickhouse NAME INPUT [QUERY]: as `once`: the input is the queries, or what a query inserts; the processor seconds are the server's, and no peak is told (0)
+once_clickhouse() {
+  local name=$1 input=$2 before began
+  shift 2
+  before=$(clickhouse_used)
+  began=$EPOCHREALTIME
+  by_clickhouse "$@" <"$input" >"$out/$name.answer" 2>"$out/error" || fail "$name failed: $(tail -n 1 "$out/error")"
+  awk -v began="$began" -v ended="$EPOCHREALTIME" -v before="$before" -v after="$(clickhouse_used)" 'BEGIN { printf "%.3f 0 %.4f\n", after - before, ended - began }' >>"$out/$name.times"
+}
+
+# serde PEER: builds peers/PEER.rs over serde_json of Debian's librust-serde-json-dev as $out/PEER
+serde() {
+  local at=$out/$1.cargo
+  mkdir -p "$at/src" && cp "$bench/peers/$1.rs" "$at/src/main.rs" || exit 1
+  printf '[package]\nname = "%s"\nversion = "1.0.0"\nedition = "2021"\n[dependencies]\nserde_json = "1"\n' "$1" >"$at/Cargo.toml"
+  cargo build --quiet --offline --release --manifest-path "$at/Cargo.toml" --config 'source.crates-io.replace-with="debian"' --config "source.debian.directory=\"$registry\"" ||
+    fail "peers/$1.rs could not be built"
+  cp "$at/target/release/$1" "$out/$1"
+}
+
+# has_serde: whether serde_json and cargo are there to be built with; where they are not, says that the peer is skipped
+registry=/usr/share/cargo/registry
+has_serde() {
+  has cargo serde_json || return
+  [ -n "$(find "$registry" -maxdepth 1 -name 'serde_json-*' -print -quit 2>/dev/null)" ] || { echo "serde_json: skipped, since $registry has none"; return 1; }
 }

@@ -3,7 +3,9 @@ use Rattle.std.proofs.Common.{◌≡◌, ℕ, zero, suc, ◌+◌, ◌<◌, Bool,
 use Rattle.std.specs.List.{list_any}
 use Rattle.std.proofs.lemmas.Bool.{cases_lt}
 use Rattle.std.proofs.lemmas.List.{get_or_append_left, length_push}
+use Rattle.std.proofs.lemmas.List.Folds.{list_any_at}
 use Rattle.std.proofs.lemmas.Option.{get_or_from_slice_get, slice_get_within}
+use Rattle.std.proofs.lemmas.Slice.Eq.{bytes_eq-Decides}
 use Rattle.std.proofs.Math.Seq.{get_or-append_seam}
 use Rattle.indexmap.specs.IndexSet.{insert_key}
 use Rattle.leaf_model.specs.declared.rows.Value.{Value}
@@ -49,6 +51,11 @@ lent_take [] (suc i) = refl
 lent_take (text ∷ texts) (suc i) = ap (λ xs. text.now ∷ xs) (lent_take texts i)
 
 -- ---- one text more
+
+-- a text that is there is put nowhere
+pub with_known : (seen : List (List ℕ)) (text : List ℕ) (k : ℕ) → k < length seen → slice_index_or seen k [] ≡ text → seen ≡ with_text seen text
+with_known seen text k within here =
+    sym (ap (λ b. if b then seen else seen ++ text ∷ []) (list_any_at (bytes_eq text) seen k [] within ((bytes_eq-Decides text (slice_index_or seen k [])).1 (sym here))))
 
 texts_if : (b : Bool) (seen : List (List ℕ)) (text : List ℕ) → AreTexts seen → IsText text → AreTexts (if b then seen else seen ++ text ∷ [])
 texts_if true seen text are is = are

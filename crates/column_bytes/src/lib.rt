@@ -3,6 +3,7 @@
 
 mod column;
 mod form;
+mod guesses;
 mod header;
 mod in_order;
 mod integers;
