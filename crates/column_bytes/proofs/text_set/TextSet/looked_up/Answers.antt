@@ -1,6 +1,6 @@
 use Rattle.std.proofs.Common.{ap, sym, ◌∙◌}
 use Rattle.std.proofs.lemmas.Slice.Eq.{bytes_eq-Decides}
-use Rattle.column_bytes.specs.Dictionary.{with_text, lent}
+use Rattle.dictionaries.specs.Dictionary.{with_text, lent}
 use Rattle.column_bytes.proofs.Distinct.{lent_insert, lent_found}
 use Rattle.column_bytes.proofs.text_set.TextSet.looked_up.Goals as goal
 
