@@ -1,12 +1,13 @@
 -- The lines of a text are counted by their ends.
-use Rattle.std.proofs.Common.{◌≡◌, ◌<◌, ◌≤◌, ◌+◌, ◌-◌, ℕ, suc, List, [], ◌∷◌, ◌++◌, length, take, drop, get_or, refl, ap, sym, ◌∙◌, arith, Bool, true, false, eqb, add-zero, length-append}
+use Rattle.std.proofs.Common.{◌≡◌, ◌<◌, ◌≤◌, ◌+◌, ◌-◌, ℕ, zero, suc, max, List, [], ◌∷◌, ◌++◌, length, take, drop, get_or, refl, ap, sym, ◌∙◌, arith, Bool, true, false, eqb, add-zero, zero-add, length-append}
 use Rattle.std.specs.Prelude.{◌==◌, if◌then◌else◌, slice_index}
 use Rattle.std.specs.List.{onto_first}
-use Rattle.std.proofs.lemmas.List.{take-append-drop, length-map}
+use Rattle.std.proofs.lemmas.Bool.{eqb-true, false_from_ne_true}
+use Rattle.std.proofs.lemmas.List.{take-append-drop, length-map, length-drop, drop-drop, get_or-drop}
 use Rattle.std.proofs.lemmas.Grind.{take_at_read}
 use Rattle.text_lines.specs.Lines.{lines, lines_of, without_return}
 use Rattle.text_lines.specs.Parts.{ends, ends_line}
-use Rattle.text_lines.proofs.InParts.{some_line}
+use Rattle.text_lines.proofs.InParts.{ends_line-push, some_line}
 
 joined_by : (x : ℕ) (a b : List ℕ) (is : Bool) → eqb x 10 ≡ is → ends (a ++ b) ≡ ends a + ends b → ends (x ∷ (a ++ b)) ≡ ends (x ∷ a) + ends b
 joined_by x a b true is later = rw is (omega (arith, later))
@@ -69,3 +70,34 @@ ends_step text rest front back count more first others is few so_far within =
   where
     sums : (f b r t count more lf lb lr lt : ℕ) → f + b ≡ r → lf + lb ≡ lr → more ≡ f → more ≤ lf → count + r ≡ t → count + lr ≤ lt → (count + more + b ≡ t) × (count + more + lb ≤ lt)
     sums f b r t count more lf lb lr lt all size is few so_far within = (omega (arith, all, is, so_far), omega (arith, size, few, within))
+
+-- ---- the last line that has its end
+
+-- no line ends from a place on
+ends_none : (text : List ℕ) (i : ℕ) → ((k : ℕ) → i ≤ k → k < length text → eqb (get_or text k 0) 10 ≡ true → ⊥) → ends (drop i text) ≡ 0
+ends_none [] zero none = refl
+ends_none [] (suc i) none = refl
+ends_none (b ∷ bs) zero none =
+    let here : eqb b 10 ≡ false = false_from_ne_true _ (none 0 (omega arith) (omega arith)) in
+    rw here (zero-add (ends bs) ∙ ends_none bs zero (λ k low high. none (suc k) (omega arith) (omega arith)))
+ends_none (b ∷ bs) (suc i) none = ends_none bs i (λ k low high. none (suc k) (omega arith) (omega arith))
+
+module _ (text piece : List ℕ) (looked at : ℕ) (is : piece ≡ drop looked text) (within : at < length piece) where
+  inside : looked + at < length text
+  inside = omega (arith, within, ap length is, length-drop looked text)
+
+  pub end_found : eqb (get_or piece at 0) 10 ≡ true → ends_line (take (looked + at + 1) text) ≡ true
+  end_found found =
+      let same : get_or piece at 0 ≡ get_or text (looked + at) 0 = ap (λ (l : List ℕ). get_or l at 0) is ∙ get_or-drop looked text at 0 in
+      let last : get_or text (looked + at) 0 ≡ 10 = sym same ∙ eqb-true _ _ found in
+      ap ends_line ((take_at_read text (looked + at) 0 inside).1 ∙ ap (λ (b : ℕ). take (looked + at) text ++ b ∷ []) last) ∙ ends_line-push (take (looked + at) text)
+
+  pub end_last : ((k : ℕ) → at + 1 ≤ k → k < length piece → eqb (get_or piece k 0) 10 ≡ true → ⊥) → ends (drop (max (looked + at + 1) looked) text) ≡ 0
+  end_last none =
+      let most : max (looked + at + 1) looked ≡ looked + (at + 1) = omega arith in
+      ap ends (ap (λ (k : ℕ). drop k text) most ∙ sym (drop-drop (at + 1) looked text) ∙ ap (drop (at + 1)) (sym is)) ∙ ends_none piece (at + 1) none
+
+pub no_end : (text piece : List ℕ) (looked : ℕ) → piece ≡ drop looked text → ((k : ℕ) → 0 ≤ k → k < length piece → eqb (get_or piece k 0) 10 ≡ true → ⊥) → ends (drop (max 0 looked) text) ≡ 0
+no_end text piece looked is none =
+    let most : max 0 looked ≡ looked = omega arith in
+    ap ends (ap (λ (k : ℕ). drop k text) most ∙ sym is) ∙ ends_none piece 0 none

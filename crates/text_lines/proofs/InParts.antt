@@ -23,12 +23,12 @@ before_behind at (b ∷ bs) = before_behind_by at b bs (eqb b at) refl (before_b
 pub line_cut : (text line rest : List ℕ) → line ≡ before 10 text → rest ≡ behind 10 text → IsLineCut text line rest
 line_cut text line rest first others = rw (first, others) (before_behind 10 text)
 
-ends_line-push : (xs : List ℕ) → ends_line (xs ++ 10 ∷ []) ≡ true
+pub ends_line-push : (xs : List ℕ) → ends_line (xs ++ 10 ∷ []) ≡ true
 ends_line-push [] = refl
 ends_line-push (b ∷ []) = refl
 ends_line-push (b ∷ c ∷ bs) = ends_line-push (c ∷ bs)
 
-ends_line-append : (a b : List ℕ) → ends_line a ≡ true → ends_line b ≡ true → ends_line (a ++ b) ≡ true
+pub ends_line-append : (a b : List ℕ) → ends_line a ≡ true → ends_line b ≡ true → ends_line (a ++ b) ≡ true
 ends_line-append [] b first last = last
 ends_line-append (x ∷ []) [] first last = first
 ends_line-append (x ∷ []) (y ∷ ys) first last = last
@@ -51,7 +51,7 @@ lines_joined [] b ended = refl
 lines_joined (x ∷ []) b ended = rw ended refl
 lines_joined (x ∷ y ∷ ys) b ended = joined_by x (y ∷ ys) b (eqb x 10) refl (some_line y ys) (lines_joined (y ∷ ys) b ended)
 
-lines_of-joined : (a b : List ℕ) → ends_line a ≡ true → lines_of (a ++ b) ≡ lines_of a ++ lines_of b
+pub lines_of-joined : (a b : List ℕ) → ends_line a ≡ true → lines_of (a ++ b) ≡ lines_of a ++ lines_of b
 lines_of-joined a b ended = ap (map without_return) (lines_joined a b ended) ∙ map-append without_return (lines a) (lines b)
 
 split_at : (text front back : List ℕ) (k : ℕ) → front ++ back ≡ text → k ≡ length text - length back → (take k text ≡ front) × (drop k text ≡ back)

@@ -8,4 +8,4 @@ mod passing;
 
 pub use ends::line_count;
 pub use lines::{cut_at, cut_line, cut_lines, is_blank, is_skipped, without_return};
-pub use parts::{MANY_LINES, parts_of};
+pub use parts::{MANY_LINES, last_end, parts_of};

@@ -1,9 +1,10 @@
 // A text in parts that threads read side by side.
-ghost use Rattle.std.specs.Prelude.{◌≡◌, ◌<◌, length, true, IfOk};
+ghost use Rattle.std.specs.Prelude.{◌≡◌, ◌<◌, ◌≤◌, ◌⊎◌, length, take, drop, max, true, IfOk};
 ghost use Rattle.text_lines.specs.Lines.{lines_of};
-ghost use Rattle.text_lines.specs.Parts.{IsTextCut, bytes_of_parts, ends_line, lines_of_parts};
+ghost use Rattle.text_lines.specs.Parts.{IsTextCut, bytes_of_parts, ends, ends_line, lines_of_parts};
 
 use crate::lines::{cut_line, cut_lines};
+use memchr::memrchr;
 use std::alloc::{AllocError, Global};
 
 /// So few lines are read by one thread: another would cost more than it takes over.
@@ -52,4 +53,18 @@ pub fn cut_behind(text: &[u8], place: usize) -> (&[u8], &[u8])
 {
     let (_, rest) = cut_line(&text[place..]);
     text.split_at(text.len() - rest.len())
+}
+
+/// Where the last line that has its end has ended, if that is behind so many first bytes; else 0.
+pub fn last_end(text: &[u8], looked: usize) -> usize
+    requires { looked ≤ length text.now }
+    ensures within { result ≤ length text.now }
+    ensures ended { ends_line (take result text.now) ≡ true }
+    ensures place { (result ≡ 0) ⊎ (looked < result) }
+    ensures last { ends (drop (max result looked) text.now) ≡ 0 }
+{
+    match memrchr(b'\n', &text[looked..]) {
+        Some(at) => looked + at + 1,
+        None => 0,
+    }
 }
