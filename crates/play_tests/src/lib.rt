@@ -4,6 +4,8 @@
 #[cfg(test)]
 mod again;
 #[cfg(test)]
+mod chain;
+#[cfg(test)]
 mod crashes;
 #[cfg(test)]
 mod faults;
