@@ -5,12 +5,19 @@ use Rattle.text_faults.specs.declared.fault.Why.{Why}
 use Rattle.text_faults.specs.declared.fault.Why.TheVariants as why
 use Rattle.run_ends.specs.Source.{longest_text, most_taken}
 use Rattle.run_ends.specs.declared.status.Status.{Status}
+use Rattle.run_ends.specs.declared.stream.ReadError.{ReadError}
 
 -- ---- which status the text decides
 
 -- the status that a text decides, unless it is too long
 abbrev pub if_short : List ℕ → Status → Status
 if_short text status = if nat_lt longest_text (length text) then Status.Script 0 why.TooLong else status
+
+-- the status of a source that was not read to its end
+abbrev pub read_status : ReadError → Status
+read_status ReadError.Failed = Status.ReadFault
+read_status ReadError.TooLong = Status.Script 0 why.TooLong
+read_status ReadError.NoMemory = Status.NoMemory
 
 -- ---- why a source is refused
 

@@ -1,6 +1,7 @@
 -- What is taken from a source.
 use Rattle.std.specs.Prelude.{◌≡◌, ◌≤◌, ℕ, List, ◌++◌, length, Option}
 use Rattle.std.specs.Io.KnownBytes.{Consumes}
+use Rattle.berth_face.specs.Streams.{ReadsAll}
 
 -- the most bytes that a text may have
 abbrev pub longest_text : ℕ
@@ -17,3 +18,13 @@ pub record TookMore (before after : Option (List ℕ)) (old new : List ℕ) (n r
   pub added : new ≡ old ++ bytes
   pub count : length bytes ≡ n
   pub within : n ≤ room
+
+-- bytes were taken, and added to a text
+pub record Took (before after : Option (List ℕ)) (old new : List ℕ) : Type 0 where
+  pub bytes : List ℕ
+  pub taken : Consumes before after bytes
+  pub added : new ≡ old ++ bytes
+
+-- all bytes that were left were taken, and no more than that many
+abbrev pub PassesAll : Option (List ℕ) → Option (List ℕ) → ℕ → Type 0
+PassesAll before after most = (bytes : List ℕ) × ReadsAll before after bytes × (length bytes ≤ most)

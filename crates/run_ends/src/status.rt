@@ -1,4 +1,10 @@
 // How a run ended.
+ghost use Rattle.std.specs.Prelude.{◌≡◌};
+ghost use Rattle.run_ends.specs.Outcome.{read_status};
+ghost use Rattle.run_ends.specs.declared.status.Status.TheVariants.{NoMemory};
+
+use crate::stream::ReadError;
+use std::alloc::AllocError;
 use text_faults::Why;
 
 /// How a run ended.
@@ -16,4 +22,27 @@ pub enum Status {
     WriteFault,
     /// Memory ran out.
     NoMemory,
+}
+
+impl From<AllocError> for Status {
+    ghost from_gives = { λ _ status. status ≡ NoMemory };
+
+    fn from(_e: AllocError) -> Status {
+        Status::NoMemory
+    }
+}
+
+impl From<ReadError> for Status {
+    ghost from_gives = { λ error status. status ≡ read_status error };
+
+    fn from(error: ReadError) -> Status {
+        match error {
+            ReadError::Failed => Status::ReadFault,
+            ReadError::TooLong => Status::Script {
+                line: 0,
+                why: Why::TooLong,
+            },
+            ReadError::NoMemory => Status::NoMemory,
+        }
+    }
 }

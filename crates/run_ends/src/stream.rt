@@ -1,9 +1,9 @@
 // The whole of a source, and a whole piece into a sink.
-ghost use Rattle.std.specs.Prelude.{◌≡◌, ◌≤◌, ◌<◌, ◌+◌, length, vec_len, IfOk, OnOk, OnErr, IsErrOf};
+ghost use Rattle.std.specs.Prelude.{◌≡◌, ◌≤◌, ◌<◌, ◌+◌, ◌-◌, length, vec_len, IfOk, OnOk, OnErr, IsErrOf, IsTrue};
 ghost use Rattle.std.specs.Io.KnownBytes.{Appends, IsAtEnd, Keeps};
 ghost use Rattle.berth_face.specs.Causes.{Rose, HasCause};
 ghost use Rattle.berth_face.specs.Streams.{ReadsAll, TakesAtMost, TakesCount, WritesFront};
-ghost use Rattle.run_ends.specs.Source.{TookMore};
+ghost use Rattle.run_ends.specs.Source.{PassesAll, Took, TookMore};
 
 use berth_face::{Failed, Sink, Source};
 use std::alloc::{AllocError, Global};
@@ -11,6 +11,10 @@ use std::alloc::{AllocError, Global};
 /// The most bytes that a source may have.
 pub const LONGEST_TEXT: usize = 16_777_216;
 
+/// A piece of a text has so many bytes: a thread for each processor is then worth its start.
+pub const PIECE: usize = 2_097_152;
+
+/// So many bytes are asked for at a time.
 const CHUNK: usize = 65_536;
 
 #[derive(Clone, Copy, Debug, PartialEq, Eq)]
@@ -48,6 +52,73 @@ pub fn read_all<S: Source>(alloc: Global, source: &mut S) -> Result<Vec<u8>, Rea
         if count == 0 {
             return Ok(text);
         }
+    }
+    Err(ReadError::TooLong)
+}
+
+/// Adds the next bytes of a source to a text, behind so many that were taken before: a piece, or all that are left. It
+/// answers whether nothing is left, and stops at the first byte that is too much.
+pub fn read_piece<S: Source>(
+    alloc: Global,
+    source: &mut S,
+    passed: usize,
+    text: &mut Vec<u8>,
+) -> Result<bool, ReadError>
+    requires { passed + vec_len text.old ≤ LONGEST_TEXT }
+    ensures took { IfOk result (λ _. Took (S.left source.old) (S.left source.new) text.old.items text.new.items) }
+    ensures ended { IfOk result (λ ended. IsTrue ended → IsAtEnd (S.left source.new)) }
+    ensures more { IfOk result (λ ended. ¬ IsTrue ended → vec_len text.old + PIECE ≤ vec_len text.new) }
+    ensures small { IfOk result (λ _. passed + vec_len text.new ≤ LONGEST_TEXT) }
+    ensures too_long { IsErrOf result ReadError.TooLong → TakesCount (S.left source.old) (S.left source.new) (LONGEST_TEXT + 1 - passed - vec_len text.old) }
+    ensures takes { ¬ IsErrOf result ReadError.TooLong → TakesAtMost (S.left source.old) (S.left source.new) (LONGEST_TEXT - passed - vec_len text.old) }
+    ensures failed { IsErrOf result ReadError.Failed → Rose (S.faults source.old) (S.faults source.new) }
+    ensures later { S.faults source.old ≤ S.faults source.new }
+{
+    let Ok(mut chunk) = make_chunk(alloc) else {
+        return Err(ReadError::NoMemory);
+    };
+    let full = text.len() + PIECE;
+    while text.len() < full {
+        let room = CHUNK.min(LONGEST_TEXT + 1 - passed - text.len());
+        let count = match take_more(source, &mut chunk[..room], text) {
+            Ok(count) => count,
+            Err(error) => return Err(error),
+        };
+        if count == 0 {
+            return Ok(true);
+        }
+        if passed + text.len() > LONGEST_TEXT {
+            return Err(ReadError::TooLong);
+        }
+    }
+    Ok(false)
+}
+
+/// Takes what a source has left, behind so many bytes that were taken before, and keeps none of it.
+pub fn pass_rest<S: Source>(alloc: Global, source: &mut S, passed: usize) -> Result<(), ReadError>
+    requires { passed ≤ LONGEST_TEXT }
+    ensures read { OnOk result (PassesAll (S.left source.old) (S.left source.new) (LONGEST_TEXT - passed)) }
+    ensures too_long { IsErrOf result ReadError.TooLong → TakesCount (S.left source.old) (S.left source.new) (LONGEST_TEXT + 1 - passed) }
+    ensures takes { ¬ IsErrOf result ReadError.TooLong → TakesAtMost (S.left source.old) (S.left source.new) (LONGEST_TEXT - passed) }
+    ensures failed { IsErrOf result ReadError.Failed → Rose (S.faults source.old) (S.faults source.new) }
+    ensures later { S.faults source.old ≤ S.faults source.new }
+{
+    let Ok(mut chunk) = make_chunk(alloc) else {
+        return Err(ReadError::NoMemory);
+    };
+    let mut text = Vec::new(alloc);
+    let mut taken = passed;
+    while taken <= LONGEST_TEXT {
+        text.clear();
+        let room = CHUNK.min(LONGEST_TEXT + 1 - taken);
+        let count = match take_more(source, &mut chunk[..room], &mut text) {
+            Ok(count) => count,
+            Err(error) => return Err(error),
+        };
+        if count == 0 {
+            return Ok(());
+        }
+        taken += count;
     }
     Err(ReadError::TooLong)
 }
