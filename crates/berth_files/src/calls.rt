@@ -27,7 +27,8 @@ pub trait FileCalls {
     /// The number of bytes of the file; 0 if it is not there.
     fn len(&mut self, file: LeafFile) -> Result<u64, Failed>
         ensures bound { IfOk result (λ n. n < 2 ^ 63) }
-        ensures told { IsTrue (holds self.old).tells → IfOk result (λ n. n ≡ length (content file (holds self.old))) × Stays (holds self.old) (holds self.new) }
+        ensures told { IsTrue (holds self.old).tells → IfOk result (λ n. n ≡ length (content file (holds self.old)))
+            × Stays (holds self.old) (holds self.new) }
         ensures time { GoesOn (holds self.old) (holds self.new) };
 
     /// Reads bytes from `at` on into the buffer, and tells how many. They may be fewer than there are, but at least one
@@ -35,7 +36,9 @@ pub trait FileCalls {
     fn read_some(&mut self, file: LeafFile, at: u64, buf: &mut [u8]) -> Result<usize, Failed>
         requires { at + length buf.old < 2 ^ 63 }
         ensures bound { ReadsAtMost result buf.new }
-        ensures told { IsTrue (holds self.old).tells → IfOk result (λ n. GivesSome at (content file (holds self.old)) buf.new n) × Stays (holds self.old) (holds self.new) }
+        ensures told { IsTrue (holds self.old).tells
+            → IfOk result (λ n. GivesSome at (content file (holds self.old)) buf.new n)
+            × Stays (holds self.old) (holds self.new) }
         ensures time { GoesOn (holds self.old) (holds self.new) };
 
     /// Writes all of a piece, which is not empty, and fills a gap before it with zeros. It makes a file that is not
@@ -43,14 +46,16 @@ pub trait FileCalls {
     fn write_all(&mut self, file: LeafFile, at: u64, bytes: &[u8]) -> Result<(), Failed>
         requires some { 0 < length bytes.now }
         requires near { at + length bytes.now < 2 ^ 63 }
-        ensures told { IsTrue (holds self.old).tells → FileWritten file at bytes.now result (holds self.old) (holds self.new) }
+        ensures told { IsTrue (holds self.old).tells
+            → FileWritten file at bytes.now result (holds self.old) (holds self.new) }
         ensures time { GoesOn (holds self.old) (holds self.new) };
 
     /// Lengthens the file with zeros, as a write of no bytes at `len` does. A file that is at least as long stays as it
     /// is. It makes a file that is not there.
     fn lengthen(&mut self, file: LeafFile, len: u64) -> Result<(), Failed>
         requires { len < 2 ^ 63 }
-        ensures told { IsTrue (holds self.old).tells → FileWritten file len [] result (holds self.old) (holds self.new) }
+        ensures told { IsTrue (holds self.old).tells
+            → FileWritten file len [] result (holds self.old) (holds self.new) }
         ensures time { GoesOn (holds self.old) (holds self.new) };
 
     /// Cuts the region's file to `len` bytes. One that is no longer stays as it is.

@@ -20,7 +20,8 @@ pub(crate) fn read_whole<F: FileCalls>(
     buf: &mut [u8],
 ) -> Result<usize, Failed>
     ensures bound { ReadsAtMost result buf.new }
-    ensures told { IsTrue (F.holds files.old).tells → Gives at (content file (F.holds files.old)) result buf.new × Stays (F.holds files.old) (F.holds files.new) }
+    ensures told { IsTrue (F.holds files.old).tells → Gives at (content file (F.holds files.old)) result buf.new
+        × Stays (F.holds files.old) (F.holds files.new) }
     ensures time { GoesOn (F.holds files.old) (F.holds files.new) }
 {
     if at >= LIMIT {
@@ -47,7 +48,8 @@ fn fill<F: FileCalls>(
 ) -> Result<usize, Failed>
     requires { at + length room.old < 2 ^ 63 }
     ensures bound { ReadsAtMost result room.new }
-    ensures told { IsTrue (F.holds files.old).tells → Gives at (content file (F.holds files.old)) result room.new × Stays (F.holds files.old) (F.holds files.new) }
+    ensures told { IsTrue (F.holds files.old).tells → Gives at (content file (F.holds files.old)) result room.new
+        × Stays (F.holds files.old) (F.holds files.new) }
     ensures time { GoesOn (F.holds files.old) (F.holds files.new) }
 {
     let mut done = 0;
@@ -94,7 +96,8 @@ pub(crate) fn write_near<F: FileCalls>(
     bytes: &[u8],
 ) -> Result<(), Failed>
     ensures too_far { 2 ^ 63 ≤ at + length bytes.now → IsErr result }
-    ensures told { IsTrue (F.holds files.old).tells → FileWritten file at bytes.now result (F.holds files.old) (F.holds files.new) }
+    ensures told { IsTrue (F.holds files.old).tells
+        → FileWritten file at bytes.now result (F.holds files.old) (F.holds files.new) }
     ensures time { GoesOn (F.holds files.old) (F.holds files.new) }
 {
     if is_far(at, bytes.len()) {
@@ -112,7 +115,8 @@ fn write_here<F: FileCalls>(
     bytes: &[u8],
 ) -> Result<(), Failed>
     requires { at + length bytes.now < 2 ^ 63 }
-    ensures told { IsTrue (F.holds files.old).tells → FileWritten file at bytes.now result (F.holds files.old) (F.holds files.new) }
+    ensures told { IsTrue (F.holds files.old).tells
+        → FileWritten file at bytes.now result (F.holds files.old) (F.holds files.new) }
     ensures time { GoesOn (F.holds files.old) (F.holds files.new) }
 {
     if bytes.is_empty() {

@@ -137,7 +137,8 @@ impl Berth for MemBerth {
 
     fn region_len(&mut self) -> Result<u64, Failed>
         ensures bound { IfOk result (λ n. n < 2 ^ 63) }
-        ensures told { IsTrue (meaning self.old).tells → IfOk result (λ n. n ≡ length (meaning self.old).held.region) × Stays (meaning self.old) (meaning self.new) }
+        ensures told { IsTrue (meaning self.old).tells → IfOk result (λ n. n ≡ length (meaning self.old).held.region)
+            × Stays (meaning self.old) (meaning self.new) }
         ensures time { Passes (meaning self.old) (meaning self.new) }
         ensures cause { HasCause (meaning self.old).region_faults (meaning self.new).region_faults result }
         ensures reads { (meaning self.new).disk_reads ≡ (meaning self.old).disk_reads }
@@ -153,7 +154,8 @@ impl Berth for MemBerth {
 
     fn region_read(&mut self, at: u64, buf: &mut [u8]) -> Result<usize, Failed>
         ensures bound { ReadsAtMost result buf.new }
-        ensures told { IsTrue (meaning self.old).tells → Gives at (meaning self.old).held.region result buf.new × Stays (meaning self.old) (meaning self.new) }
+        ensures told { IsTrue (meaning self.old).tells → Gives at (meaning self.old).held.region result buf.new
+            × Stays (meaning self.old) (meaning self.new) }
         ensures time { Passes (meaning self.old) (meaning self.new) }
         ensures cause { HasCause (meaning self.old).region_faults (meaning self.new).region_faults result }
         ensures reads { (meaning self.new).disk_reads ≡ (meaning self.old).disk_reads }
@@ -169,7 +171,8 @@ impl Berth for MemBerth {
 
     fn region_write(&mut self, at: u64, bytes: &[u8]) -> Result<(), Failed>
         ensures too_far { 2 ^ 63 ≤ at + length bytes.now → IsErr result }
-        ensures told { IsTrue (meaning self.old).tells → RegionWritten at bytes.now result (meaning self.old) (meaning self.new) }
+        ensures told { IsTrue (meaning self.old).tells
+            → RegionWritten at bytes.now result (meaning self.old) (meaning self.new) }
         ensures time { Passes (meaning self.old) (meaning self.new) }
         ensures cause { HasCause (meaning self.old).region_faults (meaning self.new).region_faults result }
         ensures reads { (meaning self.new).disk_reads ≡ (meaning self.old).disk_reads }
@@ -210,7 +213,8 @@ impl Berth for MemBerth {
 
     fn disk_len(&mut self) -> Result<u64, Failed>
         ensures bound { IfOk result (λ n. n < 2 ^ 63) }
-        ensures told { IsTrue (meaning self.old).tells → IfOk result (λ n. n ≡ length (meaning self.old).held.disk) × Stays (meaning self.old) (meaning self.new) }
+        ensures told { IsTrue (meaning self.old).tells → IfOk result (λ n. n ≡ length (meaning self.old).held.disk)
+            × Stays (meaning self.old) (meaning self.new) }
         ensures time { Passes (meaning self.old) (meaning self.new) }
         ensures cause { HasCause (meaning self.old).disk_faults (meaning self.new).disk_faults result }
         ensures reads { (meaning self.new).disk_reads ≡ (meaning self.old).disk_reads }
@@ -226,7 +230,8 @@ impl Berth for MemBerth {
 
     fn disk_read(&mut self, at: u64, buf: &mut [u8]) -> Result<usize, Failed>
         ensures bound { ReadsAtMost result buf.new }
-        ensures told { IsTrue (meaning self.old).tells → Gives at (meaning self.old).held.disk result buf.new × Stays (meaning self.old) (meaning self.new) }
+        ensures told { IsTrue (meaning self.old).tells → Gives at (meaning self.old).held.disk result buf.new
+            × Stays (meaning self.old) (meaning self.new) }
         ensures time { Passes (meaning self.old) (meaning self.new) }
         ensures cause { HasCause (meaning self.old).disk_faults (meaning self.new).disk_faults result }
         ensures reads { Rose (meaning self.old).disk_reads (meaning self.new).disk_reads }
@@ -244,7 +249,8 @@ impl Berth for MemBerth {
 
     fn disk_write(&mut self, at: u64, bytes: &[u8]) -> Result<(), Failed>
         ensures too_far { 2 ^ 63 ≤ at + length bytes.now → IsErr result }
-        ensures told { IsTrue (meaning self.old).tells → DiskWritten at bytes.now result (meaning self.old) (meaning self.new) }
+        ensures told { IsTrue (meaning self.old).tells
+            → DiskWritten at bytes.now result (meaning self.old) (meaning self.new) }
         ensures time { Passes (meaning self.old) (meaning self.new) }
         ensures cause { HasCause (meaning self.old).disk_faults (meaning self.new).disk_faults result }
         ensures reads { (meaning self.new).disk_reads ≡ (meaning self.old).disk_reads }

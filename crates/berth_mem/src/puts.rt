@@ -13,7 +13,8 @@ use std::alloc::AllocError;
 // A write as the record has it, before it is made.
 fn recorded(content: &Vec<u8>, at: u64, len: usize) -> Result<Wrote, AllocError>
     requires { at + len < 2 ^ 63 }
-    ensures { (bytes : List ℕ) → length bytes ≡ len → IfOk result (λ wrote. Describes wrote at bytes content.now.items) }
+    ensures { (bytes : List ℕ) → length bytes ≡ len
+        → IfOk result (λ wrote. Describes wrote at bytes content.now.items) }
 {
     Ok(Wrote {
         at,

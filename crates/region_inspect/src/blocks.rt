@@ -106,11 +106,14 @@ pub fn inspect_blocks<B: Berth>(
 ) -> Result<Option<Counted>, LookFault>
     requires small { AllByRecursion IsSmall blocks.items }
     requires inside { CutsInside skip blocks.items }
-    ensures some { IsTrue (B.meaning berth.old).tells → IfOk result (λ found. IfSome found (λ c. AllCounted version (B.meaning berth.old).held.region blocks.items skip horizon c.rows c.blocks)) }
+    ensures some { IsTrue (B.meaning berth.old).tells
+        → IfOk result (λ found. IfSome found (λ c. AllCounted version (B.meaning berth.old).held.region blocks.items skip horizon c.rows c.blocks)) }
     ensures few { IfOk result (λ found. IfSome found (λ c. c.rows ≤ most_rows)) }
-    ensures none { IsTrue (B.meaning berth.old).tells → IfOk result (λ found. found ≡ None → AreNone version (B.meaning berth.old).held.region blocks.items skip horizon) }
+    ensures none { IsTrue (B.meaning berth.old).tells
+        → IfOk result (λ found. found ≡ None → AreNone version (B.meaning berth.old).held.region blocks.items skip horizon) }
     ensures untouched { Untouched (B.meaning berth.old) (B.meaning berth.new) }
-    ensures cause { result ≡ Err fault.RegionFault → Rose (B.meaning berth.old).region_faults (B.meaning berth.new).region_faults }
+    ensures cause { result ≡ Err fault.RegionFault
+        → Rose (B.meaning berth.old).region_faults (B.meaning berth.new).region_faults }
 {
     let mut rest = VecDeque::from_vec(blocks);
     let mut lines = Vec::new(alloc);

@@ -25,9 +25,12 @@ fn inspect_image<B: Berth>(
     berth: &mut B,
 ) -> Result<Seen, LookFault>
     requires rules { IsDirectory looked.place looked.directory }
-    ensures shows { IsTrue (B.meaning berth.old).tells → reads version ≡ true → HasDirectory version (B.meaning berth.old).held.region looked.directory → IfOk result (Shows (B.meaning berth.old).held.region) }
+    ensures shows { IsTrue (B.meaning berth.old).tells → reads version ≡ true
+        → HasDirectory version (B.meaning berth.old).held.region looked.directory
+        → IfOk result (Shows (B.meaning berth.old).held.region) }
     ensures untouched { Untouched (B.meaning berth.old) (B.meaning berth.new) }
-    ensures cause { result ≡ Err fault.RegionFault → Rose (B.meaning berth.old).region_faults (B.meaning berth.new).region_faults }
+    ensures cause { result ≡ Err fault.RegionFault
+        → Rose (B.meaning berth.old).region_faults (B.meaning berth.new).region_faults }
 {
     let Directory { log_end, tables } = looked.directory;
     match inspect_tables(alloc, version, tables.into_inner(), berth)? {
@@ -47,9 +50,12 @@ fn inspect_version<B: Berth>(
     front: &[u8; 16],
     berth: &mut B,
 ) -> Result<Seen, LookFault>
-    ensures shows { IsTrue (B.meaning berth.old).tells → head_of (B.meaning berth.old).held.region ≡ Version version → front.now ≡ take 16 (B.meaning berth.old).held.region → IfOk result (Shows (B.meaning berth.old).held.region) }
+    ensures shows { IsTrue (B.meaning berth.old).tells → head_of (B.meaning berth.old).held.region ≡ Version version
+        → front.now ≡ take 16 (B.meaning berth.old).held.region
+        → IfOk result (Shows (B.meaning berth.old).held.region) }
     ensures untouched { Untouched (B.meaning berth.old) (B.meaning berth.new) }
-    ensures cause { result ≡ Err fault.RegionFault → Rose (B.meaning berth.old).region_faults (B.meaning berth.new).region_faults }
+    ensures cause { result ≡ Err fault.RegionFault
+        → Rose (B.meaning berth.old).region_faults (B.meaning berth.new).region_faults }
 {
     if !reads(version) {
         return Ok(Seen::OtherVersion(version));
@@ -64,7 +70,8 @@ fn inspect_version<B: Berth>(
 pub fn inspect<B: Berth>(alloc: Global, berth: &mut B) -> Result<Seen, LookFault>
     ensures shows { IsTrue (B.meaning berth.old).tells → IfOk result (Shows (B.meaning berth.old).held.region) }
     ensures untouched { Untouched (B.meaning berth.old) (B.meaning berth.new) }
-    ensures cause { result ≡ Err fault.RegionFault → Rose (B.meaning berth.old).region_faults (B.meaning berth.new).region_faults }
+    ensures cause { result ≡ Err fault.RegionFault
+        → Rose (B.meaning berth.old).region_faults (B.meaning berth.new).region_faults }
 {
     let front = read_front(berth)?;
     match front.head {

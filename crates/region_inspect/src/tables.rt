@@ -23,10 +23,13 @@ fn inspect_table<B: Berth>(
     berth: &mut B,
 ) -> Result<Option<TableLine>, LookFault>
     requires { IsSmallTable table }
-    ensures some { IsTrue (B.meaning berth.old).tells → IfOk result (λ found. IfSome found (TableIs version (B.meaning berth.old).held.region table)) }
-    ensures none { IsTrue (B.meaning berth.old).tells → IfOk result (λ found. found ≡ None → IsNone version (B.meaning berth.old).held.region table) }
+    ensures some { IsTrue (B.meaning berth.old).tells
+        → IfOk result (λ found. IfSome found (TableIs version (B.meaning berth.old).held.region table)) }
+    ensures none { IsTrue (B.meaning berth.old).tells
+        → IfOk result (λ found. found ≡ None → IsNone version (B.meaning berth.old).held.region table) }
     ensures untouched { Untouched (B.meaning berth.old) (B.meaning berth.new) }
-    ensures cause { result ≡ Err fault.RegionFault → Rose (B.meaning berth.old).region_faults (B.meaning berth.new).region_faults }
+    ensures cause { result ≡ Err fault.RegionFault
+        → Rose (B.meaning berth.old).region_faults (B.meaning berth.new).region_faults }
 {
     let TablePlaces {
         name,
@@ -55,10 +58,13 @@ pub fn inspect_tables<B: Berth>(
     berth: &mut B,
 ) -> Result<Option<Vec<TableLine>>, LookFault>
     requires { AllByRecursion IsSmallTable tables.items }
-    ensures some { IsTrue (B.meaning berth.old).tells → IfOk result (λ found. IfSome found (λ lines. AllZip (TableIs version (B.meaning berth.old).held.region) tables.items lines.items)) }
-    ensures none { IsTrue (B.meaning berth.old).tells → IfOk result (λ found. found ≡ None → HasNone version (B.meaning berth.old).held.region tables.items) }
+    ensures some { IsTrue (B.meaning berth.old).tells
+        → IfOk result (λ found. IfSome found (λ lines. AllZip (TableIs version (B.meaning berth.old).held.region) tables.items lines.items)) }
+    ensures none { IsTrue (B.meaning berth.old).tells
+        → IfOk result (λ found. found ≡ None → HasNone version (B.meaning berth.old).held.region tables.items) }
     ensures untouched { Untouched (B.meaning berth.old) (B.meaning berth.new) }
-    ensures cause { result ≡ Err fault.RegionFault → Rose (B.meaning berth.old).region_faults (B.meaning berth.new).region_faults }
+    ensures cause { result ≡ Err fault.RegionFault
+        → Rose (B.meaning berth.old).region_faults (B.meaning berth.new).region_faults }
 {
     let mut rest = VecDeque::from_vec(tables);
     let mut lines = Vec::new(alloc);

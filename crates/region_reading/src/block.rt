@@ -21,9 +21,11 @@ fn read_column<B: Berth>(
     place: Place,
     berth: &mut B,
 ) -> Result<BlockColumn, LookFault>
-    ensures told { IsTrue (B.meaning berth.old).tells → IfOk result (λ column. column ≡ column_in (B.meaning berth.old).held.region place) }
+    ensures told { IsTrue (B.meaning berth.old).tells
+        → IfOk result (λ column. column ≡ column_in (B.meaning berth.old).held.region place) }
     ensures untouched { Untouched (B.meaning berth.old) (B.meaning berth.new) }
-    ensures cause { result ≡ Err fault.RegionFault → Rose (B.meaning berth.old).region_faults (B.meaning berth.new).region_faults }
+    ensures cause { result ≡ Err fault.RegionFault
+        → Rose (B.meaning berth.old).region_faults (B.meaning berth.new).region_faults }
 {
     let bytes = read_piece(alloc, place.place, place.length, berth)?;
     Ok(BlockColumn {
@@ -38,9 +40,11 @@ fn read_columns<B: Berth>(
     places: Vec<Place>,
     berth: &mut B,
 ) -> Result<Vec<BlockColumn>, LookFault>
-    ensures told { IsTrue (B.meaning berth.old).tells → IfOk result (λ columns. columns.items ≡ map (column_in (B.meaning berth.old).held.region) places.items) }
+    ensures told { IsTrue (B.meaning berth.old).tells
+        → IfOk result (λ columns. columns.items ≡ map (column_in (B.meaning berth.old).held.region) places.items) }
     ensures untouched { Untouched (B.meaning berth.old) (B.meaning berth.new) }
-    ensures cause { result ≡ Err fault.RegionFault → Rose (B.meaning berth.old).region_faults (B.meaning berth.new).region_faults }
+    ensures cause { result ≡ Err fault.RegionFault
+        → Rose (B.meaning berth.old).region_faults (B.meaning berth.new).region_faults }
 {
     let mut rest = VecDeque::from_vec(places);
     let mut columns = Vec::new(alloc);
@@ -56,12 +60,15 @@ pub fn read_block<B: Berth>(
     places: BlockPlaces,
     berth: &mut B,
 ) -> Result<Option<RowBlock>, LookFault>
-    ensures some { IsTrue (B.meaning berth.old).tells → IfOk result (λ found. IfSome found (λ block. block ≡ block_in (B.meaning berth.old).held.region places)) }
+    ensures some { IsTrue (B.meaning berth.old).tells
+        → IfOk result (λ found. IfSome found (λ block. block ≡ block_in (B.meaning berth.old).held.region places)) }
     ensures block { IfOk result (λ found. IfSome found IsBlock) }
     ensures rows { IfOk result (λ found. IfSome found (λ block. block.rows ≡ places.rows)) }
-    ensures none { IsTrue (B.meaning berth.old).tells → IfOk result (λ found. found ≡ None → IsBlock (block_in (B.meaning berth.old).held.region places) → ⊥) }
+    ensures none { IsTrue (B.meaning berth.old).tells
+        → IfOk result (λ found. found ≡ None → IsBlock (block_in (B.meaning berth.old).held.region places) → ⊥) }
     ensures untouched { Untouched (B.meaning berth.old) (B.meaning berth.new) }
-    ensures cause { result ≡ Err fault.RegionFault → Rose (B.meaning berth.old).region_faults (B.meaning berth.new).region_faults }
+    ensures cause { result ≡ Err fault.RegionFault
+        → Rose (B.meaning berth.old).region_faults (B.meaning berth.new).region_faults }
 {
     let BlockPlaces { rows, columns } = places;
     let columns = read_columns(alloc, columns.into_inner(), berth)?;

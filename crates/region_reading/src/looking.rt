@@ -54,9 +54,11 @@ fn read_behind<B: Berth>(
     place: u64,
     berth: &mut B,
 ) -> Result<(Vec<u8>, u64), LookFault>
-    ensures told { IsTrue (B.meaning berth.old).tells → IfOk result (λ read. (read.0.items ≡ drop place (B.meaning berth.old).held.region) × (read.1 ≡ length (B.meaning berth.old).held.region)) }
+    ensures told { IsTrue (B.meaning berth.old).tells
+        → IfOk result (λ read. (read.0.items ≡ drop place (B.meaning berth.old).held.region) × (read.1 ≡ length (B.meaning berth.old).held.region)) }
     ensures untouched { Untouched (B.meaning berth.old) (B.meaning berth.new) }
-    ensures cause { result ≡ Err fault.RegionFault → Rose (B.meaning berth.old).region_faults (B.meaning berth.new).region_faults }
+    ensures cause { result ≡ Err fault.RegionFault
+        → Rose (B.meaning berth.old).region_faults (B.meaning berth.new).region_faults }
 {
     let len = berth.region_len()?;
     let bytes = read_piece(alloc, place, len.saturating_sub(place), berth)?;
@@ -80,7 +82,8 @@ pub fn look_at<B: Berth>(
     ensures told { IsTrue (B.meaning berth.old).tells → IfOk result (StandsAt place (B.meaning berth.old).held.region) }
     ensures read { IfOk result (λ found. IfSome found (λ l. IsRead l.place l.directory)) }
     ensures untouched { Untouched (B.meaning berth.old) (B.meaning berth.new) }
-    ensures cause { result ≡ Err fault.RegionFault → Rose (B.meaning berth.old).region_faults (B.meaning berth.new).region_faults }
+    ensures cause { result ≡ Err fault.RegionFault
+        → Rose (B.meaning berth.old).region_faults (B.meaning berth.new).region_faults }
 {
     let (bytes, image_len) = read_behind(alloc, place, berth)?;
     match directory_in(alloc, &bytes, place)? {
@@ -100,10 +103,13 @@ pub fn look<B: Berth>(
     front: &[u8; 16],
     berth: &mut B,
 ) -> Result<Option<Looked>, LookFault>
-    ensures told { (region : List ℕ) (version : ℕ) → IsTrue (B.meaning berth.old).tells → drop 1 (B.meaning berth.old).held.region ≡ drop 1 region → head_of region ≡ Version version → front.now ≡ take 16 region → IfOk result (LooksAt version region) }
+    ensures told { (region : List ℕ) (version : ℕ) → IsTrue (B.meaning berth.old).tells
+        → drop 1 (B.meaning berth.old).held.region ≡ drop 1 region → head_of region ≡ Version version
+        → front.now ≡ take 16 region → IfOk result (LooksAt version region) }
     ensures read { IfOk result (λ found. IfSome found (λ l. IsRead l.place l.directory)) }
     ensures untouched { Untouched (B.meaning berth.old) (B.meaning berth.new) }
-    ensures cause { result ≡ Err fault.RegionFault → Rose (B.meaning berth.old).region_faults (B.meaning berth.new).region_faults }
+    ensures cause { result ≡ Err fault.RegionFault
+        → Rose (B.meaning berth.old).region_faults (B.meaning berth.new).region_faults }
 {
     match told_place(front) {
         Some(place) => look_at(alloc, place, berth),

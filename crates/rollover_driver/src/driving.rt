@@ -110,7 +110,8 @@ pub fn drive<F: Fleet>(fleet: &mut F, waves: &Waves, watches: &mut Vec<Box<dyn W
     requires few { length waves.now < 2 ^ 32 }
     requires known { AllByRecursion (λ wave. AllByRecursion (λ leaf. F.has fleet.old leaf) wave) waves.now }
     ensures same { (leaf : ℕ) → F.has fleet.old leaf → F.has fleet.new leaf }
-    ensures drives { (calls : List FleetCall) × F.stands fleet.old calls fleet.new × Drives waves.now (map (λ watch. held watch) watches.old.items) calls result (map (λ watch. held watch) watches.new.items) }
+    ensures drives { (calls : List FleetCall) × F.stands fleet.old calls fleet.new
+        × Drives waves.now (map (λ watch. held watch) watches.old.items) calls result (map (λ watch. held watch) watches.new.items) }
 {
     let rolled = roll_all(fleet, waves.as_slice(), watches);
     let _asked = tell_all(

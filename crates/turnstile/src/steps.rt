@@ -26,7 +26,8 @@ fn draw<O: Object>(turns: &Turns<O>, place: &mut Place<O>) -> u64
     requires rests { (place.old.me.0.stage ≡ Rests) × (0 < place.old.me.0.share) }
     ensures same { place.new.table_id ≡ place.old.table_id }
     ensures view { place.new.me ≡ (staged place.old.me.0 (Waits result), place.old.me.1) }
-    ensures room { place.old.me.0.id ≢ 0 → length place.old.me.0.seen < 2 ^ 62 → place.old.me.0.share ≤ place.old.me.0.room }
+    ensures room { place.old.me.0.id ≢ 0 → length place.old.me.0.seen < 2 ^ 62
+        → place.old.me.0.share ≤ place.old.me.0.room }
     ensures small { result < 2 ^ 63 }
 {
     turns.fetch_add::<Draw>(place, 1, 1)
@@ -41,7 +42,8 @@ fn wait<O: Object, R: Wait>(rt: &R, turns: &Turns<O>, place: &mut Place<O>, tick
     requires table { Fits place.old.table_id turns.now.table_id }
     requires waits { (place.old.me.0.stage ≡ Waits ticket) × (place.old.me.1 ≡ []) × (place.old.me.0.other ≡ []) }
     ensures same { place.new.table_id ≡ place.old.table_id }
-    ensures turn { (b : O.Base) → place.old.me.0.base ≡ Some b → Comes O.legal O.stands b place.old.me ticket place.new.me }
+    ensures turn { (b : O.Base) → place.old.me.0.base ≡ Some b
+        → Comes O.legal O.stands b place.old.me ticket place.new.me }
 {
     let backoff = Backoff::new();
     let mut spins = 0;
@@ -85,10 +87,13 @@ fn post<O: Object, N: Said<O::Call, O::Reply>>(
     _reply: &O::Reply,
 )
     requires table { Fits place.old.table_id turns.now.table_id }
-    requires turn { (place.old.me.0.stage ≡ Inside ticket) × (place.old.me.0.share ≤ place.old.me.0.room) × (place.old.me.0.base ≡ Some turns.now.key.base) }
-    requires said { (e : Entry O.Call O.Reply) × (N.entry ≡ Some e) × (e.by ≡ place.old.me.0.id) × O.legal turns.now.key.base (place.old.me.0.seen ++ e ∷ []) }
+    requires turn { (place.old.me.0.stage ≡ Inside ticket) × (place.old.me.0.share ≤ place.old.me.0.room)
+        × (place.old.me.0.base ≡ Some turns.now.key.base) }
+    requires said { (e : Entry O.Call O.Reply) × (N.entry ≡ Some e) × (e.by ≡ place.old.me.0.id)
+        × O.legal turns.now.key.base (place.old.me.0.seen ++ e ∷ []) }
     ensures same { place.new.table_id ≡ place.old.table_id }
-    ensures posted { (e : Entry O.Call O.Reply) → N.entry ≡ Some e → (room : ℕ) × (place.new.me ≡ (record place.old.me.0 { seen = place.old.me.0.seen ++ e ∷ []; room = room; stage = Posted ticket }, place.old.me.1)) × (room ≤ place.old.me.0.room) × (place.old.me.0.room ≤ room + 1) × (length place.old.me.0.seen < 2 ^ 62 → room ≡ place.old.me.0.room) }
+    ensures posted { (e : Entry O.Call O.Reply) → N.entry ≡ Some e → (room : ℕ)
+        × (place.new.me ≡ (record place.old.me.0 { seen = place.old.me.0.seen ++ e ∷ []; room = room; stage = Posted ticket }, place.old.me.1)) × (room ≤ place.old.me.0.room) × (place.old.me.0.room ≤ room + 1) × (length place.old.me.0.seen < 2 ^ 62 → room ≡ place.old.me.0.room) }
     ensures ids { AreIds place.new.me.0.seen }
 {
     turns.fetch_add::<Post<N>>(place, 0, 1);
@@ -104,10 +109,13 @@ fn post_call<O: Object, C: Clock>(
     id: u64,
 )
     requires table { Fits place.old.table_id turns.now.table_id }
-    requires turn { (place.old.me.0.stage ≡ Inside ticket) × (place.old.me.0.share ≤ place.old.me.0.room) × (place.old.me.0.base ≡ Some turns.now.key.base) }
-    requires said { (id ≡ place.old.me.0.id) × O.legal turns.now.key.base (place.old.me.0.seen ++ entry_of id C.now call.now.value reply.now ∷ []) }
+    requires turn { (place.old.me.0.stage ≡ Inside ticket) × (place.old.me.0.share ≤ place.old.me.0.room)
+        × (place.old.me.0.base ≡ Some turns.now.key.base) }
+    requires said { (id ≡ place.old.me.0.id)
+        × O.legal turns.now.key.base (place.old.me.0.seen ++ entry_of id C.now call.now.value reply.now ∷ []) }
     ensures same { place.new.table_id ≡ place.old.table_id }
-    ensures posted { (room : ℕ) × (place.new.me ≡ (record place.old.me.0 { seen = place.old.me.0.seen ++ entry_of id C.now call.now.value reply.now ∷ []; room = room; stage = Posted ticket }, place.old.me.1)) × (room ≤ place.old.me.0.room) × (place.old.me.0.room ≤ room + 1) × (length place.old.me.0.seen < 2 ^ 62 → room ≡ place.old.me.0.room) }
+    ensures posted { (room : ℕ)
+        × (place.new.me ≡ (record place.old.me.0 { seen = place.old.me.0.seen ++ entry_of id C.now call.now.value reply.now ∷ []; room = room; stage = Posted ticket }, place.old.me.1)) × (room ≤ place.old.me.0.room) × (place.old.me.0.room ≤ room + 1) × (length place.old.me.0.seen < 2 ^ 62 → room ≡ place.old.me.0.room) }
     ensures ids { AreIds place.new.me.0.seen }
 {
     post::<O, Brand>(turns, place, ticket, id, call, reply);
@@ -116,7 +124,8 @@ fn post_call<O: Object, C: Clock>(
 // Gives the value back, and the turn on.
 fn leave<O: Object>(turns: &Turns<O>, place: &mut Place<O>, ticket: u64, value: O)
     requires table { Fits place.old.table_id turns.now.table_id }
-    requires turn { (place.old.me.0.stage ≡ Posted ticket) × (place.old.me.0.base ≡ Some turns.now.key.base) × (place.old.me.1 ≡ (0, None) ∷ []) }
+    requires turn { (place.old.me.0.stage ≡ Posted ticket) × (place.old.me.0.base ≡ Some turns.now.key.base)
+        × (place.old.me.1 ≡ (0, None) ∷ []) }
     requires value { O.stands turns.now.key.base place.old.me.0.seen value }
     requires small { ticket < 2 ^ 63 }
     ensures same { place.new.table_id ≡ place.old.table_id }
