@@ -63,12 +63,12 @@ one_line text line rest cut = ap (λ (ls : List (List ℕ)). length (map without
 abbrev pub count_lines : Range → ℕ → List (List ℕ) → Result ℕ LineFault
 count_lines range n a = count_in range (rows_of_lines (n + 1) a)
 
-count_is : (range : Range) (text : List ℕ) → count_of range text ≡ count_lines range 0 (lines_of text)
+pub count_is : (range : Range) (text : List ℕ) → count_of range text ≡ count_lines range 0 (lines_of text)
 unfolding rows_of
 count_is range text = refl
 
 -- what was counted, before what is counted after it
-abbrev count_then : Result ℕ LineFault → Result ℕ LineFault → Result ℕ LineFault
+abbrev pub count_then : Result ℕ LineFault → Result ℕ LineFault → Result ℕ LineFault
 count_then (Ok k) more = more_by k more
 count_then (Err found) more = Err found
 
@@ -96,7 +96,7 @@ then_line range n false (Ok row) both rows more later =
     counted range n row both ∙ ap (more_by (cond (is_in range row) 1 0)) later ∙ more_then (cond (is_in range row) 1 0) (count_in range rows) more ∙ ap (λ (r : Result ℕ LineFault). count_then r more) (sym (counted range n row rows))
 then_line range n false (Err fault) both rows more later = refl
 
-lines_joined : (range : Range) (n : ℕ) (a b : List (List ℕ)) → count_lines range n (a ++ b) ≡ count_then (count_lines range n a) (count_lines range (n + length a) b)
+pub lines_joined : (range : Range) (n : ℕ) (a b : List (List ℕ)) → count_lines range n (a ++ b) ≡ count_then (count_lines range n a) (count_lines range (n + length a) b)
 lines_joined range n [] b = from_none (count_lines range n b) ∙ ap (λ (k : ℕ). more_by 0 (count_lines range k b)) (sym (add-zero n))
 lines_joined range n (line ∷ a) b =
     let e : n + 1 + length a ≡ n + suc (length a) = omega arith in
@@ -106,7 +106,7 @@ lines_joined range n (line ∷ a) b =
     ∙ ap (λ (k : ℕ). count_then (count_lines range n (line ∷ a)) (count_lines range k b)) e
 
 -- the same, behind so many lines more
-abbrev later : ℕ → Result ℕ LineFault → Result ℕ LineFault
+abbrev pub later : ℕ → Result ℕ LineFault → Result ℕ LineFault
 later m (Ok k) = Ok k
 later m (Err found) = Err (record { line = m + found.line; fault = found.fault })
 
@@ -121,7 +121,7 @@ later_line range m n false (Ok row) there here shifted =
     counted range (m + n) row there ∙ ap (more_by (cond (is_in range row) 1 0)) shifted ∙ later_more m (cond (is_in range row) 1 0) (count_in range here) ∙ ap (later m) (sym (counted range n row here))
 later_line range m n false (Err fault) there here shifted = refl
 
-lines_shifted : (range : Range) (m n : ℕ) (a : List (List ℕ)) → count_lines range (m + n) a ≡ later m (count_lines range n a)
+pub lines_shifted : (range : Range) (m n : ℕ) (a : List (List ℕ)) → count_lines range (m + n) a ≡ later m (count_lines range n a)
 lines_shifted range m n [] = refl
 lines_shifted range m n (line ∷ a) =
     let e : m + n + 1 ≡ m + (n + 1) = omega arith in
@@ -130,7 +130,7 @@ lines_shifted range m n (line ∷ a) =
     ∙ ap (later m) (sym (line_is range n line a (is_blank line) refl))
 
 -- no more rows than lines, and a fault stands on one of them
-abbrev Within : ℕ → ℕ → Result ℕ LineFault → Type 0
+abbrev pub Within : ℕ → ℕ → Result ℕ LineFault → Type 0
 Within n most (Ok k) = k ≤ most
 Within n most (Err found) = found.line < n + most
 
@@ -152,7 +152,7 @@ within_line range n most false (Ok row) rows is =
     subst (Within n (suc most)) (sym (counted range n row rows)) (within_more n most (cond (is_in range row) 1 0) (count_in range rows) (at_most_one (is_in range row)) is)
 within_line range n most false (Err fault) rows is = omega arith
 
-lines_within : (range : Range) (n : ℕ) (a : List (List ℕ)) → Within (n + 1) (length a) (count_lines range n a)
+pub lines_within : (range : Range) (n : ℕ) (a : List (List ℕ)) → Within (n + 1) (length a) (count_lines range n a)
 lines_within range n [] = omega arith
 lines_within range n (line ∷ a) =
     subst (Within (n + 1) (suc (length a))) (sym (line_is range n line a (is_blank line) refl)) (within_line range (n + 1) (length a) (is_blank line) (row_of line) (rows_of_lines (n + 1 + 1) a) (lines_within range (n + 1) a))
@@ -258,6 +258,13 @@ module _ (range : Range) (text : List ℕ) (lines rows : ℕ) (counts rest : Lis
 none_left : (range : Range) (left : List (Bor (List ℕ))) (counts : List (Result PartCount CountError)) → counts ≡ [] → AllZip (λ (p : Bor (List ℕ)) r. IsPartCounted range p.now r) left counts → left ≡ []
 none_left range [] counts none each = refl
 none_left range (p ∷ left) counts none each = absurd (subst (AllZip (λ (p : Bor (List ℕ)) r. IsPartCounted range p.now r) (p ∷ left)) none each)
+
+-- the lines of all parts were counted
+pub all_lines : (range : Range) (text : List ℕ) (lines rows : ℕ) (counts : List (Result PartCount CountError)) → AreCounted range text lines rows counts → counts ≡ [] → lines ≡ length (lines_of text)
+all_lines range text lines rows counts are none =
+    let empty = none_left range are.left counts none are.each in
+    let whole : lines + length (lines_of_parts []) ≡ length (lines_of text) = subst (λ (ps : List (Bor (List ℕ))). lines + length (lines_of_parts ps) ≡ length (lines_of text)) empty are.count in
+    sym (add-zero lines) ∙ whole
 
 -- all parts were counted
 pub all_counted : (range : Range) (text : List ℕ) (lines rows : ℕ) (counts : List (Result PartCount CountError)) → AreCounted range text lines rows counts → counts ≡ [] → count_of range text ≡ Ok rows

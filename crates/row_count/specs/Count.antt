@@ -53,3 +53,9 @@ pub record IsPartCounted (range : Range) (part : List ℕ) (counted : Result Par
 abbrev pub error_behind : ℕ → CountError → CountError
 error_behind lines (Fault found) = Fault (record { line = lines + found.line; fault = found.fault })
 error_behind lines NoMemory = NoMemory
+
+-- what was counted of a part, added to what was counted before it
+pub record IsCountedBehind (range : Range) (before : PartCount) (part : List ℕ) (counted : Result PartCount CountError) : Type 0 where
+  pub lines : IfOk counted (λ count. count.lines ≡ before.lines + length (lines_of part))
+  pub rows : IfOk counted (λ count. (k : ℕ) × (count_of range part ≡ Ok k) × (count.rows ≡ before.rows + k))
+  pub refused : IfErr counted (λ e. (first : CountError) × (e ≡ error_behind before.lines first) × IfFault first (λ f. count_of range part ≡ Err f))

@@ -1,11 +1,14 @@
 -- What a count leaves, and which status its text decides.
-use Rattle.std.specs.Prelude.{◌≡◌, ℕ, List, [], ◌∷◌, ◌++◌, Option, Result, Ok, Err, codes, decimal}
-use Rattle.std.specs.Io.KnownBytes.{Appends}
-use Rattle.berth_face.specs.Streams.{ReadsAll, WritesFront}
+use Rattle.std.specs.Prelude.{◌≡◌, ◌≢◌, ℕ, List, [], ◌∷◌, ◌++◌, length, Option, Result, Ok, Err, IfSome, codes, decimal}
+use Rattle.std.specs.Io.KnownBytes.{Appends, Consumes}
+use Rattle.berth_face.specs.Streams.{ReadsAll, TakesAtMost, WritesFront}
 use Rattle.text_faults.specs.declared.fault.Why.TheVariants as why
-use Rattle.run_ends.specs.Outcome.{if_short}
+use Rattle.run_ends.specs.Outcome.{IfScript, IsRefused, TakesText, UnlessCutOff, if_short}
+use Rattle.run_ends.specs.Source.{most_taken}
 use Rattle.run_ends.specs.declared.status.Status.{Status}
-use Rattle.row_count.specs.Count.{count_of}
+use Rattle.row_count.specs.Count.{IfFault, count_of}
+use Rattle.row_count.specs.declared.count.CountError.{CountError}
+use Rattle.row_count.specs.declared.count.CountError.TheVariants.{Fault, NoMemory}
 use Rattle.row_count.specs.declared.count.LineFault.{LineFault}
 use Rattle.row_count.specs.declared.count.Range.{Range}
 
@@ -35,3 +38,27 @@ status_of (Err found) = Status.Script found.line (why.Row found.fault)
 -- the status of a text whose rows are counted
 abbrev pub count_verdict : Range → List ℕ → Status
 count_verdict range text = if_short text (status_of (count_of range text))
+
+-- ---- a text that is not read to its end, or not counted
+
+-- the status of a text that was not counted
+abbrev pub error_status : CountError → Status
+error_status (Fault found) = Status.Script found.line (why.Row found.fault)
+error_status NoMemory = Status.NoMemory
+
+-- so many bytes of a text were taken, and a fault is theirs whatever follows them
+pub record IsAtFault (range : Range) (before now : Option (List ℕ)) (taken : ℕ) (error : CountError) : Type 0 where
+  pub text : List ℕ
+  pub bytes : Consumes before now text
+  pub size : length text ≡ taken
+  pub refused : (more : List ℕ) → IfFault error (λ found. count_of range (text ++ more) ≡ Err found)
+
+-- what holds of the status of a source that was not counted
+pub record IsStopped (range : Range) (before after : Option (List ℕ)) (status : Status) : Type 0 where
+  pub not_done : status ≢ Status.Done
+  pub not_words : status ≢ Status.Words
+  pub not_written : status ≢ Status.WriteFault
+  pub script : IfScript status (IsRefused (count_verdict range) before after)
+  pub exact : IfSome before (λ text. UnlessCutOff status (status ≡ count_verdict range text))
+  pub takes : TakesAtMost before after most_taken
+  pub text : TakesText status before after

@@ -1,5 +1,5 @@
 // The rows of a source whose time is in a range.
-ghost use Rattle.std.specs.Prelude.{◌≡◌, ◌≢◌, ◌+◌, ◌<◌, ◌^◌, ℕ, List, length, Ok, Err, IfOk, IfErr, IfSome};
+ghost use Rattle.std.specs.Prelude.{◌≡◌, ◌≢◌, ◌+◌, ◌<◌, ◌≤◌, ◌^◌, ℕ, List, Option, length, drop, vec_len, Ok, Err, IfOk, IfErr, IfSome, OnOk};
 ghost use Rattle.std.specs.Borrow.{Bor};
 ghost use Rattle.std.specs.List.{AllZip};
 ghost use Rattle.row_json.specs.Row.{row_of};
@@ -8,21 +8,21 @@ ghost use Rattle.berth_face.specs.Causes.{Rose};
 ghost use Rattle.berth_face.specs.Streams.{TakesAtMost};
 ghost use Rattle.text_lines.specs.Lines.{lines_of};
 ghost use Rattle.row_count.specs.declared.count.CountError.TheVariants.{NoMemory};
-ghost use Rattle.row_count.specs.Count.{count_of, is_in, IfFault, IsPartCounted, error_behind};
+ghost use Rattle.row_count.specs.Count.{count_of, is_in, IfFault, IsCountedBehind, IsPartCounted, error_behind};
 ghost use Rattle.run_ends.specs.Outcome.{IsRefused, IfScript, UnlessCutOff, UnlessWritten, TakesText};
-ghost use Rattle.row_count.specs.Outcome.{IsCounted, IsCutShort, count_verdict};
-ghost use Rattle.run_ends.specs.Source.{most_taken};
+ghost use Rattle.row_count.specs.Outcome.{IsAtFault, IsCountOf, IsCounted, IsCutShort, IsStopped, count_verdict, error_status};
+ghost use Rattle.run_ends.specs.Source.{longest_text, most_taken};
 
 use berth_face::{Sink, Source};
 use leaf_model::Row;
 use rayon::prelude::*;
 use row_json::{RowFault, RowRoom, quick_time};
-use run_ends::{ReadError, Status, read_all, write_all};
+use run_ends::{LONGEST_TEXT, Status, pass_rest, read_piece, write_all};
 use std::alloc::{AllocError, Global};
 use std::collections::VecDeque;
 use std::thread::Threads;
 use text_faults::Why;
-use text_lines::{cut_line, is_blank, parts_of, without_return};
+use text_lines::{cut_line, is_blank, last_end, parts_of, without_return};
 
 /// The times from `from` to `to`.
 #[derive(Clone, Copy)]
@@ -60,6 +60,7 @@ pub struct PartCount {
 }
 
 /// Reads a source, counts its rows that are in the range, and writes the line that tells the count.
+#[tactic(auto, using(crate::proofs::Pieces::unless_written))]
 pub fn count_source<R: Threads + Sync, S: Source, K: Sink>(
     rt: &R,
     alloc: Global,
@@ -78,26 +79,9 @@ pub fn count_source<R: Threads + Sync, S: Source, K: Sink>(
     ensures unwritten { UnlessWritten result (sink.new ≡ sink.old) }
     ensures cut_short { result ≡ Status.WriteFault → IsCutShort range (S.left source.old) (S.left source.new) (K.written sink.old) (K.written sink.new) }
 {
-    let text = match read_all(alloc, source) {
-        Ok(text) => text,
-        Err(ReadError::Failed) => return Status::ReadFault,
-        Err(ReadError::TooLong) => {
-            return Status::Script {
-                line: 0,
-                why: Why::TooLong,
-            };
-        }
-        Err(ReadError::NoMemory) => return Status::NoMemory,
-    };
-    let count = match count_rows(rt, alloc, text.as_slice(), range) {
+    let count = match count_text(rt, alloc, range, source) {
         Ok(count) => count,
-        Err(CountError::Fault(found)) => {
-            return Status::Script {
-                line: found.line,
-                why: Why::Row(found.fault),
-            };
-        }
-        Err(CountError::NoMemory) => return Status::NoMemory,
+        Err(status) => return status,
     };
     let Ok(line) = format!(in alloc; "count {count}\n") else {
         return Status::NoMemory;
@@ -108,15 +92,116 @@ pub fn count_source<R: Threads + Sync, S: Source, K: Sink>(
     }
 }
 
-/// How many rows of the text are in the range. Its parts are read by threads side by side; the first fault in the order of
-/// the lines decides, whichever part is read first.
+/// How many rows of a source's text are in the range. The text is counted while it is read: of each piece the lines that
+/// have their end, and last what is left. The bytes that are counted make room for the next piece.
+fn count_text<R: Threads + Sync, S: Source>(
+    rt: &R,
+    alloc: Global,
+    range: Range,
+    source: &mut S,
+) -> Result<u64, Status>
+    ensures counted { IfOk result (λ count. IsCountOf range (S.left source.old) (S.left source.new) count) }
+    ensures exact { OnOk result (IfSome (S.left source.old) (λ text. Status.Done ≡ count_verdict range text)) }
+    ensures takes { OnOk result (TakesAtMost (S.left source.old) (S.left source.new) longest_text) }
+    ensures stopped { IfErr result (λ status. IsStopped range (S.left source.old) (S.left source.new) status) }
+    ensures failed { IfErr result (λ status. status ≡ Status.ReadFault → Rose (S.faults source.old) (S.faults source.new)) }
+{
+    let mut text = Vec::new(alloc);
+    let mut passed = 0usize;
+    let mut so_far = PartCount { lines: 0, rows: 0 };
+    let mut looked = 0usize;
+    'pieces: loop {
+        let ended = match read_piece(alloc, source, passed, &mut text) {
+            Ok(ended) => ended,
+            Err(error) => return Err(Status::from(error)),
+        };
+        if ended {
+            let count = match count_behind(rt, alloc, range, so_far, text.as_slice()) {
+                Ok(count) => count,
+                Err(error) => return Err(status_of(error)),
+            };
+            return Ok(count.rows);
+        }
+        let end = last_end(text.as_slice(), looked);
+        so_far = match count_behind(rt, alloc, range, so_far, &text.as_slice()[..end]) {
+            Ok(count) => count,
+            Err(error) => return Err(refusal(alloc, source, passed + text.len(), error)),
+        };
+        if drop_front(&mut text, end).is_err() {
+            return Err(Status::NoMemory);
+        }
+        passed += end;
+        looked = text.len();
+    }
+}
+
+/// The status of a text, of which so many bytes were taken, and which has this fault. A text that is too long and a source
+/// that fails come first, so the text is read to its end.
+fn refusal<S: Source>(alloc: Global, source: &mut S, taken: usize, error: CountError) -> Status
+    requires { taken ≤ LONGEST_TEXT }
+    ensures stopped { (range : Range) (before : Option (List ℕ)) → IsAtFault range before (S.left source.old) taken error → IsStopped range before (S.left source.new) result }
+    ensures failed { result ≡ Status.ReadFault → Rose (S.faults source.old) (S.faults source.new) }
+    ensures later { S.faults source.old ≤ S.faults source.new }
+{
+    match pass_rest(alloc, source, taken) {
+        Ok(()) => status_of(error),
+        Err(error) => Status::from(error),
+    }
+}
+
+fn status_of(error: CountError) -> Status
+    ensures { result ≡ error_status error }
+{
+    match error {
+        CountError::Fault(found) => Status::Script {
+            line: found.line,
+            why: Why::Row(found.fault),
+        },
+        CountError::NoMemory => Status::NoMemory,
+    }
+}
+
+/// Drops so many bytes at the front of a text. The room that they had stays.
+fn drop_front(text: &mut Vec<u8>, count: usize) -> Result<(), AllocError>
+    requires { count ≤ vec_len text.old }
+    ensures { OnOk result (text.new.items ≡ drop count text.old.items) }
+{
+    let mut rest = text.split_off(count)?;
+    text.clear();
+    text.append(&mut rest)
+}
+
+/// What was counted before a text, and of the text.
+fn count_behind<R: Threads + Sync>(
+    rt: &R,
+    alloc: Global,
+    range: Range,
+    so_far: PartCount,
+    text: &[u8],
+) -> Result<PartCount, CountError>
+    requires fits { so_far.lines + length text.now < 2 ^ 64 }
+    requires few { so_far.rows ≤ so_far.lines }
+    ensures { IsCountedBehind range so_far text.now result }
+{
+    match count_rows(rt, alloc, text, range) {
+        Ok(count) => Ok(PartCount {
+            lines: so_far.lines + count.lines,
+            rows: so_far.rows + count.rows,
+        }),
+        Err(error) => Err(error_behind(so_far.lines, error)),
+    }
+}
+
+/// How many lines a text has, and how many of its rows are in the range. Its parts are read by threads side by side; the first
+/// fault in the order of the lines decides, whichever part is read first.
 fn count_rows<R: Threads + Sync>(
     rt: &R,
     alloc: Global,
     text: &[u8],
     range: Range,
-) -> Result<u64, CountError>
-    ensures counted { IfOk result (λ n. count_of range text.now ≡ Ok n) }
+) -> Result<PartCount, CountError>
+    ensures lines { IfOk result (λ count. count.lines ≡ length (lines_of text.now)) }
+    ensures rows { IfOk result (λ count. count_of range text.now ≡ Ok count.rows) }
     ensures refused { IfErr result (λ e. IfFault e (λ f. count_of range text.now ≡ Err f)) }
 {
     let parts = parts_of(alloc, text)?;
@@ -132,7 +217,7 @@ fn count_rows<R: Threads + Sync>(
             Err(error) => return Err(error_behind(lines, error)),
         }
     }
-    Ok(rows)
+    Ok(PartCount { lines, rows })
 }
 
 /// The count of each part, in order, by as many threads as there are processors.

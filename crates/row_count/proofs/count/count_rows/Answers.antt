@@ -1,6 +1,6 @@
 use Rattle.std.proofs.Common.{rules, ◌≡◌, ◌^◌, [], arith}
 use Rattle.text_lines.proofs.InParts.{lines_short}
-use Rattle.row_count.proofs.Counts.{all_counted, counts_fit, error_fits, none_counted, one_counted, part_refused}
+use Rattle.row_count.proofs.Counts.{all_counted, all_lines, counts_fit, error_fits, none_counted, one_counted, part_refused}
 use Rattle.row_count.proofs.count.count_rows.Goals as goal
 
 pub loop-count-init : goal.loop-count-init
@@ -29,7 +29,12 @@ pub returns-in-Err-clause-refused : goal.returns-in-Err-clause-refused
 returns-in-Err-clause-refused g c =
     part_refused c.args.range c.args.text.now c.loop-count.lines c.loop-count.rows c.loop-count.counts.items c.pop_front.new.self.items c.in-Some.count c.loop-count.invariant c.in-Some.ensures.items c.in-Err.error c.error_behind.result c.in-Err.is c.error_behind.ensures
 
-pub returns-clause-counted : goal.returns-clause-counted
-returns-clause-counted g c =
+pub returns-clause-lines : goal.returns-clause-lines
+returns-clause-lines g c =
+    let none : c.loop-count.counts.items ≡ [] = search rules in
+    all_lines c.args.range c.args.text.now c.loop-count.lines c.loop-count.rows c.loop-count.counts.items c.loop-count.invariant none
+
+pub returns-clause-rows : goal.returns-clause-rows
+returns-clause-rows g c =
     let none : c.loop-count.counts.items ≡ [] = search rules in
     all_counted c.args.range c.args.text.now c.loop-count.lines c.loop-count.rows c.loop-count.counts.items c.loop-count.invariant none
