@@ -7,6 +7,7 @@ use Rattle.std.proofs.lemmas.List.{drop-take, take-take}
 use Rattle.std.proofs.Math.Seq.{drop-nil}
 use Rattle.region_head.specs.declared.head.Head.TheVariants.{Version}
 use Rattle.region_head.specs.Head.{head_of}
+use Rattle.region_head.proofs.Heads.{head_long}
 use Rattle.region_layout.specs.declared.directory.Place.{Place}
 use Rattle.region_layout.specs.declared.directory.TablePlaces.{TablePlaces}
 use Rattle.region_layout.specs.declared.directory.Directory.{Directory}
