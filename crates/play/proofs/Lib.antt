@@ -12,3 +12,4 @@ pub mod Short
 pub mod Statuses
 pub mod Soaked
 pub mod Looked
+pub mod Pieces

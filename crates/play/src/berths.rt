@@ -21,17 +21,25 @@ use crate::standing::play_followed;
 use crate::tables::{NewTables, new_tables};
 use berth_face::{Berth, Gate, Sink};
 use leaf_model::Names;
-use line_pieces::{WriteError, write_pieces};
 use player::Crew;
-use printed_lines::Line;
+use printed_lines::{Line, put_lines};
 use rollover_watch::Watch;
-use run_ends::Status;
+use run_ends::{Status, write_all};
 use script_text::{Command, Fleet, Item, Items};
 use standing_feed::Followers;
 use std::alloc::{AllocError, Global};
 use std::collections::VecDeque;
 use std::sync::Wait;
 use std::thread::Threads;
+
+const PIECE: usize = 1_024; // lines that are put together and written at once
+
+/// Why an item's lines were not written whole.
+#[derive(Clone, Copy, Debug, PartialEq, Eq)]
+enum WriteError {
+    Failed,
+    NoMemory,
+}
 
 /// How many leaves the fleet of these items has.
 pub fn leaf_count(items: &Items) -> usize
@@ -285,4 +293,47 @@ fn write_lines<K: Sink>(
         return Err(WriteError::NoMemory);
     };
     write_pieces(alloc, names, lines.as_slice(), sink)
+}
+
+/// Writes lines one piece after another.
+fn write_pieces<K: Sink>(
+    alloc: Global,
+    names: &Names,
+    lines: &[Line],
+    sink: &mut K,
+) -> Result<(), WriteError>
+    requires { AllByRecursion (IsOf names.now) lines.now }
+    ensures written { OnOk result (Appends (K.written sink.old) (K.written sink.new) (lines_text names.now lines.now)) }
+    ensures front { WritesFront (K.written sink.old) (K.written sink.new) (lines_text names.now lines.now) }
+    ensures failed { IsErrOf result WriteError.Failed → Rose (K.faults sink.old) (K.faults sink.new) }
+    ensures later { K.faults sink.old ≤ K.faults sink.new }
+{
+    let mut text = Vec::new(alloc);
+    for piece in lines.chunks(PIECE) {
+        write_piece(&mut text, names, piece, sink)?;
+    }
+    Ok(())
+}
+
+/// Writes a piece of lines at once; what the text held before is gone.
+fn write_piece<K: Sink>(
+    text: &mut Vec<u8>,
+    names: &Names,
+    piece: &[Line],
+    sink: &mut K,
+) -> Result<(), WriteError>
+    requires { AllByRecursion (IsOf names.now) piece.now }
+    ensures written { OnOk result (Appends (K.written sink.old) (K.written sink.new) (lines_text names.now piece.now)) }
+    ensures front { WritesFront (K.written sink.old) (K.written sink.new) (lines_text names.now piece.now) }
+    ensures failed { IsErrOf result WriteError.Failed → Rose (K.faults sink.old) (K.faults sink.new) }
+    ensures later { K.faults sink.old ≤ K.faults sink.new }
+{
+    text.clear();
+    if put_lines(text, names, piece).is_err() {
+        return Err(WriteError::NoMemory);
+    }
+    match write_all(text.as_slice(), sink) {
+        Ok(()) => Ok(()),
+        Err(_) => Err(WriteError::Failed),
+    }
 }

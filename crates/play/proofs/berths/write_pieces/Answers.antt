@@ -1,7 +1,7 @@
 use Rattle.std.proofs.Common.{ap, ◌∙◌, arith}
 use Rattle.std.specs.Slice.Iter.{chunks_rest, chunks_size}
-use Rattle.line_pieces.proofs.Writing.{pieces_begin, piece_fits, pieces_go_on, pieces_end, pieces_cut, whole_front}
-use Rattle.line_pieces.proofs.pieces.write_pieces.Goals as goal
+use Rattle.play.proofs.Pieces.{pieces_begin, piece_fits, pieces_go_on, pieces_end, pieces_cut, whole_front}
+use Rattle.play.proofs.berths.write_pieces.Goals as goal
 
 pub loop-piece-init : goal.loop-piece-init
 loop-piece-init g c =

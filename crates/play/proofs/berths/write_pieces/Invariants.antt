@@ -1,7 +1,7 @@
 use Rattle.std.proofs.Common.{◌≤◌}
 use Rattle.std.specs.Slice.Iter.{chunks_rest}
-use Rattle.line_pieces.proofs.Writing.{AreWritten}
-use Rattle.line_pieces.proofs.pieces.write_pieces.Given as goal
+use Rattle.play.proofs.Pieces.{AreWritten}
+use Rattle.play.proofs.berths.write_pieces.Given as goal
 
 abbrev pub invariant-loop-piece : goal.invariant-loop-piece
 invariant-loop-piece g l = record {
