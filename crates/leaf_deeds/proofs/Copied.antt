@@ -32,7 +32,7 @@ use Rattle.leaf_machine.proofs.UpMaking.{makes_since}
 use Rattle.printed_lines.specs.declared.line.Ending.TheVariants as ending
 use Rattle.transcript.specs.Life.{MayMake}
 use Rattle.leaf_moves.specs.Steps as step
-use Rattle.leaf_moves.specs.Steps.{HasCopyLength, MakesStep, RegionStopped}
+use Rattle.leaf_moves.specs.Steps.{AreShut, HasCopyLength, MakesStep, RegionStopped}
 use Rattle.leaf_deeds.specs.Steps.{AreLeft, Spends, copy_left}
 use Rattle.leaf_deeds.specs.Moves as move
 use Rattle.leaf_deeds.specs.Moves.{CopyEnds, CopyRests, CopyStands, MakesCopies}
@@ -102,10 +102,11 @@ failed_copy leaf fault = Err (leaf, fault)
 -- ---- how many steps it takes
 
 -- a copy that begins takes three steps and one for each column; of founded tables there are no more than rows and cells that were added
-pub copy_long : (x : Shutting) (c : Copying) → IsCopyOf x c → HasCopyLength x (copy_left c)
-copy_long x c is = (
+pub copy_long : (x : Shutting) (c : Copying) → IsCopyOf x c → AreShut x.serving.seated → HasCopyLength x (copy_left c)
+copy_long x c is shut = (
   subst (λ (n : Next). 3 + columns_seen x.serving.seated.tables x.serving.seated.seats ≤ left_from n c.drain.heap) (sym is.next) (let columns = is.columns in omega (arith, columns)),
   λ founded. subst (λ (n : Next). left_from n c.drain.heap ≤ 3 + columns_added x.serving.seated.tables x.serving.seated.seats) (sym is.next) (let few = is.few founded in omega (arith, few)),
+  shut,
 )
 
 last_left : (c : Copying) → c.drain.next ≡ next.Flag → copy_left c ≡ 1

@@ -1,25 +1,27 @@
 -- What a drain's parts come to.
-use Rattle.std.proofs.Common.{◌≡◌, ℕ, suc, ◌+◌, ◌*◌, ◌-◌, ◌<◌, ◌≤◌, true, false, List, [], ◌++◌, length, Option, Result, Ok, Err, refl, sym, ap, subst, ◌∙◌, arith}
-use Rattle.std.specs.Prelude.{IsTrue}
+use Rattle.std.proofs.Common.{◌≡◌, ℕ, suc, ◌+◌, ◌*◌, ◌-◌, ◌<◌, ◌≤◌, Bool, true, false, List, [], ◌++◌, length, Option, Result, Ok, Err, refl, sym, ap, subst, ◌∙◌, arith}
+use Rattle.std.specs.Prelude.{IsTrue, if◌then◌else◌}
+use Rattle.std.proofs.lemmas.Option.{slice_get_within}
 use Rattle.std.proofs.lemmas.List.{length-append}
 use Rattle.berth_face.specs.Berth.{Meaning, Passes}
 use Rattle.leaf_model.specs.declared.writes.Write.{Write}
 use Rattle.crash_moments.proofs.Telling.{told_join}
 use Rattle.crash_states.specs.Standing.{Runs}
 use Rattle.leaf_steward.specs.declared.notes.Note.{Note}
-use Rattle.leaf_steward.specs.Seated.{Seated, AreFounded, watched_by}
+use Rattle.leaf_table.specs.Calls.{base_seen, state_seen}
+use Rattle.leaf_steward.specs.Seated.{Seated, AreFounded, AtEach, watched_by}
 use Rattle.leaf_steward.specs.Making.{Makes, EachNoted, IsClosedNote}
 use Rattle.leaf_steward.proofs.WatchMakes.{makes_tables}
 use Rattle.leaf_machine.specs.declared.preparing.Prepared.{Prepared}
 use Rattle.leaf_machine.specs.declared.preparing.Prepared.TheVariants as prepared
 use Rattle.leaf_machine.specs.declared.preparing.PrepareFault.{PrepareFault}
 use Rattle.leaf_machine.specs.declared.preparing.PrepareFault.TheVariants as fault
-use Rattle.leaf_machine.specs.States.{Shutting, Copying, GoesOnCopying, RestsOn, GoesOnServing, treated}
+use Rattle.leaf_machine.specs.States.{Shutting, Copying, GoesOnCopying, IsShutAndTaken, RestsOn, GoesOnServing, treated}
 use Rattle.leaf_machine.specs.Prepares.{AllTreated, CrowdsStep, IsCrowded, IsTreatingStep, StepGoesOn, berth_of_step, seats_of_step}
 use Rattle.leaf_machine.proofs.UpMaking.{makes_join}
 use Rattle.leaf_moves.specs.Stage.{IsPreparing, Carries}
 use Rattle.leaf_moves.specs.Steps as step
-use Rattle.leaf_moves.specs.Steps.{MakesStep, MakesSteps}
+use Rattle.leaf_moves.specs.Steps.{AreShut, MakesStep, MakesSteps}
 use Rattle.leaf_deeds.specs.declared.drain.Shut.TheVariants as how
 use Rattle.leaf_deeds.specs.Steps.{AreLeft, Spends, copy_left}
 use Rattle.leaf_deeds.specs.Moves as move
@@ -111,13 +113,13 @@ module _ {B : Type 0} (meaning : B → Meaning) (x : Shutting) (m : Meaning) (st
     }
 
     -- all are treated, and the copy is planned
-    pub shut_ready : (copy : Copying × B) → Stepped meaning leaf.0 (meaning leaf.1) notes (ready_step copy) → move.ShutsTables meaning x m stop (before ++ notes) (how.Ready copy) left'
-    shut_ready copy stepped = record {
+    pub shut_ready : (copy : Copying × B) → (AllTreated leaf.0 → AreShut leaf.0.serving.seated) → Stepped meaning leaf.0 (meaning leaf.1) notes (ready_step copy) → move.ShutsTables meaning x m stop (before ++ notes) (how.Ready copy) left'
+    shut_ready copy shut stepped = record {
       ends = record {
         whole = leaf.0;
         made = suc so_far.made;
         steps = makes_more so_far.made (step.Shuts x) before (step.Shuts leaf.0) notes (step.Copies leaf.0 (copy_left copy.0) 0) so_far.steps
-            (MakesStep.plans leaf.0 (copy_left copy.0) refl stepped.one.0 (copy_long leaf.0 copy.0 stepped.one.2) stepped.one.1 refl);
+            (MakesStep.plans leaf.0 (copy_left copy.0) refl stepped.one.0 (copy_long leaf.0 copy.0 stepped.one.2 (shut stepped.one.0)) stepped.one.1 refl);
         left_are = left_now;
         copy = stepped.one.2;
         carries = copy_carries;
@@ -188,8 +190,8 @@ module _ {B : Type 0} (meaning : B → Meaning) (x : Shutting) (m : Meaning) (st
             reads = half_far.reads;
           }
 
-      pub shut_roomless : f ≡ fault.NoRoom → move.ShutsTables meaning x m stop (before ++ notes) (how.Roomless half) left'
-      shut_roomless e =
+      pub shut_roomless : (AllTreated leaf.0 → AreShut leaf.0.serving.seated) → f ≡ fault.NoRoom → move.ShutsTables meaning x m stop (before ++ notes) (how.Roomless half) left'
+      shut_roomless shut e =
           let one : IsTreatingStep leaf.0 notes (failed_step half fault.NoRoom) = subst (λ (g : PrepareFault). IsTreatingStep leaf.0 notes (failed_step half g)) e stepped.one in
           let crowded : CrowdsStep leaf.0 (failed_step half fault.NoRoom) = subst (λ (g : PrepareFault). CrowdsStep leaf.0 (failed_step half g)) e stepped.crowds in
           let stays : leaf.0 ≡ half.0 = sym one.3 in
@@ -199,6 +201,7 @@ module _ {B : Type 0} (meaning : B → Meaning) (x : Shutting) (m : Meaning) (st
               steps = subst (λ (z : Shutting). MakesSteps so_far.made (step.Shuts x) (before ++ notes) (step.Shuts z)) stays
                   (makes_still so_far.made (step.Shuts x) before notes (step.Shuts leaf.0) one.2 so_far.steps);
               all = subst AllTreated stays one.0;
+              shut = subst (λ (z : Shutting). AreShut z.serving.seated) stays (shut one.0);
               crowded = subst (λ (z : Shutting). IsCrowded z.serving.seated) stays crowded;
               may = may_make stop left' (suc so_far.made) left_now;
               carries = half_carries;
@@ -206,6 +209,16 @@ module _ {B : Type 0} (meaning : B → Meaning) (x : Shutting) (m : Meaning) (st
             };
             reads = half_far.reads;
           }
+
+-- ---- all are treated
+
+-- so each is shut
+pub all_shut : (x : Shutting) → AtEach (λ place t v. place < length x.closed → IsShutAndTaken (state_seen (base_seen t) v)) x.serving.seated → AllTreated x → AreShut x.serving.seated
+all_shut x closed all place t v at was = (closed place t v at was (let below = slice_get_within x.serving.seated.tables place t at in let few : treated x ≤ length x.closed = fewer x.waits in omega (arith, below, all, few))).shut
+  where
+    fewer : (b : Bool) → (if b then length x.closed - 1 else length x.closed) ≤ length x.closed
+    fewer true = omega arith
+    fewer false = omega arith
 
 -- ---- a leaf that is killed
 

@@ -203,7 +203,7 @@ module _ {B : Type 0} (meaning : B → Meaning) (x : Shutting) (m : Meaning) (le
   -- the copy has no room
   pub drain_roomless : (whole : Shutting × B) → move.ShutsTables meaning x m stop before (how.Roomless whole) left → Drains m (meaning whole.1) leaf stop before ending.FaultRoom (IsPreparing whole.0)
   drain_roomless whole shut = record {
-    moves = step.roomless x whole.0 shut.ends.made shuts shut.ends.steps shut.ends.all shut.ends.crowded shut.ends.may shut.ends.region refl refl;
+    moves = step.roomless x whole.0 shut.ends.made shuts shut.ends.steps shut.ends.all (shut.ends.shut, shut.ends.crowded) shut.ends.may shut.ends.region refl refl;
     carries = begins_carries leaf x (IsPreparing whole.0) before m (meaning whole.1) shuts shut.ends.carries;
     reads = shut.reads;
   }

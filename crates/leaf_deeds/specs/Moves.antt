@@ -22,7 +22,7 @@ use Rattle.transcript.specs.Life.{MayMake}
 use Rattle.leaf_moves.specs.Stage as stage
 use Rattle.leaf_moves.specs.Stage.{Leaf, IsDown, IsPreparing, Stands, Carries, MeetsIf, seated_of, with_seats}
 use Rattle.leaf_moves.specs.Steps as step
-use Rattle.leaf_moves.specs.Steps.{Part, MakesSteps, DrainMoves, RegionStopped}
+use Rattle.leaf_moves.specs.Steps.{AreShut, Part, MakesSteps, DrainMoves, RegionStopped}
 use Rattle.leaf_deeds.specs.declared.drain.Shut.{Shut}
 use Rattle.leaf_deeds.specs.declared.drain.Shut.TheVariants as shut
 use Rattle.leaf_deeds.specs.Steps.{AreLeft, copy_left}
@@ -109,6 +109,7 @@ pub record IsRoomless (x : Shutting) (m : Meaning) (stop : Option ℕ) (notes : 
   pub made : ℕ
   pub steps : MakesSteps made (step.Shuts x) notes (step.Shuts y)
   pub all : AllTreated y
+  pub shut : AreShut y.serving.seated
   pub crowded : IsCrowded y.serving.seated
   pub may : MayMake stop (suc made)
   pub carries : Carries (IsPreparing x) (IsPreparing y) notes m m'

@@ -6,12 +6,12 @@ ghost use Rattle.berth_face.specs.Causes.{HasCause};
 ghost use Rattle.leaf_history.specs.History.{LegalFrom};
 ghost use Rattle.turnstile.specs.Seats.{IsSeatOf, LearnsOthers, Told};
 ghost use Rattle.leaf_table.specs.Turns.{is_founded, start_of};
-ghost use Rattle.leaf_table.specs.Calls.{base_seen, seen_of};
+ghost use Rattle.leaf_table.specs.Calls.{base_seen, seen_of, state_seen};
 ghost use Rattle.crash_states.specs.Standing.{Runs};
 ghost use Rattle.leaf_steward.specs.declared.notes.Note.{Note};
-ghost use Rattle.leaf_steward.specs.Seated.{AreFounded, AreSeated, AtPlace, watched_by, with_seat};
+ghost use Rattle.leaf_steward.specs.Seated.{AreFounded, AreSeated, AtEach, AtPlace, watched_by, with_seat};
 ghost use Rattle.leaf_steward.specs.Making.{EachNoted, IsClosedNote, Makes};
-ghost use Rattle.leaf_machine.specs.States.{RestsOn, treated};
+ghost use Rattle.leaf_machine.specs.States.{IsShutAndTaken, RestsOn, treated};
 ghost use Rattle.leaf_machine.specs.declared.preparing.PrepareFault.TheVariants as prepare_fault;
 ghost use Rattle.leaf_machine.specs.Prepares.{CrowdsStep, Halts, IsTreatingStep, RoseStep, StepGoesOn, berth_of_step, seats_of_step, told_of_plan};
 ghost use Rattle.leaf_machine.specs.PrepParts.{IsAllTreated, IsNextTreated, IsPartOfStep, RoseNext, Settles, ShutsNext};
@@ -84,11 +84,14 @@ impl<'t, B: Berth> Model for Preparing<'t, B> {
 }
 
 impl<'t, B: Berth> Preparing<'t, B> {
-    /// Does nothing. It says what always holds of a leaf's seats, that no more tables are shut than there are, and that a leaf with a shut table that is not treated has shut one.
+    /// Does nothing. It says what always holds of a leaf's seats, that no more tables are shut than there are, that the
+    /// first are, and that a leaf with a shut table that is not treated has shut one.
     pub fn shuts(&self)
         ensures some { IsTrue self.now.0.waits → 0 < length self.now.0.closed }
         ensures within { length self.now.0.closed ≤ length self.now.0.serving.seated.tables }
         ensures seated { AreSeated self.now.0.serving.seated }
+        ensures closed { AtEach (λ place t v. place < length self.now.0.closed
+            → IsShutAndTaken (state_seen (base_seen t) v)) self.now.0.serving.seated }
     {
         self.seats.sits();
         let _tables = &self.tables;

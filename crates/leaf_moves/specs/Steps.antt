@@ -14,11 +14,11 @@ use Rattle.crash_moments.specs.Left.{NamedStates}
 use Rattle.leaf_table.specs.declared.replies.Reply.{Reply}
 use Rattle.leaf_table.specs.declared.replies.Reply.TheVariants as told
 use Rattle.leaf_table.specs.Turns.{Shared}
-use Rattle.leaf_table.specs.Calls.{SeatView, base_seen, Answered}
+use Rattle.leaf_table.specs.Calls.{SeatView, SeesShut, base_seen, Answered}
 use Rattle.leaf_steward.specs.declared.notes.Note.{Note}
 use Rattle.leaf_steward.specs.declared.notes.What.{What}
 use Rattle.leaf_steward.specs.declared.notes.What.TheVariants as what
-use Rattle.leaf_steward.specs.Seated.{Seated, AreFounded}
+use Rattle.leaf_steward.specs.Seated.{Seated, AreFounded, AtEach}
 use Rattle.leaf_steward.specs.Making.{Makes, EachNoted, IsClosedNote, IsHandedNote, WornAt}
 use Rattle.leaf_machine.specs.declared.faults.StartFault.{StartFault}
 use Rattle.leaf_machine.specs.declared.faults.StartFault.TheVariants as fault
@@ -217,11 +217,15 @@ pub data At : Type 0 where
   Shuts : (x : Shutting) → At
   Copies : (x : Shutting) (copy made : ℕ) → At
 
+-- each table is shut
+abbrev pub AreShut : Seated → Type 0
+AreShut x = AtEach (λ place t v. SeesShut t v) x
+
 -- the copy of its tables takes that many steps: the begin, the columns, the directory, and the flag. There are at least the columns that the rows ask for, and of founded tables at most
--- one for each row and each cell that was added.
+-- one for each row and each cell that was added; and each table is shut.
 abbrev pub HasCopyLength : Shutting → ℕ → Type 0
 HasCopyLength x copy = (3 + columns_seen x.serving.seated.tables x.serving.seated.seats ≤ copy)
-    × (AreFounded x.serving.seated → copy ≤ 3 + columns_added x.serving.seated.tables x.serving.seated.seats)
+    × (AreFounded x.serving.seated → copy ≤ 3 + columns_added x.serving.seated.tables x.serving.seated.seats) × AreShut x.serving.seated
 
 -- One step that neither ends the drain nor fails: one table more is treated; or all are, and their copy is planned; or a step of the copy is made.
 pub data MakesStep (s : At) (notes : List Note) (t : At) : Type 0 where
@@ -293,7 +297,7 @@ pub data DrainMoves (m m' : Meaning) (leaf : Leaf) (stop : Option ℕ) (notes : 
       → BeginsShutting leaf x
       → MakesSteps n (Shuts x) notes (Shuts y)
       → AllTreated y
-      → IsCrowded y.serving.seated
+      → AreShut y.serving.seated × IsCrowded y.serving.seated
       → MayMake stop (suc n)
       → (IsTrue m.tells → m'.held.region ≡ m.held.region)
       → ends ≡ ending.FaultRoom

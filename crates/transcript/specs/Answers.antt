@@ -1,15 +1,13 @@
 -- What the answers and tails say, by the histories; which seats are told as worn; and which columns tables have that are handed over.
-use Rattle.std.specs.Prelude.{◌≡◌, ℕ, zero, suc, ◌+◌, ◌^◌, ◌≤◌, List, [], ◌∷◌, length, Option, Some, None, IfSome, if◌then◌else◌, ⊤}
-use Rattle.std.specs.List.{flat_map, AllByRecursion}
+use Rattle.std.specs.Prelude.{◌≡◌, ℕ, ◌==◌, ◌+◌, ◌^◌, ◌≤◌, List, [], ◌∷◌, length, fold, sum_by, take, Option, Some, None, IfSome, if◌then◌else◌, ⊤}
+use Rattle.std.specs.List.{flat_map, range_with_len, AllByRecursion}
 use Rattle.leaf_model.specs.declared.rows.Row.{Row}
 use Rattle.leaf_model.specs.declared.queries.Query.{Query}
 use Rattle.leaf_model.specs.Groups.{groups}
 use Rattle.answer_text.specs.Answer.{answer_lines}
-use Rattle.leaf_model.specs.declared.writes.Write.TheVariants as write
-use Rattle.leaf_history.specs.Calls.{Call}
-use Rattle.leaf_history.specs.Calls as call
-use Rattle.leaf_history.specs.History.{Entry, is_refusal}
-use Rattle.table_state.specs.Tables.{added_by, added_count, least_columns}
+use Rattle.leaf_model.specs.declared.writes.Write.{Write}
+use Rattle.leaf_history.specs.History.{Entry, after}
+use Rattle.table_state.specs.Tables.{added_count, least_columns}
 use Rattle.script_text.specs.declared.command.Command.{Command}
 use Rattle.script_text.specs.declared.command.Command.TheVariants as command
 use Rattle.printed_lines.specs.declared.line.Ending.{Ending}
@@ -72,30 +70,18 @@ abbrev pub columns_handed : (ℕ → Ground) → (ℕ → List Entry) → List N
 columns_handed grounds histories [] = 0
 columns_handed grounds histories (n ∷ ns) = least_columns (rows_before (grounds n.table) (histories n.table) n.number) + columns_handed grounds histories ns
 
--- the rows and cells that one entry adds
-abbrev pub added_in : Call → ℕ
-added_in (call.Add rows) = added_by (write.Add rows)
-added_in c = 0
+-- the number of the last entry of a table that these notes tell
+abbrev pub last_of : ℕ → List Noted → ℕ
+last_of table notes = fold (λ (last : ℕ) (n : Noted). if n.table == table then n.number else last) 0 notes
 
-abbrev pub entries_added : List Entry → ℕ
-entries_added [] = 0
-entries_added (e ∷ es) = (if is_refusal e.reply then 0 else added_in e.call) + entries_added es
+-- the writes that the table has behind it
+abbrev pub writes_then : (ℕ → Ground) → (ℕ → List Entry) → List Noted → ℕ → List Write
+writes_then grounds histories notes table = (after (grounds table).founded (grounds table).base (take (last_of table notes) (histories table))).writes
 
--- the rows and cells that the writes of a table ever added: those that it begins from, and those of its history
-abbrev pub ever_added : Ground → List Entry → ℕ
-ever_added g entries = added_count g.base.writes + entries_added entries
-
--- the same of so many tables, from a place on
-abbrev pub columns_ever : (ℕ → Ground) → (ℕ → List Entry) → ℕ → ℕ → ℕ
-columns_ever grounds histories place zero = 0
-columns_ever grounds histories place (suc n) = ever_added (grounds place) (histories place) + columns_ever grounds histories (suc place) n
-
--- and with as many more as there are writes that they begin from, and entries
-abbrev pub bulk_ever : (ℕ → Ground) → (ℕ → List Entry) → ℕ → ℕ → ℕ
-bulk_ever grounds histories place zero = 0
-bulk_ever grounds histories place (suc n) =
-    length (grounds place).base.writes + length (histories place) + ever_added (grounds place) (histories place) + bulk_ever grounds histories (suc place) n
-
--- how many columns the tables of a leaf have when they are copied: one at most for each row and each cell that was ever added
-abbrev pub columns_of : (ℕ → Ground) → (ℕ → List Entry) → ℕ → Columns
-columns_of grounds histories tables = record { least = columns_handed grounds histories; most = columns_ever grounds histories 0 tables; bulk = bulk_ever grounds histories 0 tables }
+-- how many columns the tables of a leaf have when they are copied, behind these entries: one at most for each row and each cell that their writes add
+abbrev pub columns_of : (ℕ → Ground) → (ℕ → List Entry) → ℕ → List Noted → Columns
+columns_of grounds histories tables notes = record {
+  least = columns_handed grounds histories;
+  most = sum_by (λ table. added_count (writes_then grounds histories notes table)) (range_with_len 0 tables);
+  bulk = sum_by (λ table. length (writes_then grounds histories notes table) + added_count (writes_then grounds histories notes table)) (range_with_len 0 tables);
+}

@@ -1,6 +1,6 @@
 -- The life of one leaf, as its steward's deeds print it: in which state it is, what its next start prints, and what its next `opened` lines tell.
 -- No rule looks at a table's history; how many columns tables have at least and at most that are copied is said from outside.
-use Rattle.std.specs.Prelude.{◌≡◌, ℕ, zero, suc, ◌+◌, ◌<◌, ◌≤◌, ◌^◌, Bool, true, false, ◌&&◌, List, [], ◌∷◌, ◌++◌, length, map, Option, Some, None, IfSome, option_map, slice_set, replicate, ◌==◌, MatchBool, if◌then◌else◌, ⊤}
+use Rattle.std.specs.Prelude.{◌≡◌, ◌⊎◌, ℕ, zero, suc, ◌+◌, ◌<◌, ◌≤◌, ◌^◌, Bool, true, false, ◌&&◌, List, [], ◌∷◌, ◌++◌, length, map, Option, Some, None, IfSome, option_map, slice_set, replicate, if◌then◌else◌, ⊤}
 use Rattle.leaf_words.specs.declared.ways.Way.{Way}
 use Rattle.leaf_words.specs.declared.ways.Way.TheVariants.{Memory, Disk}
 use Rattle.leaf_words.specs.declared.ways.WhyDisk.TheVariants as why
@@ -11,7 +11,7 @@ use Rattle.printed_lines.specs.declared.line.Ending.{Ending}
 use Rattle.printed_lines.specs.declared.line.Ending.TheVariants as ends
 use Rattle.printed_lines.specs.declared.line.Deed.{Deed}
 use Rattle.printed_lines.specs.declared.line.Deed.TheVariants.{Start, Flush, Drain, Kill}
-use Rattle.transcript.specs.Pieces.{Noted, Piece, Acted}
+use Rattle.transcript.specs.Pieces.{Did, Noted}
 
 -- what the log is owed: a table's place, and how many writes were taken of it up to then
 pub record Owed : Type 0 where
@@ -47,18 +47,14 @@ Notes place [] [] = ⊤
 Notes place (said ∷ saids) (n ∷ ns) = (n.table ≡ place) × (n.said ≡ said) × Notes (suc place) saids ns
 Notes place _ _ = ⊥
 
--- one entry of a table
-abbrev pub Note : ℕ → Said → List Noted → Type 0
-Note table said notes = (number : ℕ) × (notes ≡ record { table = table; number = number; said = said } ∷ [])
+-- what was owed, once it is on the disk
+abbrev pub owed_words : Option Owed → List (ℕ × Said)
+owed_words None = []
+owed_words (Some o) = (o.table, Flushed o.count) ∷ []
 
--- two entries of a table
-abbrev pub TwoNotes : ℕ → Said → Said → List Noted → Type 0
-TwoNotes table one other notes = (first second : ℕ) × (notes ≡ record { table = table; number = first; said = one } ∷ record { table = table; number = second; said = other } ∷ [])
-
--- the entry of what was owed, once it is on the disk
-abbrev pub OwedNote : Option Owed → List Noted → Type 0
-OwedNote None notes = notes ≡ []
-OwedNote (Some o) notes = Note o.table (Flushed o.count) notes
+-- the notes tell what was owed, and then these words of one table
+abbrev pub NotesOf : Option Owed → ℕ → List Said → List Noted → Type 0
+NotesOf owed table saids notes = map (λ (n : Noted). (n.table, n.said)) notes ≡ owed_words owed ++ map (λ (said : Said). (table, said)) saids
 
 -- how many writes of each table are known to be on the disk behind an entry
 abbrev pub durable_by : List ℕ → ℕ → Said → List ℕ
@@ -109,66 +105,25 @@ way_refused ends.FaultRegion way = None
 way_refused (ends.FaultWorn table) way = way
 way_refused _ way = option_map way_after way
 
-pub data OfStart (told : Bool) (tables : ℕ) (life : Life) (notes : List Noted) (ending : Ending) (next : Life) : Type 0 where
-  opens : (way : Way) (counts : List ℕ)
-      → life.mode ≡ Down
-      → MayCome told way
-      → IfSome life.way (λ w. way ≡ w)
-      → IfSome life.durable (λ known. counts ≡ known)
-      → length counts ≡ tables
-      → Notes 0 (map Opened counts) notes
-      → ending ≡ ends.Started way
-      → next ≡ record { mode = Up None; way = claimed told (way_after way); durable = claimed told counts; begun = true }
-      → OfStart told tables life notes ending next
-  refuses : life.mode ≡ Down
-      → IsStartRefusal told life.begun tables ending
-      → notes ≡ []
-      → next ≡ on life Down (way_refused ending life.way) []
-      → OfStart told tables life notes ending next
-  not_down : (life.mode ≡ Down → ⊥)
-      → notes ≡ []
-      → ending ≡ ends.NotDown
-      → next ≡ life
-      → OfStart told tables life notes ending next
+-- each table is opened; or it is refused, and makes no entry; or the leaf is not down
+abbrev pub OfStart : Bool → ℕ → Life → List Noted → Ending → Life → Type 0
+OfStart told tables life notes (ends.Started way) next = (counts : List ℕ) × (life.mode ≡ Down) × MayCome told way × IfSome life.way (λ w. way ≡ w) × IfSome life.durable (λ known. counts ≡ known)
+    × (length counts ≡ tables) × Notes 0 (map Opened counts) notes × (next ≡ record { mode = Up None; way = claimed told (way_after way); durable = claimed told counts; begun = true })
+OfStart told tables life notes ends.NotDown next = (life.mode ≡ Down → ⊥) × (notes ≡ []) × (next ≡ life)
+OfStart told tables life notes ending next = (life.mode ≡ Down) × IsStartRefusal told life.begun tables ending × (notes ≡ []) × (next ≡ on life Down (way_refused ending life.way) [])
 
 -- ---- flushes
 
 -- What was owed is flushed, and then the table is taken and flushed with one number of writes; or the disk fails, before anything was flushed or when the table
 -- was taken; or the table's seat is worn; or the leaf is not up.
-pub data OfFlush (table : ℕ) (life : Life) (notes : List Noted) (ending : Ending) (next : Life) : Type 0 where
-  done : (owed : Option Owed) (first own : List Noted) (count : ℕ)
-      → life.mode ≡ Up owed
-      → OwedNote owed first
-      → TwoNotes table (Took count) (Flushed count) own
-      → notes ≡ first ++ own
-      → ending ≡ ends.Done
-      → next ≡ on life (Up None) life.way notes
-      → OfFlush table life notes ending next
-  half : (owed : Option Owed) (first own : List Noted) (count : ℕ)
-      → life.mode ≡ Up owed
-      → OwedNote owed first
-      → Note table (Took count) own
-      → notes ≡ first ++ own
-      → ending ≡ ends.FaultDisk
-      → next ≡ failed life (Up (Some (record { table = table; count = count })))
-      → OfFlush table life notes ending next
-  stuck : (o : Owed)
-      → life.mode ≡ Up (Some o)
-      → notes ≡ []
-      → ending ≡ ends.FaultDisk
-      → next ≡ failed life (Up (Some o))
-      → OfFlush table life notes ending next
-  worn : (owed : Option Owed)
-      → life.mode ≡ Up owed
-      → OwedNote owed notes
-      → ending ≡ ends.Worn
-      → next ≡ on life (Up None) life.way notes
-      → OfFlush table life notes ending next
-  not_up : ((owed : Option Owed) → life.mode ≡ Up owed → ⊥)
-      → notes ≡ []
-      → ending ≡ ends.NotUp
-      → next ≡ life
-      → OfFlush table life notes ending next
+abbrev pub OfFlush : ℕ → Life → List Noted → Ending → Life → Type 0
+OfFlush table life notes ends.Done next =
+    (owed : Option Owed) × (count : ℕ) × (life.mode ≡ Up owed) × NotesOf owed table (Took count ∷ Flushed count ∷ []) notes × (next ≡ on life (Up None) life.way notes)
+OfFlush table life notes ends.FaultDisk next = ((owed : Option Owed) × (count : ℕ) × (life.mode ≡ Up owed) × NotesOf owed table (Took count ∷ []) notes
+    × (next ≡ failed life (Up (Some (record { table = table; count = count }))))) ⊎ ((o : Owed) × (life.mode ≡ Up (Some o)) × (notes ≡ []) × (next ≡ failed life (Up (Some o))))
+OfFlush table life notes ends.Worn next = (owed : Option Owed) × (life.mode ≡ Up owed) × NotesOf owed table [] notes × (next ≡ on life (Up None) life.way notes)
+OfFlush table life notes ends.NotUp next = ((owed : Option Owed) → life.mode ≡ Up owed → ⊥) × (notes ≡ []) × (next ≡ life)
+OfFlush table life notes _ next = ⊥
 
 -- ---- the steps of a drain
 
@@ -184,36 +139,24 @@ BeginsAt (Up owed) p = p ≡ record { owed = owed; treated = 0; waits = false }
 BeginsAt (Preparing at) p = p ≡ at
 
 -- one table more is treated: what was owed is flushed; then the next table is closed and flushed with one number of writes, where it was not shut before
-pub data Treats (p : Progress) (notes : List Noted) (q : Progress) : Type 0 where
-  whole : (first own : List Noted) (count : ℕ)
-      → p.waits ≡ false
-      → OwedNote p.owed first
-      → TwoNotes p.treated (Closed count) (Flushed count) own
-      → notes ≡ first ++ own
-      → q ≡ record { owed = None; treated = suc p.treated; waits = false }
-      → Treats p notes q
-  rest : p.waits ≡ true
-      → OwedNote p.owed notes
-      → q ≡ record { owed = None; treated = suc p.treated; waits = false }
-      → Treats p notes q
+abbrev pub Treats : Progress → List Noted → Progress → Type 0
+Treats p notes q =
+    ((count : ℕ) × NotesOf p.owed p.treated (if p.waits then [] else Closed count ∷ Flushed count ∷ []) notes) × (q ≡ record { owed = None; treated = suc p.treated; waits = false })
 
--- One step that neither ends the drain nor fails, of tables so many, and of a copy that takes so many steps.
-pub data Step (tables copy : ℕ) (s : Stage) (notes : List Noted) (t : Stage) : Type 0 where
-  treats : (p q : Progress)
-      → s ≡ Shutting p → p.treated < tables → Treats p notes q → t ≡ Shutting q → Step tables copy s notes t
-  plans : (p : Progress)
-      → s ≡ Shutting p → p.treated ≡ tables → notes ≡ [] → t ≡ Copying 0 → Step tables copy s notes t
-  copies : (made : ℕ)
-      → s ≡ Copying made → suc made < copy → notes ≡ [] → t ≡ Copying (suc made) → Step tables copy s notes t
+-- One step that neither ends the drain nor fails, of tables so many, and of a copy that takes so many steps: a table is treated, or all are and the copy is planned, or a step of it is made.
+abbrev pub Step : ℕ → ℕ → Stage → List Noted → Stage → Type 0
+Step tables copy (Shutting p) notes (Shutting q) = (p.treated < tables) × Treats p notes q
+Step tables copy (Shutting p) notes (Copying made) = (p.treated ≡ tables) × (notes ≡ []) × (made ≡ 0)
+Step tables copy (Copying made) notes (Copying now) = (now < copy) × (notes ≡ []) × (now ≡ suc made)
+Step tables copy _ notes _ = ⊥
 
 -- so many of them
-pub data Steps (tables copy : ℕ) : ℕ → Stage → List Noted → Stage → Type 0 where
-  none : (n : ℕ) (s : Stage) (notes : List Noted) (t : Stage) → n ≡ 0 → notes ≡ [] → t ≡ s → Steps tables copy n s notes t
-  more : (n : ℕ) (s : Stage) (notes : List Noted) (t : Stage) (fewer : ℕ) (first others : List Noted) (between : Stage)
-      → n ≡ suc fewer → Step tables copy s first between → Steps tables copy fewer between others t → notes ≡ first ++ others → Steps tables copy n s notes t
+abbrev pub Steps : ℕ → ℕ → ℕ → Stage → List Noted → Stage → Type 0
+Steps tables copy zero s notes t = (notes ≡ []) × (t ≡ s)
+Steps tables copy (suc n) s notes t = (first others : List Noted) × (between : Stage) × Step tables copy s first between × Steps tables copy n between others t × (notes ≡ first ++ others)
 
 -- How many columns the tables of a leaf have when they are copied, which is no function of their content: at least so many, by the entries that hand them over; and at most so many, where
--- the leaf's base is known. And how many rows, cells and writes were ever added to them.
+-- the leaf's base is known. And how many writes they have then, with the rows and cells that these add.
 pub record Columns : Type 0 where
   pub least : List Noted → ℕ
   pub most : ℕ
@@ -231,35 +174,15 @@ IsCopyWithin told columns copy = told ≡ true → copy ≤ columns + 3
 abbrev pub IsCrowded : Bool → ℕ → Type 0
 IsCrowded told bulk = told ≡ true → 2 ^ 25 ≤ bulk
 
--- the disk fails: before anything was flushed, or when the next table was closed
-pub data Halts (p : Progress) (notes : List Noted) (q : Progress) : Type 0 where
-  half : (first own : List Noted) (count : ℕ)
-      → p.waits ≡ false
-      → OwedNote p.owed first
-      → Note p.treated (Closed count) own
-      → notes ≡ first ++ own
-      → q ≡ record { owed = Some (record { table = p.treated; count = count }); treated = p.treated; waits = true }
-      → Halts p notes q
-  stuck : (o : Owed) → p.owed ≡ Some o → notes ≡ [] → q ≡ p → Halts p notes q
+-- the disk fails: when the next table was closed, or before anything was flushed
+abbrev pub Halts : Progress → List Noted → Progress → Type 0
+Halts p notes q = ((count : ℕ) × (p.waits ≡ false) × NotesOf p.owed p.treated (Closed count ∷ []) notes × (q ≡ record { owed = Some (record { table = p.treated; count = count }); treated = p.treated; waits = true }))
+    ⊎ ((o : Owed) × (p.owed ≡ Some o) × (notes ≡ []) × (q ≡ p))
 
--- There is no memory, and what was owed is flushed: for the next table's place or the copy; or to seal the next table, which is closed and flushed; or one that was shut before.
-pub data Starves (tables : ℕ) (p : Progress) (notes : List Noted) (q : Progress) : Type 0 where
-  before : p.waits ≡ false
-      → OwedNote p.owed notes
-      → q ≡ record { owed = None; treated = p.treated; waits = false }
-      → Starves tables p notes q
-  behind : (first own : List Noted) (count : ℕ)
-      → p.waits ≡ false
-      → p.treated < tables
-      → OwedNote p.owed first
-      → TwoNotes p.treated (Closed count) (Flushed count) own
-      → notes ≡ first ++ own
-      → q ≡ record { owed = None; treated = p.treated; waits = true }
-      → Starves tables p notes q
-  still : p.waits ≡ true
-      → OwedNote p.owed notes
-      → q ≡ record { owed = None; treated = p.treated; waits = true }
-      → Starves tables p notes q
+-- There is no memory, and what was owed is flushed: for the next table's place or the copy, or to seal one that was shut before; or to seal the next table, which is closed and flushed.
+abbrev pub Starves : ℕ → Progress → List Noted → Progress → Type 0
+Starves tables p notes q = (NotesOf p.owed p.treated [] notes × (q ≡ record { owed = None; treated = p.treated; waits = p.waits }))
+    ⊎ ((count : ℕ) × (p.waits ≡ false) × (p.treated < tables) × NotesOf p.owed p.treated (Closed count ∷ Flushed count ∷ []) notes × (q ≡ record { owed = None; treated = p.treated; waits = true }))
 
 -- each table that is open is closed
 abbrev pub first_open : Progress → ℕ
@@ -282,64 +205,35 @@ way_stopped (Shutting p) way = way
 way_stopped (Copying zero) way = way
 way_stopped (Copying (suc made)) way = option_map (λ (w : Way). Disk (why.Closed 0)) way
 
+-- by so many steps it comes this far
+abbrev pub Comes : ℕ → ℕ → ℕ → Mode → List Noted → Stage → Type 0
+Comes tables copy n mode notes s = (p : Progress) × BeginsAt mode p × Steps tables copy n (Shutting p) notes s
+
 -- A drain makes its steps until one is the last and each table is handed over, which had at least the columns that are said of these entries; or one fails; or it has made as many as it was
 -- to make, and the leaf is killed. Of a copy that does not end no more steps were made than its columns ask for.
-pub data OfDrain (told : Bool) (tables : ℕ) (columns : Columns) (stop : Option ℕ) (life : Life) (notes : List Noted) (ending : Ending) (next : Life) : Type 0 where
-  done : (copy n made : ℕ) (p : Progress) (treating handing : List Noted)
-      → IsCopyLength (columns.least handing) copy → BeginsAt life.mode p → Steps tables copy n (Shutting p) treating (Copying made) → suc made ≡ copy → MayMake stop (suc n)
-      → Notes 0 (replicate tables Handed) handing
-      → notes ≡ treating ++ handing
-      → ending ≡ ends.Done
-      → next ≡ on life Down (claimed told Memory) treating
-      → OfDrain told tables columns stop life notes ending next
-  region_fails : (copy n made : ℕ) (p : Progress)
-      → IsCopyLength 0 copy → IsCopyWithin told columns.most copy → BeginsAt life.mode p → Steps tables copy n (Shutting p) notes (Copying made) → MayMake stop (suc n)
-      → ending ≡ ends.FaultRegion
-      → next ≡ on life Down None notes
-      → OfDrain told tables columns stop life notes ending next
-  no_room : (copy n : ℕ) (p q : Progress)
-      → IsCopyLength 0 copy → IsCrowded told columns.bulk → BeginsAt life.mode p → Steps tables copy n (Shutting p) notes (Shutting q) → q.treated ≡ tables → MayMake stop (suc n)
-      → ending ≡ ends.FaultRoom
-      → next ≡ on life (Preparing q) life.way notes
-      → OfDrain told tables columns stop life notes ending next
-  no_memory : (copy n : ℕ) (p q r : Progress) (treating starving : List Noted)
-      → IsCopyLength 0 copy → BeginsAt life.mode p → Steps tables copy n (Shutting p) treating (Shutting q) → Starves tables q starving r → MayMake stop (suc n)
-      → notes ≡ treating ++ starving
-      → ending ≡ ends.FaultMemory
-      → next ≡ on life (Preparing r) life.way notes
-      → OfDrain told tables columns stop life notes ending next
-  disk_fails : (copy n : ℕ) (p q r : Progress) (treating halting : List Noted)
-      → IsCopyLength 0 copy → BeginsAt life.mode p → Steps tables copy n (Shutting p) treating (Shutting q) → q.treated < tables → Halts q halting r → MayMake stop (suc n)
-      → notes ≡ treating ++ halting
-      → ending ≡ ends.FaultDisk
-      → next ≡ failed life (Preparing r)
-      → OfDrain told tables columns stop life notes ending next
-  stops : (copy n : ℕ) (p : Progress) (s : Stage) (treating closing : List Noted)
-      → IsCopyLength 0 copy → IsCopyWithin told columns.most copy → BeginsAt life.mode p → Steps tables copy n (Shutting p) treating s → stop ≡ Some n → ClosesRest tables s closing
-      → notes ≡ treating ++ closing
-      → ending ≡ ends.Stopped
-      → next ≡ on life Down (way_stopped s life.way) treating
-      → OfDrain told tables columns stop life notes ending next
-  not_up : life.mode ≡ Down
-      → notes ≡ []
-      → ending ≡ ends.NotUp
-      → next ≡ life
-      → OfDrain told tables columns stop life notes ending next
+abbrev pub OfDrain : Bool → ℕ → Columns → Option ℕ → Life → List Noted → Ending → Life → Type 0
+OfDrain told tables columns stop life notes ends.Done next = (n made : ℕ) × (treating handing : List Noted) × Comes tables (suc made) n life.mode treating (Copying made) × MayMake stop (suc n)
+    × IsCopyLength (columns.least handing) (suc made) × Notes 0 (replicate tables Handed) handing × (notes ≡ treating ++ handing) × (next ≡ on life Down (claimed told Memory) treating)
+OfDrain told tables columns stop life notes ends.FaultRegion next =
+    (copy n made : ℕ) × IsCopyWithin told columns.most copy × Comes tables copy n life.mode notes (Copying made) × MayMake stop (suc n) × (next ≡ on life Down None notes)
+OfDrain told tables columns stop life notes ends.FaultRoom next =
+    (n : ℕ) × (q : Progress) × IsCrowded told columns.bulk × Comes tables 0 n life.mode notes (Shutting q) × (q.treated ≡ tables) × MayMake stop (suc n) × (next ≡ on life (Preparing q) life.way notes)
+OfDrain told tables columns stop life notes ends.FaultMemory next = (n : ℕ) × (q r : Progress) × (treating starving : List Noted) × Comes tables 0 n life.mode treating (Shutting q) × MayMake stop (suc n)
+    × Starves tables q starving r × (notes ≡ treating ++ starving) × (next ≡ on life (Preparing r) life.way notes)
+OfDrain told tables columns stop life notes ends.FaultDisk next = (n : ℕ) × (q r : Progress) × (treating halting : List Noted) × Comes tables 0 n life.mode treating (Shutting q) × MayMake stop (suc n)
+    × (q.treated < tables) × Halts q halting r × (notes ≡ treating ++ halting) × (next ≡ failed life (Preparing r))
+OfDrain told tables columns stop life notes ends.Stopped next = (copy n : ℕ) × (s : Stage) × (treating closing : List Noted) × IsCopyWithin told columns.most copy × Comes tables copy n life.mode treating s × (stop ≡ Some n)
+    × ClosesRest tables s closing × (notes ≡ treating ++ closing) × (next ≡ on life Down (way_stopped s life.way) treating)
+OfDrain told tables columns stop life notes ends.NotUp next = (life.mode ≡ Down) × (notes ≡ []) × (next ≡ life)
+OfDrain told tables columns stop life notes _ next = ⊥
 
 -- ---- kills
 
-pub data OfKill (tables : ℕ) (life : Life) (notes : List Noted) (ending : Ending) (next : Life) : Type 0 where
-  kills : (p : Progress)
-      → BeginsAt life.mode p
-      → ClosesFrom tables (first_open p) notes
-      → ending ≡ ends.Done
-      → next ≡ on life Down life.way []
-      → OfKill tables life notes ending next
-  not_up : life.mode ≡ Down
-      → notes ≡ []
-      → ending ≡ ends.NotUp
-      → next ≡ life
-      → OfKill tables life notes ending next
+-- each open table is closed, or the leaf is down
+abbrev pub OfKill : ℕ → Life → List Noted → Ending → Life → Type 0
+OfKill tables life notes ends.Done next = (p : Progress) × BeginsAt life.mode p × ClosesFrom tables (first_open p) notes × (next ≡ on life Down life.way [])
+OfKill tables life notes ends.NotUp next = (life.mode ≡ Down) × (notes ≡ []) × (next ≡ life)
+OfKill tables life notes _ next = ⊥
 
 -- ---- all of it
 
@@ -350,9 +244,8 @@ Does told tables columns (Flush table) life notes ending next = OfFlush table li
 Does told tables columns (Drain stop) life notes ending next = OfDrain told tables columns stop life notes ending next
 Does told tables columns Kill life notes ending next = OfKill tables life notes ending next
 
--- The deeds among the pieces that are this leaf's, one after another. In a burst they stand in one lane.
-abbrev pub Lives : Bool → ℕ → Columns → ℕ → Life → List Piece → Life → Type 0
-Lives told tables columns leaf life [] next = next ≡ life
-Lives told tables columns leaf life (Acted l deed notes ending ∷ pieces) next =
-    MatchBool (l == leaf) ((between : Life) × Does told tables columns deed life notes ending between × Lives told tables columns leaf between pieces next) (Lives told tables columns leaf life pieces next)
-Lives told tables columns leaf life (_ ∷ pieces) next = Lives told tables columns leaf life pieces next
+-- a leaf's deeds, one after another, behind these entries of its steward; what its tables have is said by its entries up to each deed's last
+abbrev pub Lives : Bool → ℕ → (List Noted → Columns) → List Noted → Life → List Did → Life → Type 0
+Lives told tables columns before life [] next = next ≡ life
+Lives told tables columns before life (d ∷ ds) next =
+    (between : Life) × Does told tables (columns (before ++ d.notes)) d.deed life d.notes d.ending between × Lives told tables columns (before ++ d.notes) between ds next

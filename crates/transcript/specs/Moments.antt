@@ -1,17 +1,11 @@
 -- The moments of a leaf's entries: one list for all its tables, in the order of their making.
-use Rattle.std.specs.Prelude.{◌≡◌, ℕ, ◌-◌, ◌==◌, ◌≤◌, List, [], ◌∷◌, Option, Some, option_map, slice_get, if◌then◌else◌}
-use Rattle.std.specs.List.{flat_map}
+use Rattle.std.specs.Prelude.{◌≡◌, ℕ, ◌-◌, ◌≤◌, List, [], ◌∷◌, Option, Some, option_map, slice_get}
 use Rattle.leaf_history.specs.History.{Entry}
-use Rattle.transcript.specs.Pieces.{Piece, Acted, Noted}
+use Rattle.transcript.specs.Pieces.{Piece, Noted, deeds, notes_of}
 
--- the entries of the steward of the leaf with this number that a piece tells
-abbrev pub notes_in : ℕ → Piece → List Noted
-notes_in leaf (Acted l deed notes ending) = if l == leaf then notes else []
-notes_in leaf _ = []
-
--- all that pieces tell, in the order of their making
+-- the entries of a leaf's steward that pieces tell
 abbrev pub notes_told : ℕ → List Piece → List Noted
-notes_told leaf pieces = flat_map (notes_in leaf) pieces
+notes_told leaf pieces = notes_of (deeds leaf pieces)
 
 -- the clock that an entry carries, by its table and its number
 abbrev pub moment_of : (ℕ → List Entry) → Noted → Option ℕ

@@ -1,5 +1,5 @@
 -- What the commands of a script print, piece by piece.
-use Rattle.std.specs.Prelude.{ℕ, suc, List, [], ◌∷◌, ◌++◌, map, Option, if◌then◌else◌, bytes_eq}
+use Rattle.std.specs.Prelude.{ℕ, suc, ◌==◌, List, [], ◌∷◌, ◌++◌, map, Option, if◌then◌else◌, bytes_eq}
 use Rattle.std.specs.List.{flat_map}
 use Rattle.leaf_history.specs.Calls.{Call}
 use Rattle.script_text.specs.declared.fleet.Fleet.{Fleet}
@@ -82,6 +82,26 @@ plays_in items = flat_map plays_of items
 -- all that was printed, in that order
 abbrev pub all_pieces : List PlayedItem → List Piece
 all_pieces items = pieces_in (plays_in items)
+
+-- ---- what one leaf's steward did
+
+-- a deed, with its entries and how it ended
+pub record Did : Type 0 where
+  pub deed : Deed
+  pub notes : List Noted
+  pub ending : Ending
+
+abbrev pub did_in : ℕ → Piece → List Did
+did_in leaf (Acted l deed notes ending) = if l == leaf then record { deed = deed; notes = notes; ending = ending } ∷ [] else []
+did_in leaf _ = []
+
+-- the deeds of the leaf with this number, one after another; in a burst they stand in one lane
+abbrev pub deeds : ℕ → List Piece → List Did
+deeds leaf pieces = flat_map (did_in leaf) pieces
+
+-- their entries, in the order of their making
+abbrev pub notes_of : List Did → List Noted
+notes_of ds = flat_map (λ (d : Did). d.notes) ds
 
 -- ---- the fleet
 

@@ -1,5 +1,5 @@
 -- What a start finds of strangers: of tables' names that the leaf does not have.
-use Rattle.std.specs.Prelude.{◌⊎◌, ℕ, ◌==◌, List, [], ◌∷◌, MatchBool, ⊤}
+use Rattle.std.specs.Prelude.{◌⊎◌, ℕ, List, [], ◌∷◌, ⊤}
 use Rattle.berth_face.specs.Berth.{IsClosed}
 use Rattle.adopt.specs.Adopting.{HasNoStranger, IsNoImage, IsStranger}
 use Rattle.log_recovery.specs.Recovery.{IsRecoveryRefusal}
@@ -7,7 +7,7 @@ use Rattle.log_recovery.specs.declared.fault.RecoveryFault.TheVariants as found
 use Rattle.leaf_words.specs.declared.ways.Way.TheVariants.{Memory, Disk}
 use Rattle.printed_lines.specs.declared.line.Ending.{Ending}
 use Rattle.printed_lines.specs.declared.line.Ending.TheVariants as ends
-use Rattle.transcript.specs.Pieces.{Piece, Acted}
+use Rattle.transcript.specs.Pieces.{Did, Piece, deeds}
 
 -- a start that ended so over this region and this log tells the first stranger of the region's directory, or else, where the region is no image, of the log; and one that came up found none
 abbrev pub FitsStrangers : List (List ℕ) → List ℕ → List ℕ → Ending → Type 0
@@ -24,9 +24,10 @@ Behind ends.NotUp region P = P region
 Behind ends.FaultRegion region P = P region ⊎ ((now : List ℕ) × IsClosed now × P now)
 Behind _ region P = (now : List ℕ) × IsClosed now × P now
 
--- each start of a leaf, until it is first up, fits the strangers of the log that was handed and of the region that the starts before it left
+-- each start among these deeds, until the leaf is first up, fits the strangers of the log that was handed and of the region that the starts before it left
+abbrev pub StrangersIn : List (List ℕ) → List ℕ → List ℕ → List Did → Type 0
+StrangersIn names disk region [] = ⊤
+StrangersIn names disk region (d ∷ ds) = FitsStrangers names region disk d.ending × Behind d.ending region (λ now. StrangersIn names disk now ds)
+
 abbrev pub Strangers : List (List ℕ) → List ℕ → ℕ → List ℕ → List Piece → Type 0
-Strangers names disk leaf region [] = ⊤
-Strangers names disk leaf region (Acted l deed notes ending ∷ pieces) = MatchBool (l == leaf)
-    (FitsStrangers names region disk ending × Behind ending region (λ now. Strangers names disk leaf now pieces)) (Strangers names disk leaf region pieces)
-Strangers names disk leaf region (_ ∷ pieces) = Strangers names disk leaf region pieces
+Strangers names disk leaf region pieces = StrangersIn names disk region (deeds leaf pieces)

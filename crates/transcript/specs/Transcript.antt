@@ -1,5 +1,5 @@
 -- What a script prints.
-use Rattle.std.specs.Prelude.{◌≡◌, ℕ, ◌<◌, true, false, List, map, length, Option, Some, None, is_some}
+use Rattle.std.specs.Prelude.{◌≡◌, ℕ, ◌<◌, true, false, List, [], map, length, Option, Some, None, is_some}
 use Rattle.std.specs.List.{AllByRecursion}
 use Rattle.berth_face.specs.Berth.{Pair}
 use Rattle.leaf_history.specs.History.{Entry, no_base}
@@ -9,7 +9,7 @@ use Rattle.script_text.specs.declared.item.Item.{Item}
 use Rattle.printed_lines.specs.Lines.{lines_text, name_at}
 use Rattle.script_text.specs.declared.fleet.Fleet.{Fleet}
 use Rattle.script_text.specs.Commands.{leaf_count}
-use Rattle.transcript.specs.Pieces.{Played, PlayedItem, all_lines, all_pieces, item_of, plays_in}
+use Rattle.transcript.specs.Pieces.{Played, PlayedItem, all_lines, all_pieces, deeds, item_of, plays_in}
 use Rattle.transcript.specs.Shapes.{Prints}
 use Rattle.transcript.specs.Life.{Life, Down, Lives}
 use Rattle.transcript.specs.Histories.{Ground, IsHistoryOf, InOrder, shown}
@@ -45,7 +45,7 @@ pub record Transcript (fleet : Fleet) (known : ℕ → Option Known) (items : Li
   pub prints : AllByRecursion (λ (p : Played). Prints fleet p.command p.pieces) (plays_in played)
   -- each leaf's steward, by the states of the leaf
   pub each_lives : (leaf : ℕ) → leaf < (leaf_count fleet) →
-      Lives (is_some (known leaf)) (length fleet.names) (columns_of (grounds_of fleet known leaf) (histories leaf) (length fleet.names)) leaf (first_life (known leaf) fleet.names) (all_pieces played) (lives leaf)
+      Lives (is_some (known leaf)) (length fleet.names) (columns_of (grounds_of fleet known leaf) (histories leaf) (length fleet.names)) [] (first_life (known leaf) fleet.names) (deeds leaf (all_pieces played)) (lives leaf)
   -- each table, by the numbers, and the order of those
   pub one_history : (leaf table : ℕ) → leaf < (leaf_count fleet) → table < length fleet.names →
       IsHistoryOf (grounds_of fleet known leaf table) (shown leaf table (all_pieces played)) (histories leaf table)

@@ -6,7 +6,7 @@ use Rattle.berth_face.specs.Berth.{Meaning}
 use Rattle.leaf_history.specs.History.{Entry}
 use Rattle.script_text.specs.declared.fleet.Fleet.{Fleet}
 use Rattle.script_text.specs.Commands.{leaf_count}
-use Rattle.transcript.specs.Pieces.{Piece, PlayedItem, all_pieces}
+use Rattle.transcript.specs.Pieces.{Piece, PlayedItem, all_pieces, deeds}
 use Rattle.transcript.specs.Life.{Life, Lives}
 use Rattle.transcript.specs.Answers.{columns_of}
 use Rattle.transcript.specs.Transcript.{Known, first_life, grounds_of}
@@ -152,7 +152,7 @@ module _ {B : Type 0} (meaning : B → Meaning) (olds : List B) (fleet : Fleet) 
       prints = s.stretch.prints;
       each_lives = λ leaf below.
           let end = ended_so leaf below in
-          subst (λ (l : Life). Lives (is_some (known leaf)) (length fleet.names) (columns_of (grounds_of fleet known leaf) (histories leaf) (length fleet.names)) leaf (first_life (known leaf) fleet.names) pieces l)
+          subst (λ (l : Life). Lives (is_some (known leaf)) (length fleet.names) (columns_of (grounds_of fleet known leaf) (histories leaf) (length fleet.names)) [] (first_life (known leaf) fleet.names) (deeds leaf pieces) l)
           end.life_is (leaf_lives meaning leaf fleet.names (known leaf) (meaning end.old) items (finals leaf).hold end.now end.met end.last end.berth end.held);
       one_history = λ leaf table below within.
           let end = ended_so leaf below in

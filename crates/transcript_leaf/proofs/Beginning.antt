@@ -17,6 +17,7 @@ use Rattle.transcript_leaf.specs.Session.{AreGrounded, AreInPlace, FitsMode, Fit
 use Rattle.transcript_leaf.proofs.Lists.{clash_bool, element_at, same_some}
 use Rattle.transcript_leaf.proofs.Places.{as_many_names, caller_is, same_pair}
 use Rattle.transcript_leaf.proofs.Durable.{first_durable}
+use Rattle.transcript_leaf.proofs.Latest.{noted_unused}
 use Rattle.transcript_leaf.proofs.Named.{named_first}
 use Rattle.transcript_leaf.proofs.Standing.{told_first}
 
@@ -80,6 +81,7 @@ module _ {B : Type 0} (meaning : B → Meaning) (number : ℕ) (names : List (Li
     life = first_life known names;
     lives = λ grounds histories told. refl;
     moments = λ grounds histories told. omega arith;
+    noted = λ place t v at sat. noted_unused place t v (same_some v _ (sym sat ∙ (new.unused place t (there place t at)).0));
     in_place = new.in_place;
     grounded = new.grounded;
     mode = first_mode known names new.seated;

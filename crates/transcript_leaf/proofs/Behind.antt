@@ -1,22 +1,21 @@
 -- A leaf behind a meeting of its seats, and past what is no deed of its steward.
-use Rattle.std.proofs.Common.{◌≡◌, inl, inr, ℕ, ◌==◌, Bool, true, false, List, [], ◌∷◌, ◌++◌, length, Option, Some, None, sym, ap, subst, ◌∙◌, MatchBool}
+use Rattle.std.proofs.Common.{◌≡◌, ℕ, List, [], ◌++◌, length, Option, Some, None, sym, ap, subst, ◌∙◌}
 use Rattle.std.specs.Prelude.{IfSome, is_some}
-use Rattle.std.proofs.lemmas.List.{append-nil, append_assoc}
+use Rattle.std.proofs.lemmas.List.{append-nil}
 use Rattle.berth_face.specs.Berth.{Meaning}
 use Rattle.leaf_table.specs.Calls.{SeatView}
-use Rattle.leaf_steward.specs.Seated.{Seated}
-use Rattle.printed_lines.specs.declared.line.Ending.{Ending}
-use Rattle.printed_lines.specs.declared.line.Ending.TheVariants as ends
-use Rattle.transcript.specs.Pieces.{Noted, Acted, Called, Piece, Says, Worn}
-use Rattle.transcript.specs.Strangers.{Behind, FitsStrangers, Strangers}
-use Rattle.transcript.specs.Life.{Life, Mode, Down, Up, Preparing}
+use Rattle.leaf_steward.specs.Seated.{AtEach, Seated}
+use Rattle.transcript.specs.Pieces.{Did, Noted, Piece}
+use Rattle.transcript.specs.Strangers.{StrangersIn}
+use Rattle.transcript.specs.Life.{Life, Lives, Mode, Down, Up, Preparing}
 use Rattle.transcript.specs.Answers.{columns_of}
 use Rattle.transcript.specs.Transcript.{Known, first_life}
 use Rattle.leaf_moves.specs.Stage.{Leaf, IsDown, IsUp, IsPreparing, seated_of, seated_with, with_seats}
-use Rattle.transcript.specs.Moments.{MomentsRise}
+use Rattle.transcript.specs.Moments.{MomentsRise, notes_told}
 use Rattle.transcript_leaf.proofs.Rising.{notes_between}
-use Rattle.transcript_leaf.specs.Session.{AreGrounded, AreInPlace, FitsMode, FitsNext, HasNoDeed, IsDurable, KnownLeaf, LeafHeld}
-use Rattle.transcript_leaf.proofs.Lives.{lives_between}
+use Rattle.transcript_leaf.specs.Session.{AreGrounded, AreInPlace, FitsMode, FitsNext, HasNoDeed, IsDurable, IsNoted, KnownLeaf, LeafHeld}
+use Rattle.transcript_leaf.proofs.Latest.{noted_met}
+use Rattle.transcript_leaf.proofs.Lives.{deeds_between}
 use Rattle.transcript_leaf.proofs.ToldOn.{told_met}
 use Rattle.transcript_leaf.proofs.Durable.{durable_met}
 use Rattle.transcript_leaf.proofs.Owned.{owned_met}
@@ -89,6 +88,7 @@ held_meets number names known old pieces leaf leaf' m now met = record {
   life = now.life;
   lives = λ grounds histories told. now.lives grounds histories (told_met grounds histories names known leaf leaf' m now.in_place met told);
   moments = λ grounds histories told. now.moments grounds histories (told_met grounds histories names known leaf leaf' m now.in_place met told);
+  noted = noted_met (notes_told number pieces) known leaf leaf' m now.grounded met now.noted;
   in_place = place_met names known leaf leaf' m now.in_place met;
   grounded = grounded_met names known leaf leaf' m now.in_place met now.grounded;
   mode = subst (λ (l : Leaf). FitsMode now.life.mode l) (sym met.leaf_is) (fits_seats now.life.mode leaf met.seats now.mode);
@@ -97,46 +97,6 @@ held_meets number names known old pieces leaf leaf' m now met = record {
 }
 
 -- ---- past what is no deed of its steward
-
-behind_on : (e : Ending) (region : List ℕ) (P Q : List ℕ → Type 0) → ((now : List ℕ) → P now → Q now) → Behind e region P → Behind e region Q
-behind_on (ends.Started way) region P Q f h = h
-behind_on (ends.FaultStranger name) region P Q f h = (h.0, h.1, f h.0 h.2)
-behind_on ends.Done region P Q f h = (h.0, h.1, f h.0 h.2)
-behind_on ends.FaultRegion region P Q f h = elim h [
-  | inl same ↦ inl (f region same)
-  | inr shut ↦ inr (shut.0, shut.1, f shut.0 shut.2)
-]
-behind_on ends.FaultDisk region P Q f h = (h.0, h.1, f h.0 h.2)
-behind_on ends.FaultDamaged region P Q f h = (h.0, h.1, f h.0 h.2)
-behind_on ends.FaultMemory region P Q f h = (h.0, h.1, f h.0 h.2)
-behind_on ends.FaultRoom region P Q f h = (h.0, h.1, f h.0 h.2)
-behind_on (ends.FaultWorn table) region P Q f h = f region h
-behind_on ends.NotDown region P Q f h = (h.0, h.1, f h.0 h.2)
-behind_on ends.NotUp region P Q f h = f region h
-behind_on ends.Stopped region P Q f h = (h.0, h.1, f h.0 h.2)
-behind_on ends.Worn region P Q f h = (h.0, h.1, f h.0 h.2)
-
--- no start is among them
-module _ (names : List (List ℕ)) (disk : List ℕ) (leaf : ℕ) (none more : List Piece) (apart : HasNoDeed leaf none) where
-  strangers_past : (region : List ℕ) (ps : List Piece) → HasNoDeed leaf ps → Strangers names disk leaf region more → Strangers names disk leaf region (ps ++ more)
-  strangers_past region [] none_of h = h
-  strangers_past region (Acted l d ns e ∷ ps) none_of h = let on : Strangers names disk leaf region (ps ++ more) = strangers_past region ps none_of.1 h in rw none_of.0 on
-  strangers_past region (Called l t c n said ∷ ps) none_of h = strangers_past region ps none_of.1 h
-  strangers_past region (Worn l t ∷ ps) none_of h = strangers_past region ps none_of.1 h
-  strangers_past region (Says line ∷ ps) none_of h = strangers_past region ps none_of.1 h
-
-  strangers_between : (region : List ℕ) (before : List Piece) → Strangers names disk leaf region (before ++ more) → Strangers names disk leaf region (before ++ (none ++ more))
-  strangers_between region [] h = strangers_past region none apart h
-  strangers_between region (Acted l d ns e ∷ ps) h = by (l == leaf) h (λ now k. strangers_between now ps k)
-    where
-      by : (b : Bool) → MatchBool b (FitsStrangers names region disk e × Behind e region (λ now. Strangers names disk leaf now (ps ++ more))) (Strangers names disk leaf region (ps ++ more))
-          → ((now : List ℕ) → Strangers names disk leaf now (ps ++ more) → Strangers names disk leaf now (ps ++ (none ++ more)))
-          → MatchBool b (FitsStrangers names region disk e × Behind e region (λ now. Strangers names disk leaf now (ps ++ (none ++ more)))) (Strangers names disk leaf region (ps ++ (none ++ more)))
-      by true g go = (g.0, behind_on e region (λ now. Strangers names disk leaf now (ps ++ more)) (λ now. Strangers names disk leaf now (ps ++ (none ++ more))) go g.1)
-      by false g go = go region g
-  strangers_between region (Called l t c n said ∷ ps) h = strangers_between region ps h
-  strangers_between region (Worn l t ∷ ps) h = strangers_between region ps h
-  strangers_between region (Says line ∷ ps) h = strangers_between region ps h
 
 known_between : (number : ℕ) (names : List (List ℕ)) (known : Option Known) (old : Meaning) (life : Life) (before none more : List Piece) (leaf : Leaf) (m : Meaning) → HasNoDeed number none
     → IfSome known (KnownLeaf number names old life (before ++ more) leaf m) → IfSome known (KnownLeaf number names old life (before ++ (none ++ more)) leaf m)
@@ -147,9 +107,7 @@ known_between number names (Some k) old life before none more leaf m apart s = r
   named = record {
     rest = s.named.rest;
     on = λ others all.
-        subst (λ (ps : List Piece). Strangers names k.held.disk number k.held.region ps) (sym (append_assoc before (none ++ more) others ∙ ap (λ (ps : List Piece). before ++ ps) (append_assoc none more others)))
-        (strangers_between names k.held.disk number none (more ++ others) apart k.held.region before
-        (subst (λ (ps : List Piece). Strangers names k.held.disk number k.held.region ps) (append_assoc before more others) (s.named.on others all)));
+        subst (λ (ds : List Did). StrangersIn names k.held.disk k.held.region (ds ++ others)) (sym (deeds_between number before none more apart)) (s.named.on others all);
   };
   own = s.own;
 }
@@ -160,9 +118,11 @@ pub held_between : (number : ℕ) (names : List (List ℕ)) (known : Option Know
 held_between number names known old before none more leaf m apart s = record {
   life = s.life;
   lives = λ grounds histories told.
-      lives_between (is_some known) (length names) (columns_of grounds histories (length names)) number (first_life known names) s.life before none more apart (s.lives grounds histories told);
+      subst (λ (ds : List Did). Lives (is_some known) (length names) (columns_of grounds histories (length names)) [] (first_life known names) ds s.life) (sym (deeds_between number before none more apart))
+      (s.lives grounds histories told);
   moments = λ grounds histories told.
       subst (λ (ns : List Noted). MomentsRise histories old.clock ns m.clock) (sym (notes_between number before none more apart)) (s.moments grounds histories told);
+  noted = subst (λ (ns : List Noted). AtEach (IsNoted ns) (seated_of leaf)) (sym (notes_between number before none more apart)) s.noted;
   in_place = s.in_place;
   grounded = s.grounded;
   mode = s.mode;

@@ -1,5 +1,5 @@
 -- The life behind a deed, by what it does to a leaf: starts, flushes and kills.
-use Rattle.std.proofs.Common.{◌≡◌, ℕ, suc, ◌+◌, ◌<◌, Bool, true, false, ◌&&◌, List, [], ◌∷◌, length, map, refl, sym, ap, subst, ◌∙◌, arith, Option, Some, None}
+use Rattle.std.proofs.Common.{◌≡◌, ℕ, suc, ◌+◌, ◌<◌, Bool, true, false, ◌&&◌, List, [], ◌∷◌, length, map, refl, sym, ap, subst, ◌∙◌, arith, Option, Some, None, inl, inr}
 use Rattle.std.specs.Prelude.{◌≢◌, IfSome, IsSome, IsTrue, is_some, option_map, ⊤}
 use Rattle.row_records.specs.Records.{LogRecord}
 use Rattle.berth_face.specs.Berth.{Meaning}
@@ -24,8 +24,7 @@ use Rattle.leaf_machine.specs.Flushes.{OwedNotes}
 use Rattle.leaf_machine.specs.Flushes as flushing
 use Rattle.printed_lines.specs.declared.line.Deed.{Deed}
 use Rattle.printed_lines.specs.declared.line.Deed.TheVariants.{Start, Flush, Drain, Kill}
-use Rattle.transcript.specs.Life.{Life, Mode, Down, Up, MayCome, Notes, Owed, Progress, BeginsAt, IsStartRefusal, claimed, durable_after, durable_by, durable_with, failed, first_open, on, way_refused}
-use Rattle.transcript.specs.Life as lives
+use Rattle.transcript.specs.Life.{Life, Mode, Down, Up, MayCome, Notes, Owed, Progress, BeginsAt, IsStartRefusal, OfFlush, OfKill, claimed, durable_after, durable_by, durable_with, failed, first_open, on, way_refused}
 use Rattle.transcript.specs.Counts.{is_disk_fault}
 use Rattle.transcript.specs.Transcript.{Known}
 use Rattle.leaf_moves.specs.Stage.{Leaf, IsDown, IsUp, Stands, seated_of}
@@ -38,7 +37,8 @@ use Rattle.transcript_leaf.proofs.Lists.{clash_bool, within}
 use Rattle.transcript_leaf.proofs.Owned.{never_stranger}
 use Rattle.transcript_leaf.proofs.Ways.{comes_known, may_come, same_way, way_left}
 use Rattle.transcript_leaf.proofs.Modes.{as_many, counts_stay, down_mode, founded_known, not_resting, not_serving, preparing_mode, resting_mode, same_held, up_mode, way_stays, where_known}
-use Rattle.transcript_leaf.proofs.NoteLines.{closed_noted, noted_none, noted_split, opened_noted, owed_noted}
+use Rattle.transcript_leaf.proofs.Starts.{Starts, as_told}
+use Rattle.transcript_leaf.proofs.NoteLines.{closed_noted, noted_none, opened_noted, tells, tells_owed}
 use Rattle.transcript_leaf.proofs.CountingNotes.{AreStewards}
 use Rattle.transcript_leaf.proofs.Handing.{hands_nothing}
 use Rattle.transcript_leaf.proofs.Drains.{drain_lives}
@@ -111,7 +111,8 @@ start_opened known tables life m m' leaf x s notes way ends leaf' size mode may 
     let o = opening life.durable (length x.tables) notes (counts_opened known life m m' leaf x s notes way fits opens is told) each in record {
       next = opened_life (is_some known) way o.counts;
       hands = hands_nothing leaf';
-      does = λ columns few more. lives.opens way o.counts (down_mode life.mode x mode) may (way_opens known life m m' leaf x s notes way fits told) o.claimed_are (o.size ∙ size) o.told ends_are refl;
+      does = λ columns few more. as_told (is_some known) tables life (noted_all notes) ends (opened_life (is_some known) way o.counts)
+          (Starts.opens way o.counts (down_mode life.mode x mode) may (way_opens known life m m' leaf x s notes way fits told) o.claimed_are (o.size ∙ size) o.told ends_are refl);
       counts = acting.opened way o.counts ends_are o.told refl;
       mode = subst (λ (l : Leaf). FitsMode (Up None) l) (sym now) none;
       way = way_opened known m m' x s notes way o.counts told;
@@ -215,13 +216,13 @@ start_lives names known life m m' leaf notes ends leaf' in_place grounded stands
 start_lives names known life m m' leaf notes ends leaf' in_place grounded stands own mode fits opens (steps.refused x f is worn sound told notes_are ends_are same) = record {
   next = refused_life life f;
   hands = hands_nothing leaf';
-  does = λ columns few more. lives.refuses (down_mode life.mode x (subst (λ (l : Leaf). FitsMode life.mode l) is mode))
+  does = λ columns few more. as_told (is_some known) (length names) life (noted_all notes) ends (refused_life life f) (Starts.refuses (down_mode life.mode x (subst (λ (l : Leaf). FitsMode life.mode l) is mode))
       (subst (λ (e : Ending). IsStartRefusal (is_some known) life.begun (length names) e) (sym ends_are)
       (refusal (is_some known) life.begun (length names) f (undamaged names known m leaf x f in_place grounded stands is sound)
       (strangers_none names known life.begun m m' leaf x f in_place stands own is (where_known known leaf m (RefusalTold x m m' f) stands told))
       (worn_among names leaf x f in_place is worn)))
       (noted_none notes notes_are)
-      (ap (λ (e : Ending). on life Down (way_refused e life.way) []) (sym ends_are));
+      (ap (λ (e : Ending). on life Down (way_refused e life.way) []) (sym ends_are)));
   counts = acting.keeps refl (ap (λ (ns : List Note). durable_with life.durable (noted_all ns)) (sym notes_are));
   mode = subst (λ (l : Leaf). FitsMode Down l) (sym (same ∙ is)) tt;
   way = way_refuses known life m m' leaf x f fits (where_known known leaf m (RefusalTold x m m' f) stands told);
@@ -229,7 +230,7 @@ start_lives names known life m m' leaf notes ends leaf' in_place grounded stands
 start_lives names known life m m' leaf notes ends leaf' in_place grounded stands own mode fits opens (steps.not_down not notes_are same ends_are now) = record {
   next = life;
   hands = hands_nothing leaf';
-  does = λ columns few more. lives.not_down (not_resting leaf life.mode mode not) (noted_none notes notes_are) ends_are refl;
+  does = λ columns few more. as_told (is_some known) (length names) life (noted_all notes) ends life (Starts.not_down (not_resting leaf life.mode mode not) (noted_none notes notes_are) ends_are refl);
   counts = acting.keeps refl (counts_stay life.durable notes notes_are);
   mode = subst (λ (l : Leaf). FitsMode life.mode l) (sym now) mode;
   way = way_stays known life life leaf m m' refl fits (same_held known leaf m m' stands same);
@@ -266,8 +267,8 @@ up_flushed known tables table life m m' leaf owed s s' notes r ends leaf' mode o
     let is : ends ≡ ending.Done = ends_are ∙ ap (λ (q : FlushReply). ending_of_flush q) reply_is in record {
       next = on life (Up None) life.way (noted_all notes);
       hands = hands_nothing leaf';
-      does = λ columns few more. lives.done owed (noted_all first) (noted_all (taken_and_flushed table taking flushed n)) n mode (owed_noted owed s.owing first owes noted) (taking, flushed, refl)
-          (noted_split notes first (taken_and_flushed table taking flushed n) notes_are) is refl;
+      does = λ columns few more. subst (λ (e : Ending). OfFlush table life (noted_all notes) e (on life (Up None) life.way (noted_all notes))) (sym is)
+          (owed, n, mode, tells owed s.owing notes first (taken_and_flushed table taking flushed n) table (said.Took n ∷ said.Flushed n ∷ []) owes noted notes_are refl, refl);
       counts = acting.keeps (ap (λ (e : Ending). is_disk_fault e) is) refl;
       mode = subst (λ (l : Leaf). FitsMode (Up None) l) (sym now) none;
       way = way_stays known life (on life (Up None) life.way (noted_all notes)) leaf m m' refl fits same;
@@ -277,8 +278,8 @@ up_flushed known tables table life m m' leaf owed s s' notes r ends leaf' mode o
     let left : Mode = Up (Some (record { table = table; count = n })) in record {
       next = failed life left;
       hands = hands_nothing leaf';
-      does = λ columns few more. lives.half owed (noted_all first) (noted_all (taken table taking n)) n mode (owed_noted owed s.owing first owes noted) (taking, refl)
-          (noted_split notes first (taken table taking n) notes_are) (ends_are ∙ ap (λ (q : FlushReply). ending_of_flush q) reply_is) refl;
+      does = λ columns few more. subst (λ (e : Ending). OfFlush table life (noted_all notes) e (failed life left)) (sym (ends_are ∙ ap (λ (q : FlushReply). ending_of_flush q) reply_is))
+          (inl (owed, n, mode, tells owed s.owing notes first (taken table taking n) table (said.Took n ∷ []) owes noted notes_are refl, refl));
       counts = acting.lost refl;
       mode = subst (λ (l : Leaf). FitsMode left l) (sym now) (there.0, there.1, owner_is, count_is);
       way = way_stays known life (failed life left) leaf m m' refl fits same;
@@ -287,7 +288,8 @@ up_flushed known tables table life m m' leaf owed s s' notes r ends leaf' mode o
     let is : ends ≡ ending.Worn = ends_are ∙ ap (λ (q : FlushReply). ending_of_flush q) reply_is in record {
       next = on life (Up None) life.way (noted_all notes);
       hands = hands_nothing leaf';
-      does = λ columns few more. lives.worn owed mode (owed_noted owed s.owing notes owes (subst (λ (ns : List Note). OwedNotes s.owing.log.owed s.owing ns) (sym notes_are) noted)) is refl;
+      does = λ columns few more. subst (λ (e : Ending). OfFlush table life (noted_all notes) e (on life (Up None) life.way (noted_all notes))) (sym is)
+          (owed, mode, tells_owed owed s.owing notes table owes (subst (λ (ns : List Note). OwedNotes s.owing.log.owed s.owing ns) (sym notes_are) noted), refl);
       counts = acting.keeps (ap (λ (e : Ending). is_disk_fault e) is) refl;
       mode = subst (λ (l : Leaf). FitsMode (Up None) l) (sym now) none;
       way = way_stays known life (on life (Up None) life.way (noted_all notes)) leaf m m' refl fits same;
@@ -297,7 +299,8 @@ up_flushed known tables table life m m' leaf owed s s' notes r ends leaf' mode o
     let still : IsOwedAs (Some told.0) s.owing = subst (λ (o : Option Owed). IsOwedAs o s.owing) told.1 owes in record {
       next = failed life (Up (Some told.0));
       hands = hands_nothing leaf';
-      does = λ columns few more. lives.stuck told.0 (mode ∙ ap (λ (o : Option Owed). Up o) told.1) (noted_none notes notes_are) (ends_are ∙ ap (λ (q : FlushReply). ending_of_flush q) reply_is) refl;
+      does = λ columns few more. subst (λ (e : Ending). OfFlush table life (noted_all notes) e (failed life (Up (Some told.0)))) (sym (ends_are ∙ ap (λ (q : FlushReply). ending_of_flush q) reply_is))
+          (inr (told.0, mode ∙ ap (λ (o : Option Owed). Up o) told.1, noted_none notes notes_are, refl));
       counts = acting.lost refl;
       mode = subst (λ (l : Leaf). FitsMode (Up (Some told.0)) l) (sym now) (still.0, owed_is ∙ still.1, owner_is ∙ still.2, count_is ∙ still.3);
       way = way_stays known life (failed life (Up (Some told.0))) leaf m m' refl fits same;
@@ -312,7 +315,7 @@ flush_lives known tables table life m m' leaf notes ends leaf' stands mode fits 
 flush_lives known tables table life m m' leaf notes ends leaf' stands mode fits (steps.not_up not notes_are same ends_are now) = record {
   next = life;
   hands = hands_nothing leaf';
-  does = λ columns few more. lives.not_up (not_serving leaf life.mode mode not) (noted_none notes notes_are) ends_are refl;
+  does = λ columns few more. subst (λ (e : Ending). OfFlush table life (noted_all notes) e life) (sym ends_are) (not_serving leaf life.mode mode not, noted_none notes notes_are, refl);
   counts = acting.keeps (ap (λ (e : Ending). is_disk_fault e) ends_are) (counts_stay life.durable notes notes_are);
   mode = subst (λ (l : Leaf). FitsMode life.mode l) (sym now) mode;
   way = way_stays known life life leaf m m' refl fits (same_held known leaf m m' stands same);
@@ -346,9 +349,8 @@ killed known tables life m m' leaf p place count notes ends leaf' y begins from 
     let c = closed_noted place count notes each in record {
       next = on life Down life.way [];
       hands = hands_nothing leaf';
-      does = λ columns few more. lives.kills p begins
-          (c.0, ap (λ (n : ℕ). n + length c.0) from ∙ (ap (λ (n : ℕ). place + n) c.1 ∙ size), subst (λ (n : ℕ). Notes n (map said.Closed c.0) (noted_all notes)) (sym from) c.2)
-          ends_are refl;
+      does = λ columns few more. subst (λ (e : Ending). OfKill tables life (noted_all notes) e (on life Down life.way [])) (sym ends_are)
+          (p, begins, (c.0, ap (λ (n : ℕ). n + length c.0) from ∙ (ap (λ (n : ℕ). place + n) c.1 ∙ size), subst (λ (n : ℕ). Notes n (map said.Closed c.0) (noted_all notes)) (sym from) c.2), refl);
       counts = acting.keeps (ap (λ (e : Ending). is_disk_fault e) ends_are) (counts_closed life.durable place count notes each);
       mode = subst (λ (l : Leaf). FitsMode Down l) (sym now) tt;
       way = way_stays known life (on life Down life.way []) leaf m m' refl fits same;
@@ -371,7 +373,7 @@ kill_lives names known life m m' leaf notes ends leaf' in_place stands mode fits
 kill_lives names known life m m' leaf notes ends leaf' in_place stands mode fits (steps.not_up down notes_are same ends_are now) = record {
   next = life;
   hands = hands_nothing leaf';
-  does = λ columns few more. lives.not_up (resting_mode leaf life.mode mode down) (noted_none notes notes_are) ends_are refl;
+  does = λ columns few more. subst (λ (e : Ending). OfKill (length names) life (noted_all notes) e life) (sym ends_are) (resting_mode leaf life.mode mode down, noted_none notes notes_are, refl);
   counts = acting.keeps (ap (λ (e : Ending). is_disk_fault e) ends_are) (counts_stay life.durable notes notes_are);
   mode = subst (λ (l : Leaf). FitsMode life.mode l) (sym now) mode;
   way = way_stays known life life leaf m m' refl fits (same_held known leaf m m' stands same);

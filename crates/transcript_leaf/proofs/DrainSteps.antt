@@ -1,5 +1,5 @@
 -- The steps of a drain: how it treats tables, how it copies, how it halts, and which counts its entries leave.
-use Rattle.std.proofs.Common.{◌≡◌, ℕ, zero, suc, ◌-◌, ◌<◌, ◌≤◌, Bool, true, false, List, [], ◌∷◌, ◌++◌, length, map, refl, sym, ap, subst, ◌∙◌, arith, Option, Some, None}
+use Rattle.std.proofs.Common.{◌≡◌, ℕ, zero, suc, ◌-◌, ◌<◌, ◌≤◌, Bool, true, false, List, [], ◌∷◌, ◌++◌, length, map, refl, sym, ap, subst, ◌∙◌, arith, Option, Some, None, inl, inr}
 use Rattle.std.specs.Prelude.{IsSome, if◌then◌else◌, replicate, ⊤}
 use Rattle.std.proofs.lemmas.List.{length-append}
 use Rattle.row_records.specs.Records.{LogRecord}
@@ -15,12 +15,12 @@ use Rattle.leaf_machine.specs.Prepares as prepares
 use Rattle.printed_lines.specs.declared.line.Said.{Said}
 use Rattle.printed_lines.specs.declared.line.Said.TheVariants as said
 use Rattle.transcript.specs.Pieces.{Noted}
-use Rattle.transcript.specs.Life.{IsCopyLength, IsCopyWithin, Owed, Progress, Stage, Step, Steps, durable_after, durable_by, durable_with, first_open}
+use Rattle.transcript.specs.Life.{IsCopyWithin, Owed, Progress, Stage, Step, Steps, durable_after, durable_by, durable_with, first_open}
 use Rattle.transcript.specs.Life as life
-use Rattle.leaf_moves.specs.Steps.{At, HasCopyLength, MakesStep, MakesSteps, Part, noted_all}
+use Rattle.leaf_moves.specs.Steps.{AreShut, At, HasCopyLength, MakesStep, MakesSteps, Part, noted_all}
 use Rattle.leaf_moves.specs.Steps as moves
 use Rattle.transcript_leaf.specs.Session.{IsOwedAs, IsProgressOf}
-use Rattle.transcript_leaf.proofs.NoteLines.{noted_none, noted_split, owed_noted}
+use Rattle.transcript_leaf.proofs.NoteLines.{noted_none, noted_split, tells, tells_owed}
 
 -- ---- how many tables are treated, and the first that is open
 
@@ -62,22 +62,26 @@ settled y n none shut count = record {
 abbrev pub next_progress : Progress → Progress
 next_progress p = record { owed = None; treated = suc p.treated; waits = false }
 
--- the entries of the table in that place
-abbrev closed_alone : ℕ → ℕ → ℕ → List Noted
-closed_alone closing n place = record { table = place; number = closing; said = said.Closed n } ∷ []
+-- what is told of the table in that place
+abbrev pub closed_word : ℕ → ℕ → List (ℕ × Said)
+closed_word n place = (place, said.Closed n) ∷ []
 
-abbrev closed_and_flushed : ℕ → ℕ → ℕ → ℕ → List Noted
-closed_and_flushed closing flushing n place = record { table = place; number = closing; said = said.Closed n } ∷ record { table = place; number = flushing; said = said.Flushed n } ∷ []
+abbrev pub closed_words : ℕ → ℕ → List (ℕ × Said)
+closed_words n place = (place, said.Closed n) ∷ (place, said.Flushed n) ∷ []
+
+-- the words of a step, by whether the table waits
+by_waits : (p : Progress) (b : Bool) (n : ℕ) (ns : List Noted) → p.waits ≡ b → life.NotesOf p.owed p.treated (if b then [] else said.Closed n ∷ said.Flushed n ∷ []) ns
+    → life.NotesOf p.owed p.treated (if p.waits then [] else said.Closed n ∷ said.Flushed n ∷ []) ns
+by_waits p b n ns e h = subst (λ (c : Bool). life.NotesOf p.owed p.treated (if c then [] else said.Closed n ∷ said.Flushed n ∷ []) ns) (sym e) h
 
 treats : (x y : Shutting) (ns : List Note) (p : Progress) → IsProgressOf x p → Treats x y ns → life.Treats p (noted_all ns) (next_progress p) × IsProgressOf y (next_progress p)
 treats x y ns p at (prepares.whole first closing flushing n content open_ noted ns_are closed shut none) =
     let place : length x.closed ≡ p.treated = at.closed ∙ open_whole p (at.waits ∙ open_) in (
-      life.whole (noted_all first) (closed_and_flushed closing flushing n (length x.closed)) n (at.waits ∙ open_) (owed_noted p.owed x.serving.owing first at.owed noted)
-          (closing, flushing, ap (λ (k : ℕ). closed_and_flushed closing flushing n k) place) (noted_split ns first _ ns_are) refl,
+      ((n, by_waits p false n (noted_all ns) (at.waits ∙ open_) (tells p.owed x.serving.owing ns first _ p.treated (said.Closed n ∷ said.Flushed n ∷ []) at.owed noted ns_are (ap (closed_words n) place))), refl),
       settled y (suc p.treated) none shut (one_closed x y content closed ∙ ap suc place),
     )
 treats x y ns p at (prepares.rest half noted closed shut none) = (
-  life.rest (at.waits ∙ half) (owed_noted p.owed x.serving.owing ns at.owed noted) refl,
+  ((0, by_waits p true 0 (noted_all ns) (at.waits ∙ half) (tells_owed p.owed x.serving.owing ns p.treated at.owed noted)), refl),
   settled y (suc p.treated) none shut (ap (λ (ts : List Table). length ts) closed ∙ (at.closed ∙ open_half p (at.waits ∙ half))),
 )
 
@@ -121,7 +125,7 @@ table_treated tables copy s x y ns p is progress size few t part =
     let one = treats x y ns p progress t in
     let below : p.treated < tables = omega (arith, few, progress.treated_are, size) in record {
       stage = life.Shutting (next_progress p);
-      step = life.treats p (next_progress p) is below one.0 refl;
+      step = subst (λ (t : Stage). Step tables copy t (noted_all ns) (life.Shutting (next_progress p))) (sym is) (below, one.0);
       fits = (one.1, same_tables x.serving.seated ns y.serving.seated part ∙ size);
     }
 
@@ -163,8 +167,8 @@ steps_long n at ns t (moves.more k a notes b fewer first others between n_is ste
 pub copy_columns : (n copy made : ℕ) (x y : Shutting) (ns : List Note) → MakesSteps n (moves.Shuts x) ns (moves.Copies y copy made) → HasCopyLength y copy
 copy_columns n copy made x y ns steps = steps_long n (moves.Shuts x) ns (moves.Copies y copy made) steps tt
 
-pub copy_long : (n copy made : ℕ) (x y : Shutting) (ns : List Note) → MakesSteps n (moves.Shuts x) ns (moves.Copies y copy made) → IsCopyLength 0 copy
-copy_long n copy made x y ns steps = let long = (copy_columns n copy made x y ns steps).0 in omega (arith, long)
+pub copy_shut : (n copy made : ℕ) (x y : Shutting) (ns : List Note) → MakesSteps n (moves.Shuts x) ns (moves.Copies y copy made) → AreShut y.serving.seated
+copy_shut n copy made x y ns steps = (copy_columns n copy made x y ns steps).2
 
 -- and where its tables are founded, no more than these ask for
 pub copy_within : (told : Bool) (most n copy made : ℕ) (x y : Shutting) (ns : List Note) → MakesSteps n (moves.Shuts x) ns (moves.Copies y copy made) → (told ≡ true → AreFounded y.serving.seated)
@@ -174,13 +178,6 @@ copy_within told most n copy made x y ns steps founded few = λ is.
     let all = few is in
     omega (arith, long, all)
 
--- the least that a copy takes
-pub least_copy : IsCopyLength 0 3
-least_copy = omega arith
-
-pub least_within : (told : Bool) (most : ℕ) → IsCopyWithin told most 3
-least_within told most = λ is. omega arith
-
 step_made : (tables copy : ℕ) (at : At) (ns : List Note) (t : At) (s : Stage) → TakesSteps copy t → FitsAt tables s at → MakesStep at ns t → StepMade tables copy s ns t
 step_made tables copy at ns t s takes fits (moves.treats x y at_is few treats part t_is) =
     let now = shutting_at tables s x (subst (λ (a : At). FitsAt tables s a) at_is fits) in
@@ -188,13 +185,13 @@ step_made tables copy at ns t s takes fits (moves.treats x y at_is few treats pa
 step_made tables copy at ns t s takes fits (moves.plans x length at_is all long none t_is) =
     let now = shutting_at tables s x (subst (λ (a : At). FitsAt tables s a) at_is fits) in record {
       stage = life.Copying 0;
-      step = life.plans now.p now.is (now.progress.treated_are ∙ (all ∙ now.size)) (noted_none ns none) refl;
+      step = subst (λ (u : Stage). Step tables copy u (noted_all ns) (life.Copying 0)) (sym now.is) (now.progress.treated_are ∙ (all ∙ now.size), noted_none ns none, refl);
       fits = subst (λ (a : At). FitsAt tables (life.Copying 0) a) (sym t_is) refl;
     }
 step_made tables copy at ns t s takes fits (moves.copies x length made at_is few none t_is) = record {
   stage = life.Copying (suc made);
-  step = life.copies made (copying_at tables s x length made (subst (λ (a : At). FitsAt tables s a) at_is fits))
-      (subst (λ (n : ℕ). suc made < n) (subst (λ (a : At). TakesSteps copy a) t_is takes) few) (noted_none ns none) refl;
+  step = subst (λ (u : Stage). Step tables copy u (noted_all ns) (life.Copying (suc made))) (sym (copying_at tables s x length made (subst (λ (a : At). FitsAt tables s a) at_is fits)))
+      (subst (λ (n : ℕ). suc made < n) (subst (λ (a : At). TakesSteps copy a) t_is takes) few, noted_none ns none, refl);
   fits = subst (λ (a : At). FitsAt tables (life.Copying (suc made)) a) (sym t_is) refl;
 }
 
@@ -207,14 +204,15 @@ record StepsMade (tables copy n : ℕ) (s : Stage) (ns : List Note) (t : At) : T
 steps_made : (tables copy n : ℕ) (at : At) (ns : List Note) (t : At) (s : Stage) → TakesSteps copy t → FitsAt tables s at → MakesSteps n at ns t → StepsMade tables copy n s ns t
 steps_made tables copy n at ns t s takes fits (moves.none k a notes b n_is notes_are same) = record {
   stage = s;
-  run = life.none n s (noted_all ns) s n_is (noted_none ns notes_are) refl;
+  run = subst (λ (k : ℕ). Steps tables copy k s (noted_all ns) s) (sym n_is) (noted_none ns notes_are, refl);
   fits = subst (λ (a : At). FitsAt tables s a) (sym same) fits;
 }
 steps_made tables copy n at ns t s takes fits (moves.more k a notes b fewer first others between n_is step rest ns_are) =
     let one = step_made tables copy at first between s (steps_take copy fewer between others t rest takes) fits step in
     let on = steps_made tables copy fewer between others t one.stage takes one.fits rest in record {
       stage = on.stage;
-      run = life.more n s (noted_all ns) on.stage fewer (noted_all first) (noted_all others) one.stage n_is one.step on.run (noted_split ns first others ns_are);
+      run = subst (λ (k : ℕ). Steps tables copy k s (noted_all ns) on.stage) (sym n_is)
+          (noted_all first, noted_all others, one.stage, one.step, on.run, noted_split ns first others ns_are);
       fits = on.fits;
     }
 
@@ -267,8 +265,7 @@ halts y z ns q at (prepares.half first closing n content open_ noted ns_are clos
     let more = one_closed y z content closed in
     let owed = some_record z.serving.owing.log.owed owes in (
       record { owed = Some (record { table = q.treated; count = n }); treated = q.treated; waits = true },
-      life.half (noted_all first) (closed_alone closing n (length y.closed)) n (at.waits ∙ open_) (owed_noted q.owed y.serving.owing first at.owed noted)
-          (closing, ap (λ (k : ℕ). closed_alone closing n k) place) (noted_split ns first _ ns_are) refl,
+      inl (n, at.waits ∙ open_, tells q.owed y.serving.owing ns first _ q.treated (said.Closed n ∷ []) at.owed noted ns_are (ap (closed_word n) place), refl),
       record {
         owed = (owed.0, owed.1, owner ∙ place, count);
         treated_are = omega (arith, treated_half z half, more, place);
@@ -279,7 +276,7 @@ halts y z ns q at (prepares.half first closing n content open_ noted ns_are clos
 halts y z ns q at (prepares.stuck ns_are owes seated log owner count closed shut) =
     let told = some_told q.owed y.serving.owing at.owed owes in (
       q,
-      life.stuck told.0 told.1 (ap (λ (xs : List Note). noted_all xs) ns_are) refl,
+      inr (told.0, told.1, noted_none ns ns_are, refl),
       record {
         owed = owed_same q.owed y.serving.owing z.serving.owing log owner count at.owed;
         treated_are = at.treated_are ∙ sym (treated_same y z closed shut);
@@ -292,21 +289,19 @@ pub starves : (tables : ℕ) (y z : Shutting) (ns : List Note) (q : Progress) �
     → (r : Progress) × life.Starves tables q (noted_all ns) r × IsProgressOf z r
 starves tables y z ns q size at (prepares.before open_ noted closed shut none) = (
   record { owed = None; treated = q.treated; waits = false },
-  life.before (at.waits ∙ open_) (owed_noted q.owed y.serving.owing ns at.owed noted) refl,
+  inl (tells_owed q.owed y.serving.owing ns q.treated at.owed noted, ap (λ (b : Bool). let r : Progress = record { owed = None; treated = q.treated; waits = b } in r) (sym (at.waits ∙ open_))),
   settled z q.treated none shut (ap (λ (ts : List Table). length ts) closed ∙ (at.closed ∙ open_whole q (at.waits ∙ open_))),
 )
 starves tables y z ns q size at (prepares.behind first closing flushing n content open_ few noted ns_are closed half none) =
     let place : length y.closed ≡ q.treated = at.closed ∙ open_whole q (at.waits ∙ open_) in
     let more = one_closed y z content closed in (
       record { owed = None; treated = q.treated; waits = true },
-      life.behind (noted_all first) (closed_and_flushed closing flushing n (length y.closed)) n (at.waits ∙ open_) (omega (arith, few, place, size))
-          (owed_noted q.owed y.serving.owing first at.owed noted)
-          (closing, flushing, ap (λ (k : ℕ). closed_and_flushed closing flushing n k) place) (noted_split ns first _ ns_are) refl,
+      inr (n, at.waits ∙ open_, omega (arith, few, place, size), tells q.owed y.serving.owing ns first _ q.treated (said.Closed n ∷ said.Flushed n ∷ []) at.owed noted ns_are (ap (closed_words n) place), refl),
       record { owed = none; treated_are = omega (arith, treated_half z half, more, place); waits = sym half; closed = more ∙ ap suc place },
     )
 starves tables y z ns q size at (prepares.still was noted closed half none) = (
   record { owed = None; treated = q.treated; waits = true },
-  life.still (at.waits ∙ was) (owed_noted q.owed y.serving.owing ns at.owed noted) refl,
+  inl (tells_owed q.owed y.serving.owing ns q.treated at.owed noted, ap (λ (b : Bool). let r : Progress = record { owed = None; treated = q.treated; waits = b } in r) (sym (at.waits ∙ was))),
   record {
     owed = none;
     treated_are = at.treated_are ∙ sym (treated_same y z closed (half ∙ sym was));

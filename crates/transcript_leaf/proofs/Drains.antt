@@ -22,10 +22,10 @@ use Rattle.leaf_machine.specs.Prepares.{Halts, Starves, AllTreated, IsCrowded}
 use Rattle.printed_lines.specs.declared.line.Deed.TheVariants.{Drain}
 use Rattle.transcript.specs.Pieces.{Noted}
 use Rattle.transcript.specs.Transcript.{Known}
-use Rattle.transcript.specs.Life.{Columns, Life, Mode, Down, Up, Preparing, Progress, OfDrain, BeginsAt, ClosesRest, MayMake, claimed, durable_with, failed, first_open, on, way_stopped}
+use Rattle.transcript.specs.Life.{Columns, Life, Mode, Down, Up, Preparing, Progress, OfDrain, BeginsAt, Steps, ClosesRest, MayMake, claimed, durable_with, failed, first_open, on, way_stopped}
 use Rattle.transcript.specs.Life as life
 use Rattle.leaf_moves.specs.Stage.{Leaf, IsDown, IsUp, IsPreparing, Stands, seated_of}
-use Rattle.leaf_moves.specs.Steps.{BeginsShutting, DrainMoves, IsDownLeaf, MakesSteps, Part, RegionStopped, noted_all}
+use Rattle.leaf_moves.specs.Steps.{AreShut, BeginsShutting, DrainMoves, IsDownLeaf, MakesSteps, Part, RegionStopped, noted_all}
 use Rattle.leaf_moves.specs.Steps as moves
 use Rattle.transcript_leaf.specs.Session.{AreGrounded, AreInPlace, FitsMode, FitsNext, IsProgressOf, StandsKnown}
 use Rattle.transcript_leaf.specs.Acting.{FitsWay, Hands, Lived}
@@ -35,7 +35,7 @@ use Rattle.transcript_leaf.proofs.NoteLines.{closed_noted, handed_noted, noted_s
 use Rattle.transcript_leaf.proofs.CountingNotes.{AreStewards}
 use Rattle.transcript_leaf.proofs.Handing.{begun_stewards, begun_tables, handed_columns, hands_nothing, steps_stewards, steps_tables}
 use Rattle.transcript_leaf.proofs.Adding.{hands_bulk, hands_most}
-use Rattle.transcript_leaf.proofs.DrainSteps.{closed_still, copied, copy_columns, copy_long, copy_within, durable_still, halts, handed_still, least_copy, least_within, starves, through}
+use Rattle.transcript_leaf.proofs.DrainSteps.{closed_still, copied, copy_columns, copy_shut, copy_within, durable_still, halts, handed_still, starves, through}
 
 -- ---- what is known where the base is
 
@@ -155,11 +155,21 @@ module _ (known : Option Known) (tables : ℕ) (stop : Option ℕ) (old : Life) 
         bulk = 0;
         told = λ grounds histories on. handed_columns grounds histories z on part.from part.to y.serving.seated handing (length x.serving.seated.tables) part.made noted
             (steps_stewards n (moves.Shuts x) treating (moves.Copies y copy made) steps stewards);
-        few = λ grounds histories on founded. (omega arith, omega arith);
+        few = λ grounds histories notes on noted. (omega arith, omega arith);
       } in
       let does : (columns : Columns) → columns.least hands.handed ≤ hands.columns → OfDrain (is_some known) tables columns stop old (noted_all notes) ending.Done next =
-      λ columns few. life.done copy n made b.at (noted_all treating) (noted_all handing) (let long = (copy_columns n copy made x y treating steps).0 in omega (arith, few, long)) b.begins
-      (copied tables n copy made x y treating b.at b.progress size steps) last may hand split refl refl in record {
+      λ columns few. (
+        n,
+        made,
+        noted_all treating,
+        noted_all handing,
+        (b.at, b.begins, subst (λ (c : ℕ). Steps tables c n (life.Shutting b.at) (noted_all treating) (life.Copying made)) (sym last) (copied tables n copy made x y treating b.at b.progress size steps)),
+        may,
+        (let long = (copy_columns n copy made x y treating steps).0 in omega (arith, few, long, last)),
+        hand,
+        split,
+        refl,
+      ) in record {
         next = next;
         hands = hands;
         does = λ columns few more. does columns few;
@@ -177,10 +187,17 @@ module _ (known : Option Known) (tables : ℕ) (stop : Option ℕ) (old : Life) 
   region_failed y notes n copy made founded steps may =
       let next : Life = on old Down None (noted_all notes) in
       let does : (columns : Columns) → (is_some known ≡ true → most_columns y.serving.seated ≤ columns.most) → OfDrain (is_some known) tables columns stop old (noted_all notes) ending.FaultRegion next =
-      λ columns more. life.region_fails copy n made b.at (copy_long n copy made x y notes steps) (copy_within (is_some known) columns.most n copy made x y notes steps founded more) b.begins
-      (copied tables n copy made x y notes b.at b.progress size steps) may refl refl in record {
+      λ columns more. (
+        copy,
+        n,
+        made,
+        copy_within (is_some known) columns.most n copy made x y notes steps founded more,
+        (b.at, b.begins, copied tables n copy made x y notes b.at b.progress size steps),
+        may,
+        refl,
+      ) in record {
         next = next;
-        hands = hands_most y.serving.seated;
+        hands = hands_most y.serving.seated (copy_shut n copy made x y notes steps);
         does = λ columns few more. does columns (λ is. (more is).0);
         counts = acting.keeps refl refl;
         mode = tt;
@@ -189,18 +206,25 @@ module _ (known : Option Known) (tables : ℕ) (stop : Option ℕ) (old : Life) 
 
   -- the copy has no room
   roomless : (y : Shutting) (notes : List Note) (n : ℕ) → (is_some known ≡ true → AreFounded y.serving.seated) → MakesSteps n (moves.Shuts x) notes (moves.Shuts y) → AllTreated y
-      → IsCrowded y.serving.seated → MayMake stop (suc n)
+      → AreShut y.serving.seated → IsCrowded y.serving.seated → MayMake stop (suc n)
       → (IsTrue m.tells → m'.held.region ≡ m.held.region)
       → Lived known tables (Drain stop) old (noted_all notes) ending.FaultRoom (IsPreparing y) m'
-  roomless y notes n founded steps all crowded may same =
-      let th = through tables 3 n x y notes b.at b.progress size steps in
+  roomless y notes n founded steps all shut crowded may same =
+      let th = through tables 0 n x y notes b.at b.progress size steps in
       let next : Life = on old (Preparing th.q) old.way (noted_all notes) in
       let bulk = bulk_added y.serving.seated.tables y.serving.seated.seats in
       let does : (columns : Columns) → (is_some known ≡ true → bulk ≤ columns.bulk) → OfDrain (is_some known) tables columns stop old (noted_all notes) ending.FaultRoom next =
-      λ columns more. life.no_room 3 n b.at th.q least_copy (λ is. let much = crowded (founded is) in let ever = more is in omega (arith, much, ever)) b.begins th.run
-      (th.progress.treated_are ∙ (all ∙ th.size)) may refl refl in record {
+      λ columns more. (
+        n,
+        th.q,
+        λ is. let much = crowded (founded is) in let all = more is in omega (arith, much, all),
+        (b.at, b.begins, th.run),
+        th.progress.treated_are ∙ (all ∙ th.size),
+        may,
+        refl,
+      ) in record {
         next = next;
-        hands = hands_bulk y;
+        hands = hands_bulk y shut;
         does = λ columns few more. does columns (λ is. (more is).1);
         counts = acting.keeps refl refl;
         mode = th.progress;
@@ -212,11 +236,11 @@ module _ (known : Option Known) (tables : ℕ) (stop : Option ℕ) (old : Life) 
       → notes ≡ treating ++ starving → (IsTrue m.tells → m'.held.region ≡ m.held.region)
       → Lived known tables (Drain stop) old (noted_all notes) ending.FaultMemory (IsPreparing z) m'
   starved y z treating starving notes n steps may s notes_are same =
-      let th = through tables 3 n x y treating b.at b.progress size steps in
+      let th = through tables 0 n x y treating b.at b.progress size steps in
       let st = starves tables y z starving th.q th.size th.progress s in
       let next : Life = on old (Preparing st.0) old.way (noted_all notes) in
       let does : (columns : Columns) → OfDrain (is_some known) tables columns stop old (noted_all notes) ending.FaultMemory next =
-      λ columns. life.no_memory 3 n b.at th.q st.0 (noted_all treating) (noted_all starving) least_copy b.begins th.run st.1 may (noted_split notes treating starving notes_are) refl refl in record {
+      λ columns. (n, th.q, st.0, noted_all treating, noted_all starving, (b.at, b.begins, th.run), may, st.1, noted_split notes treating starving notes_are, refl) in record {
         next = next;
         hands = hands_nothing (IsPreparing z);
         does = λ columns few more. does columns;
@@ -231,12 +255,12 @@ module _ (known : Option Known) (tables : ℕ) (stop : Option ℕ) (old : Life) 
       → notes ≡ treating ++ halting → (IsTrue m.tells → m'.held.region ≡ m.held.region)
       → Lived known tables (Drain stop) old (noted_all notes) ending.FaultDisk (IsPreparing z) m'
   halted y z treating halting notes n steps may few h notes_are same =
-      let th = through tables 3 n x y treating b.at b.progress size steps in
+      let th = through tables 0 n x y treating b.at b.progress size steps in
       let hl = halts y z halting th.q th.progress h in
       let below : th.q.treated < tables = omega (arith, few, th.progress.treated_are, th.size) in
       let next : Life = failed old (Preparing hl.0) in
       let does : (columns : Columns) → OfDrain (is_some known) tables columns stop old (noted_all notes) ending.FaultDisk next =
-      λ columns. life.disk_fails 3 n b.at th.q hl.0 (noted_all treating) (noted_all halting) least_copy b.begins th.run below hl.1 may (noted_split notes treating halting notes_are) refl refl in record {
+      λ columns. (n, th.q, hl.0, noted_all treating, noted_all halting, (b.at, b.begins, th.run), may, below, hl.1, noted_split notes treating halting notes_are, refl) in record {
         next = next;
         hands = hands_nothing (IsPreparing z);
         does = λ columns few more. does columns;
@@ -252,7 +276,7 @@ module _ (known : Option Known) (tables : ℕ) (stop : Option ℕ) (old : Life) 
       → notes ≡ treating ++ closing → (IsTrue m.tells → m'.held.region ≡ m.held.region)
       → Lived known tables (Drain stop) old (noted_all notes) ending.Stopped (IsDown z) m'
   stopped y z treating closing notes n count stop_is steps count_is noted notes_are same =
-      let th = through tables 3 n x y treating b.at b.progress size steps in
+      let th = through tables 0 n x y treating b.at b.progress size steps in
       let shut = closed_noted (length y.closed) count closing noted in
       let split = noted_split notes treating closing notes_are in
       let place : length y.closed ≡ first_open th.q = th.progress.closed in
@@ -263,7 +287,7 @@ module _ (known : Option Known) (tables : ℕ) (stop : Option ℕ) (old : Life) 
       ) in
       let next : Life = on old Down (way_stopped (life.Shutting th.q) old.way) (noted_all treating) in
       let does : (columns : Columns) → OfDrain (is_some known) tables columns stop old (noted_all notes) ending.Stopped next =
-      λ columns. life.stops 3 n b.at (life.Shutting th.q) (noted_all treating) (noted_all closing) least_copy (least_within (is_some known) columns.most) b.begins th.run stop_is rest split refl refl in record {
+      λ columns. (0, n, life.Shutting th.q, noted_all treating, noted_all closing, λ is. omega arith, (b.at, b.begins, th.run), stop_is, rest, split, refl) in record {
         next = next;
         hands = hands_nothing (IsDown z);
         does = λ columns few more. does columns;
@@ -281,11 +305,21 @@ module _ (known : Option Known) (tables : ℕ) (stop : Option ℕ) (old : Life) 
   stopped_copying y notes n copy made founded stop_is steps region =
       let next : Life = on old Down (way_stopped (life.Copying made) old.way) (noted_all notes) in
       let does : (columns : Columns) → (is_some known ≡ true → most_columns y.serving.seated ≤ columns.most) → OfDrain (is_some known) tables columns stop old (noted_all notes) ending.Stopped next =
-      λ columns more. life.stops copy n b.at (life.Copying made) (noted_all notes) [] (copy_long n copy made x y notes steps)
-      (copy_within (is_some known) columns.most n copy made x y notes steps founded more) b.begins (copied tables n copy made x y notes b.at b.progress size steps) stop_is refl
-      (sym (append-nil (noted_all notes))) refl refl in record {
+      λ columns more. (
+        copy,
+        n,
+        life.Copying made,
+        noted_all notes,
+        [],
+        copy_within (is_some known) columns.most n copy made x y notes steps founded more,
+        (b.at, b.begins, copied tables n copy made x y notes b.at b.progress size steps),
+        stop_is,
+        refl,
+        sym (append-nil (noted_all notes)),
+        refl,
+      ) in record {
         next = next;
-        hands = hands_most y.serving.seated;
+        hands = hands_most y.serving.seated (copy_shut n copy made x y notes steps);
         does = λ columns few more. does columns (λ is. (more is).0);
         counts = acting.keeps refl refl;
         mode = tt;
@@ -297,7 +331,7 @@ not_up : (known : Option Known) (tables : ℕ) (stop : Option ℕ) (old : Life) 
     → IfSome known (λ (k : Known). StandsKnown k leaf m) → FitsMode old.mode leaf → FitsNext known old leaf m → IsDownLeaf leaf → m'.held ≡ m.held
     → Lived known tables (Drain stop) old [] ending.NotUp leaf m'
 not_up known tables stop old m m' leaf stands mode fits down held =
-    let does : (columns : Columns) → OfDrain (is_some known) tables columns stop old [] ending.NotUp old = λ columns. life.not_up (resting_mode leaf old.mode mode down) refl refl refl in record {
+    let does : (columns : Columns) → OfDrain (is_some known) tables columns stop old [] ending.NotUp old = λ columns. (resting_mode leaf old.mode mode down, refl, refl) in record {
       next = old;
       hands = hands_nothing leaf;
       does = λ columns few more. does columns;
@@ -326,7 +360,7 @@ drain_lives names known stop old m m' leaf notes ends leaf' place grounded stewa
     let b = begun old.mode leaf x mode shuts in
     rw (ends_are, leaf_is)
     (roomless known (length names) stop old m m' leaf x stands fits b (b.tables ∙ as_many names (seated_of leaf) place) y notes n
-    (founded_shut names known leaf x y n notes place grounded shuts steps) steps all crowded may region)
+    (founded_shut names known leaf x y n notes place grounded shuts steps) steps all crowded.0 crowded.1 may region)
 drain_lives names known stop old m m' leaf notes ends leaf' place grounded stewards stands mode fits (moves.starved x y z treating starving n shuts steps may s part notes_are region ends_are leaf_is) =
     let b = begun old.mode leaf x mode shuts in
     rw (ends_are, leaf_is)

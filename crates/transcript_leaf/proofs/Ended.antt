@@ -13,9 +13,9 @@ use Rattle.leaf_machine.specs.Leaving.{LeavesBegin}
 use Rattle.leaf_machine.proofs.LeaveRests.{rests_begin}
 use Rattle.leaf_machine.proofs.LeaveRuns.{runs_begin}
 use Rattle.printed_lines.specs.Lines.{name_at}
-use Rattle.transcript.specs.Pieces.{Piece, PlayedItem, all_pieces}
+use Rattle.transcript.specs.Pieces.{Did, Piece, PlayedItem, all_pieces, deeds}
 use Rattle.transcript.specs.Histories.{Ground, InOrder, IsHistoryOf, Shown, Tells, shown}
-use Rattle.transcript.specs.Strangers.{Strangers}
+use Rattle.transcript.specs.Strangers.{Strangers, StrangersIn}
 use Rattle.transcript.specs.Answers.{columns_of}
 use Rattle.transcript.specs.Life.{Lives}
 use Rattle.transcript.specs.Transcript.{Known, first_life, ground_of}
@@ -135,7 +135,7 @@ strangers_of : (number : ℕ) (names : List (List ℕ)) (known : Option Known) (
 strangers_of number names None old pieces l m k is s = absurd cc
 strangers_of number names (Some d) old pieces l m k is s =
     subst (λ (x : Known). Strangers names x.held.disk number x.held.region pieces) (same_some d k is)
-    (subst (λ (ps : List Piece). Strangers names d.held.disk number d.held.region ps) (append-nil pieces) (s.of_known.named.on [] (λ rest. tt)))
+    (subst (λ (ds : List Did). StrangersIn names d.held.disk d.held.region ds) (append-nil (deeds number pieces)) (s.of_known.named.on [] (λ rest. tt)))
 
 pub strangers_in : {B : Type 0} (meaning : B → Meaning) (number : ℕ) (names : List (List ℕ)) (known : Option Known) (old : Meaning) (items : List PlayedItem) (x : Hold B) (k : Known) → known ≡ Some k
     → LeafSession meaning number names known old [] (λ place. []) items x → IsWhole x → Strangers names k.held.disk number k.held.region (all_pieces items)
@@ -169,7 +169,7 @@ left {B} meaning number names known old items x k is now met l b held =
 
 pub lives_all : {B : Type 0} (meaning : B → Meaning) (number : ℕ) (names : List (List ℕ)) (known : Option Known) (old : Meaning) (items : List PlayedItem) (x : Hold B)
     → (now : LeafSession meaning number names known old [] (λ place. []) items x) → AreMet x → (l : Leaf) (b : B) (held : x.held ≡ Some (l, b))
-    → Lives (is_some known) (length names) (columns_of (λ table. ground_of known (name_at names table)) (λ table. seen_in x table) (length names)) number (first_life known names) (all_pieces items)
+    → Lives (is_some known) (length names) (columns_of (λ table. ground_of known (name_at names table)) (λ table. seen_in x table) (length names)) [] (first_life known names) (deeds number (all_pieces items))
     (now.held l b held).1.life
 lives_all {B} meaning number names known old items x now met l b held =
     let is = (now.held l b held).1 in

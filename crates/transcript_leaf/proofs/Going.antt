@@ -4,20 +4,23 @@ use Rattle.std.specs.Prelude.{IfSome, is_some}
 use Rattle.berth_face.specs.Berth.{Meaning}
 use Rattle.leaf_history.specs.History.{Entry}
 use Rattle.leaf_steward.specs.declared.notes.Note.{Note}
+use Rattle.leaf_steward.specs.Seated.{AtEach}
 use Rattle.printed_lines.specs.declared.line.Ending.{Ending}
 use Rattle.printed_lines.specs.declared.line.Deed.{Deed}
-use Rattle.transcript.specs.Pieces.{Acted, Noted, Piece}
+use Rattle.transcript.specs.Pieces.{Acted, Did, Noted, Piece, deeds}
 use Rattle.transcript.specs.Histories.{Ground}
-use Rattle.transcript.specs.Answers.{bulk_ever, columns_ever, columns_of}
+use Rattle.transcript.specs.Answers.{columns_of}
+use Rattle.transcript.specs.Life.{Lives}
 use Rattle.transcript.specs.Transcript.{Known, first_life}
 use Rattle.leaf_moves.specs.Stage.{Leaf, Carries, seated_of}
 use Rattle.leaf_moves.specs.Steps.{Moves, noted_all}
-use Rattle.transcript_leaf.specs.Session.{AreGrounded, AreInPlace, AreToldOn, IsOwn, KnownLeaf, LeafHeld, StandsKnown}
+use Rattle.transcript_leaf.specs.Session.{AreGrounded, AreInPlace, AreToldOn, IsNoted, IsOwn, KnownLeaf, LeafHeld, StandsKnown}
 use Rattle.transcript_leaf.specs.Acting.{Lived}
 use Rattle.transcript_leaf.proofs.CountingNotes.{AreStewards}
 use Rattle.transcript_leaf.proofs.Deeds.{deed_lives}
-use Rattle.transcript_leaf.proofs.Lives.{lives_act}
-use Rattle.transcript_leaf.proofs.Modes.{as_many, founded_where}
+use Rattle.transcript_leaf.proofs.Latest.{noted_made}
+use Rattle.transcript_leaf.proofs.Lives.{deeds_act, did, lives_act}
+use Rattle.transcript_leaf.proofs.Modes.{as_many}
 use Rattle.transcript.specs.Moments.{MomentsRise, notes_told}
 use Rattle.transcript_leaf.proofs.Rising.{makes_rise, rise_on, told_act}
 use Rattle.transcript_leaf.proofs.ToldOn.{told_made}
@@ -42,25 +45,34 @@ module _ (number : ℕ) (names : List (List ℕ)) (known : Option Known) (old : 
   moved_grounded : AreGrounded known (seated_of moved)
   moved_grounded = grounded_moved names met moved notes m m' s.in_place carries known s.grounded
 
-  -- it copied no more columns than were ever added, and its copy had no room only where that much was
-  few_columns : (grounds : ℕ → Ground) (histories : ℕ → List Entry) → AreToldOn grounds histories (seated_of moved) → is_some known ≡ true
-      → (lived.hands.most ≤ columns_ever grounds histories 0 (length names)) × (lived.hands.bulk ≤ bulk_ever grounds histories 0 (length names))
-  few_columns grounds histories told is =
-      subst (λ (n : ℕ). (lived.hands.most ≤ columns_ever grounds histories 0 n) × (lived.hands.bulk ≤ bulk_ever grounds histories 0 n)) (as_many names (seated_of moved) moved_place)
-      (lived.hands.few grounds histories told (founded_where names known (seated_of moved) moved_place moved_grounded is))
+  -- the entries that are told of it by then
+  abbrev all_notes : List Noted
+  all_notes = notes_told number pieces ++ noted_all notes
+
+  moved_noted : AtEach (IsNoted all_notes) (seated_of moved)
+  moved_noted = noted_made (notes_told number pieces) m.clock m'.clock (seated_of met) notes (seated_of moved) carries.made s.noted
+
+  -- it copied no more columns than its tables add then, and its copy had no room only where that much was
+  few_columns : (grounds : ℕ → Ground) (histories : ℕ → List Entry) → AreToldOn grounds histories (seated_of moved)
+      → (lived.hands.most ≤ (columns_of grounds histories (length names) all_notes).most) × (lived.hands.bulk ≤ (columns_of grounds histories (length names) all_notes).bulk)
+  few_columns grounds histories told =
+      subst (λ (n : ℕ). (lived.hands.most ≤ (columns_of grounds histories n all_notes).most) × (lived.hands.bulk ≤ (columns_of grounds histories n all_notes).bulk)) (as_many names (seated_of moved) moved_place)
+      (lived.hands.few grounds histories all_notes told moved_noted)
 
   pub held_acts : LeafHeld number names known old (pieces ++ Acted number deed (noted_all notes) ends ∷ []) moved m'
   held_acts = record {
     life = lived.next;
     lives = λ grounds histories told.
-        lives_act (is_some known) (length names) (columns_of grounds histories (length names)) number (first_life known names) s.life lived.next pieces deed (noted_all notes) ends
+        subst (λ (ds : List Did). Lives (is_some known) (length names) (columns_of grounds histories (length names)) [] (first_life known names) ds lived.next) (sym (deeds_act number pieces deed (noted_all notes) ends))
+        (lives_act (is_some known) (length names) (columns_of grounds histories (length names)) [] (first_life known names) s.life lived.next (deeds number pieces) (did deed (noted_all notes) ends)
         (s.lives grounds histories (told_made grounds histories m.clock m'.clock (seated_of met) notes (seated_of moved) carries.made stewards told))
-        (lived.does (columns_of grounds histories (length names)) (lived.hands.told grounds histories told) (few_columns grounds histories told));
+        (lived.does (columns_of grounds histories (length names) all_notes) (lived.hands.told grounds histories told) (λ is. few_columns grounds histories told)));
     moments = λ grounds histories told.
         subst (λ (ns : List Noted). MomentsRise histories old.clock ns m'.clock) (sym (told_act number pieces deed (noted_all notes) ends))
         (rise_on histories old.clock m.clock m'.clock (notes_told number pieces) (noted_all notes)
         (s.moments grounds histories (told_made grounds histories m.clock m'.clock (seated_of met) notes (seated_of moved) carries.made stewards told))
         (makes_rise grounds histories m.clock m'.clock (seated_of met) notes (seated_of moved) carries.made stewards told));
+    noted = subst (λ (ns : List Noted). AtEach (IsNoted ns) (seated_of moved)) (sym (told_act number pieces deed (noted_all notes) ends)) moved_noted;
     in_place = moved_place;
     grounded = moved_grounded;
     mode = lived.mode;

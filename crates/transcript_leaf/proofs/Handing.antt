@@ -241,4 +241,4 @@ module _ (g : ℕ → Ground) (h : ℕ → List Entry) (z : Seated) (told : AreT
 
 -- a deed that hands nothing over
 pub hands_nothing : (leaf : Leaf) → Hands leaf
-hands_nothing leaf = record { handed = []; columns = 0; most = 0; bulk = 0; told = λ grounds histories on. omega arith; few = λ grounds histories on founded. (omega arith, omega arith) }
+hands_nothing leaf = record { handed = []; columns = 0; most = 0; bulk = 0; told = λ grounds histories on. omega arith; few = λ grounds histories notes on noted. (omega arith, omega arith) }

@@ -13,7 +13,7 @@ use Rattle.script_text.specs.declared.command.Command.{Command}
 use Rattle.printed_lines.specs.declared.line.Said.{Said}
 use Rattle.printed_lines.specs.Lines.{name_at}
 use Rattle.printed_lines.specs.declared.line.Deed.{Deed}
-use Rattle.transcript.specs.Pieces.{Called, Piece, Played, PlayedItem, One, Burst, Worn, all_pieces, pieces_in}
+use Rattle.transcript.specs.Pieces.{Called, Piece, Played, PlayedItem, One, Burst, Worn, all_pieces, deeds, pieces_in}
 use Rattle.transcript.specs.Histories.{InOrder, IsHistoryOf, shown}
 use Rattle.transcript.specs.Answers.{WornIsLong, columns_of}
 use Rattle.transcript.specs.Life.{Lives}
@@ -172,7 +172,7 @@ module _ {B : Type 0} (meaning : B → Meaning) (number : ℕ) (names : List (Li
 
     -- its life, by its histories
     pub leaf_lives : (now : LeafSession meaning number names known old [] (λ place. []) items x) → AreMet x → (l : Leaf) (b : B) (held : x.held ≡ Some (l, b))
-        → Lives (is_some known) (length names) (columns_of (λ table. ground_of known (name_at names table)) (λ table. seen_in x table) (length names)) number (first_life known names) (all_pieces items)
+        → Lives (is_some known) (length names) (columns_of (λ table. ground_of known (name_at names table)) (λ table. seen_in x table) (length names)) [] (first_life known names) (deeds number (all_pieces items))
         (now.held l b held).1.life
     leaf_lives now met l b held = lives_all meaning number names known old items x now met l b held
 

@@ -25,6 +25,7 @@ pub mod Ids
 pub mod Leaf
 pub mod Lending
 pub mod Lists
+pub mod Latest
 pub mod Lives
 pub mod Merging
 pub mod Modes
@@ -38,6 +39,7 @@ pub mod Reaching
 pub mod Returning
 pub mod Sessions
 pub mod Standing
+pub mod Starts
 pub mod Stewards
 pub mod TableActs
 pub mod TableCalls

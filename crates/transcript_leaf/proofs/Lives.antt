@@ -1,66 +1,64 @@
--- The life of a leaf goes on by a deed of its steward, and past every other piece unchanged.
-use Rattle.std.proofs.Common.{ℕ, ◌==◌, Bool, true, false, List, [], ◌∷◌, ◌++◌, refl, subst, MatchBool}
+-- The deeds of one leaf's steward among the pieces of a run, and its life, which goes on by each.
+use Rattle.std.proofs.Common.{◌≡◌, ℕ, ◌==◌, Bool, true, false, List, [], ◌∷◌, ◌++◌, refl, sym, ap, subst, ◌∙◌}
+use Rattle.std.specs.Prelude.{if◌then◌else◌}
 use Rattle.std.proofs.lemmas.Bool.{eq-eqb}
+use Rattle.std.proofs.lemmas.Grind.{flat_map-append}
+use Rattle.std.proofs.lemmas.List.{append-nil, append_assoc}
 use Rattle.printed_lines.specs.declared.line.Ending.{Ending}
 use Rattle.printed_lines.specs.declared.line.Deed.{Deed}
-use Rattle.transcript.specs.Pieces.{Acted, Called, Noted, Piece, Says, Worn}
+use Rattle.transcript.specs.Pieces.{Acted, Called, Did, Noted, Piece, Says, Worn, deeds, did_in, notes_of}
 use Rattle.transcript.specs.Life.{Columns, Does, Life, Lives}
 use Rattle.transcript_leaf.specs.Session.{HasNoDeed}
 
--- some pieces more, from where the life has come
-pub lives_more : (told : Bool) (tables : ℕ) (columns : Columns) (leaf : ℕ) (first life next : Life) (pieces more : List Piece)
-    → Lives told tables columns leaf first pieces life → Lives told tables columns leaf life more next → Lives told tables columns leaf first (pieces ++ more) next
-lives_more told tables columns leaf first life next [] more so_far on = subst (λ (l : Life). Lives told tables columns leaf l more next) so_far on
-lives_more told tables columns leaf first life next (Acted l d ns e ∷ ps) more so_far on = by (l == leaf) so_far (λ between so_far. lives_more told tables columns leaf between life next ps more so_far on)
+-- ---- the deeds among pieces
+
+deeds_append : (leaf : ℕ) (ps qs : List Piece) → deeds leaf (ps ++ qs) ≡ deeds leaf ps ++ deeds leaf qs
+deeds_append leaf ps qs = flat_map-append (did_in leaf) ps qs
+
+abbrev pub did : Deed → List Noted → Ending → Did
+did deed notes ending = record { deed = deed; notes = notes; ending = ending }
+
+-- one of its own
+pub deeds_act : (leaf : ℕ) (ps : List Piece) (deed : Deed) (notes : List Noted) (ending : Ending) → deeds leaf (ps ++ Acted leaf deed notes ending ∷ []) ≡ deeds leaf ps ++ did deed notes ending ∷ []
+deeds_act leaf ps deed notes ending = deeds_append leaf ps (Acted leaf deed notes ending ∷ []) ∙ ap (λ (ds : List Did). deeds leaf ps ++ ds) (by (leaf == leaf) (eq-eqb leaf leaf refl))
   where
-    by : (b : Bool)
-        → MatchBool b ((between : Life) × Does told tables columns d first ns e between × Lives told tables columns leaf between ps life) (Lives told tables columns leaf first ps life)
-        → ((between : Life) → Lives told tables columns leaf between ps life → Lives told tables columns leaf between (ps ++ more) next)
-        → MatchBool b ((between : Life) × Does told tables columns d first ns e between × Lives told tables columns leaf between (ps ++ more) next) (Lives told tables columns leaf first (ps ++ more) next)
-    by true h go = (h.0, h.1, go h.0 h.2)
-    by false h go = go first h
-lives_more told tables columns leaf first life next (Called l t c number said ∷ ps) more so_far on = lives_more told tables columns leaf first life next ps more so_far on
-lives_more told tables columns leaf first life next (Worn l t ∷ ps) more so_far on = lives_more told tables columns leaf first life next ps more so_far on
-lives_more told tables columns leaf first life next (Says line ∷ ps) more so_far on = lives_more told tables columns leaf first life next ps more so_far on
+    by : (b : Bool) → b ≡ true → (if b then did deed notes ending ∷ [] else []) ++ [] ≡ did deed notes ending ∷ []
+    by true e = refl
+    by false e = absurd cc
 
-pub lives_act : (told : Bool) (tables : ℕ) (columns : Columns) (leaf : ℕ) (first life next : Life) (pieces : List Piece) (deed : Deed) (notes : List Noted) (ending : Ending)
-    → Lives told tables columns leaf first pieces life → Does told tables columns deed life notes ending next
-    → Lives told tables columns leaf first (pieces ++ Acted leaf deed notes ending ∷ []) next
-lives_act told tables columns leaf first life next pieces deed notes ending so_far does =
-    let own : Lives told tables columns leaf life (Acted leaf deed notes ending ∷ []) next = rw (eq-eqb leaf leaf refl) (next, does, refl) in
-    lives_more told tables columns leaf first life next pieces (Acted leaf deed notes ending ∷ []) so_far own
+-- and none
+none_by : (b : Bool) (own rest : List Did) → b ≡ false → (if b then own else []) ++ rest ≡ rest
+none_by true own rest e = absurd cc
+none_by false own rest e = refl
 
--- ---- past many of them
+deeds_none : (leaf : ℕ) (ps : List Piece) → HasNoDeed leaf ps → deeds leaf ps ≡ []
+deeds_none leaf [] apart = refl
+deeds_none leaf (Acted l d ns e ∷ ps) apart = none_by (l == leaf) (did d ns e ∷ []) (deeds leaf ps) apart.0 ∙ deeds_none leaf ps apart.1
+deeds_none leaf (Called l t c n said ∷ ps) apart = deeds_none leaf ps apart.1
+deeds_none leaf (Worn l t ∷ ps) apart = deeds_none leaf ps apart.1
+deeds_none leaf (Says line ∷ ps) apart = deeds_none leaf ps apart.1
 
--- the life up to some pieces, and from there
-pub lives_split : (told : Bool) (tables : ℕ) (columns : Columns) (leaf : ℕ) (first next : Life) (pieces more : List Piece) → Lives told tables columns leaf first (pieces ++ more) next
-    → (life : Life) × Lives told tables columns leaf first pieces life × Lives told tables columns leaf life more next
-lives_split told tables columns leaf first next [] more h = (first, refl, h)
-lives_split told tables columns leaf first next (Acted l d ns e ∷ ps) more h = by (l == leaf) h (λ between on. lives_split told tables columns leaf between next ps more on)
-  where
-    by : (b : Bool)
-        → MatchBool b ((between : Life) × Does told tables columns d first ns e between × Lives told tables columns leaf between (ps ++ more) next) (Lives told tables columns leaf first (ps ++ more) next)
-        → ((between : Life) → Lives told tables columns leaf between (ps ++ more) next → (life : Life) × Lives told tables columns leaf between ps life × Lives told tables columns leaf life more next)
-        → (life : Life) × MatchBool b ((between : Life) × Does told tables columns d first ns e between × Lives told tables columns leaf between ps life) (Lives told tables columns leaf first ps life) × Lives told tables columns leaf life more next
-    by true g go = let on = go g.0 g.2 in (on.0, (g.0, g.1, on.1), on.2)
-    by false g go = go first g
-lives_split told tables columns leaf first next (Called l t c number said ∷ ps) more h = lives_split told tables columns leaf first next ps more h
-lives_split told tables columns leaf first next (Worn l t ∷ ps) more h = lives_split told tables columns leaf first next ps more h
-lives_split told tables columns leaf first next (Says line ∷ ps) more h = lives_split told tables columns leaf first next ps more h
+pub deeds_between : (leaf : ℕ) (before none more : List Piece) → HasNoDeed leaf none → deeds leaf (before ++ (none ++ more)) ≡ deeds leaf (before ++ more)
+deeds_between leaf before none more apart =
+    deeds_append leaf before (none ++ more)
+    ∙ (ap (λ (ds : List Did). deeds leaf before ++ ds) (deeds_append leaf none more ∙ ap (λ (ds : List Did). ds ++ deeds leaf more) (deeds_none leaf none apart))
+    ∙ sym (deeds_append leaf before more))
 
--- where none of them is a deed of its steward
-lives_behind : (told : Bool) (tables : ℕ) (columns : Columns) (leaf : ℕ) (life next : Life) (ps more : List Piece) → HasNoDeed leaf ps → Lives told tables columns leaf life more next → Lives told tables columns leaf life (ps ++ more) next
-lives_behind told tables columns leaf life next [] more none h = h
-lives_behind told tables columns leaf life next (Acted l d ns e ∷ ps) more none h =
-    let on : Lives told tables columns leaf life (ps ++ more) next = lives_behind told tables columns leaf life next ps more none.1 h in
-    rw none.0 on
-lives_behind told tables columns leaf life next (Called l t c number said ∷ ps) more none h = lives_behind told tables columns leaf life next ps more none.1 h
-lives_behind told tables columns leaf life next (Worn l t ∷ ps) more none h = lives_behind told tables columns leaf life next ps more none.1 h
-lives_behind told tables columns leaf life next (Says line ∷ ps) more none h = lives_behind told tables columns leaf life next ps more none.1 h
+-- ---- the life
 
--- they may stand between the others
-pub lives_between : (told : Bool) (tables : ℕ) (columns : Columns) (leaf : ℕ) (first next : Life) (before none more : List Piece) → HasNoDeed leaf none
-    → Lives told tables columns leaf first (before ++ more) next → Lives told tables columns leaf first (before ++ (none ++ more)) next
-lives_between told tables columns leaf first next before none more apart h =
-    let two = lives_split told tables columns leaf first next before more h in
-    lives_more told tables columns leaf first two.0 next before (none ++ more) two.1 (lives_behind told tables columns leaf two.0 next none more apart two.2)
+-- behind entries that were there, and those of the deeds so far
+pub lives_act : (told : Bool) (tables : ℕ) (columns : List Noted → Columns) (before : List Noted) (first life next : Life) (ds : List Did) (d : Did)
+    → Lives told tables columns before first ds life → Does told tables (columns ((before ++ notes_of ds) ++ d.notes)) d.deed life d.notes d.ending next
+    → Lives told tables columns before first (ds ++ d ∷ []) next
+lives_act told tables columns before first life next [] d so_far does = (
+  next,
+  subst (λ (l : Life). Does told tables (columns (before ++ d.notes)) d.deed l d.notes d.ending next) so_far
+      (subst (λ (ns : List Noted). Does told tables (columns (ns ++ d.notes)) d.deed life d.notes d.ending next) (append-nil before) does),
+  refl,
+)
+lives_act told tables columns before first life next (e ∷ es) d so_far does = (
+  so_far.0,
+  so_far.1,
+  lives_act told tables columns (before ++ e.notes) so_far.0 life next es d so_far.2
+      (subst (λ (ns : List Noted). Does told tables (columns (ns ++ d.notes)) d.deed life d.notes d.ending next) (sym (append_assoc before e.notes (notes_of es))) does),
+)

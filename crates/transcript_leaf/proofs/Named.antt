@@ -1,7 +1,7 @@
 -- What the starts of a leaf find of strangers until it is first up: just those of what the run was handed.
 use Rattle.std.proofs.Common.{◌≡◌, ◌⊎◌, ◌∙◌, inl, inr, ℕ, Bool, true, false, List, [], ◌∷◌, ◌++◌, length, Option, Some, Result, Ok, Err, refl, sym, ap, subst, arith, append_assoc}
 use Rattle.std.specs.Prelude.{IsTrue, slice_index}
-use Rattle.std.proofs.lemmas.Bool.{cases_eq, cases_lt, eq-eqb}
+use Rattle.std.proofs.lemmas.Bool.{cases_eq, cases_lt}
 use Rattle.berth_face.specs.Berth.{Meaning, Pair, IsClosed}
 use Rattle.disk_backup.specs.Scanning.{BeginsScan}
 use Rattle.leaf_words.specs.declared.ways.Way.{Way}
@@ -20,14 +20,16 @@ use Rattle.printed_lines.specs.declared.line.Ending.{Ending}
 use Rattle.printed_lines.specs.declared.line.Ending.TheVariants as ending
 use Rattle.printed_lines.specs.declared.line.Deed.{Deed}
 use Rattle.printed_lines.specs.declared.line.Deed.TheVariants.{Start, Flush, Drain, Kill}
-use Rattle.transcript.specs.Pieces.{Piece, Acted, Noted}
-use Rattle.transcript.specs.Life.{Columns, Life, Mode, Down, Up, Owed, Does, OfStart, OfFlush, OfDrain, OfKill, BeginsAt, IsStartRefusal, Progress}
-use Rattle.transcript.specs.Strangers.{Behind, FitsStrangers, Strangers}
+use Rattle.transcript.specs.Pieces.{Piece, Acted, Did, Noted, deeds}
+use Rattle.transcript.specs.Life.{Columns, Life, Mode, Down, Up, Owed, Does, OfFlush, OfDrain, OfKill, BeginsAt, IsStartRefusal, Progress}
+use Rattle.transcript.specs.Strangers.{Behind, FitsStrangers, StrangersIn}
 use Rattle.transcript.specs.Transcript.{Known, first_life}
 use Rattle.leaf_moves.specs.Stage.{Leaf, IsDown, IsUp, IsPreparing, seated_of}
 use Rattle.leaf_moves.specs.Steps.{Moves, StartMoves, FlushMoves, DrainMoves, KillMoves, BeginsShutting, IsDownLeaf, RegionRefused, ending_of, noted_all}
 use Rattle.transcript_leaf.specs.Session.{AreNamed, FitsMode}
 use Rattle.transcript_leaf.proofs.AsHanded.{read_named, scan_on, then_read}
+use Rattle.transcript_leaf.proofs.Lives.{deeds_act, did}
+use Rattle.transcript_leaf.proofs.Starts.{Starts, starts}
 use Rattle.transcript_leaf.proofs.Ways.{goes_none, goes_own}
 
 -- ---- a life that has begun goes on so
@@ -38,38 +40,10 @@ begun_of next life now = ap (λ (l : Life). l.begun) now
 mode_of : (next life : Life) → next ≡ life → next.mode ≡ life.mode
 mode_of next life now = ap (λ (l : Life). l.mode) now
 
-start_begun : (told : Bool) (tables : ℕ) (life : Life) (notes : List Noted) (ends : Ending) (next : Life) → OfStart told tables life notes ends next → life.begun ≡ true → next.begun ≡ true
-start_begun told tables life notes ends next (OfStart.opens way counts down may ways durable count notes_are ended now) begun = begun_of next _ now
-start_begun told tables life notes ends next (OfStart.refuses down refusal none now) begun = begun_of next _ now ∙ begun
-start_begun told tables life notes ends next (OfStart.not_down up none ended now) begun = begun_of next _ now ∙ begun
-
-pub flush_begun : (table : ℕ) (life : Life) (notes : List Noted) (ends : Ending) (next : Life) → OfFlush table life notes ends next → next.begun ≡ life.begun
-flush_begun table life notes ends next (OfFlush.done owed first own count up owes pair all ended now) = begun_of next _ now
-flush_begun table life notes ends next (OfFlush.half owed first own count up owes note all ended now) = begun_of next _ now
-flush_begun table life notes ends next (OfFlush.stuck o up none ended now) = begun_of next _ now
-flush_begun table life notes ends next (OfFlush.worn owed up owes ended now) = begun_of next _ now
-flush_begun table life notes ends next (OfFlush.not_up other none ended now) = begun_of next _ now
-
-pub drain_begun : (told : Bool) (tables : ℕ) (columns : Columns) (stop : Option ℕ) (life : Life) (notes : List Noted) (ends : Ending) (next : Life) → OfDrain told tables columns stop life notes ends next
-    → next.begun ≡ life.begun
-drain_begun told tables columns stop life notes ends next (OfDrain.done copy n made p treating handing size begins steps last may hands all ended now) = begun_of next _ now
-drain_begun told tables columns stop life notes ends next (OfDrain.region_fails copy n made p size within begins steps may ended now) = begun_of next _ now
-drain_begun told tables columns stop life notes ends next (OfDrain.no_room copy n p q size crowded begins steps treated may ended now) = begun_of next _ now
-drain_begun told tables columns stop life notes ends next (OfDrain.no_memory copy n p q r treating starving size begins steps starves may all ended now) = begun_of next _ now
-drain_begun told tables columns stop life notes ends next (OfDrain.disk_fails copy n p q r treating halting size begins steps fewer halts may all ended now) = begun_of next _ now
-drain_begun told tables columns stop life notes ends next (OfDrain.stops copy n p s treating closing size within begins steps stops closes all ended now) = begun_of next _ now
-drain_begun told tables columns stop life notes ends next (OfDrain.not_up down none ended now) = begun_of next _ now
-
-pub kill_begun : (tables : ℕ) (life : Life) (notes : List Noted) (ends : Ending) (next : Life) → OfKill tables life notes ends next → next.begun ≡ life.begun
-kill_begun tables life notes ends next (OfKill.kills p begins closes ended now) = begun_of next _ now
-kill_begun tables life notes ends next (OfKill.not_up down none ended now) = begun_of next _ now
-
-does_begun : (told : Bool) (tables : ℕ) (columns : Columns) (deed : Deed) (life : Life) (notes : List Noted) (ends : Ending) (next : Life) → Does told tables columns deed life notes ends next
-    → life.begun ≡ true → next.begun ≡ true
-does_begun told tables columns Start life notes ends next does begun = start_begun told tables life notes ends next does begun
-does_begun told tables columns (Flush table) life notes ends next does begun = flush_begun table life notes ends next does ∙ begun
-does_begun told tables columns (Drain stop) life notes ends next does begun = drain_begun told tables columns stop life notes ends next does ∙ begun
-does_begun told tables columns Kill life notes ends next does begun = kill_begun tables life notes ends next does ∙ begun
+start_begun : (told : Bool) (tables : ℕ) (life : Life) (notes : List Noted) (ends : Ending) (next : Life) → Starts told tables life notes ends next → life.begun ≡ true → next.begun ≡ true
+start_begun told tables life notes ends next (Starts.opens way counts down may ways durable count notes_are ended now) begun = begun_of next _ now
+start_begun told tables life notes ends next (Starts.refuses down refusal none now) begun = begun_of next _ now ∙ begun
+start_begun told tables life notes ends next (Starts.not_down up none ended now) begun = begun_of next _ now ∙ begun
 
 -- a refused start does not open the tables
 pub never_started : (f : StartFault) (way : Way) → ending_of f ≡ ending.Started way → ⊥
@@ -80,7 +54,7 @@ never_started (fault.Stranger name) way e = cc
 never_started fault.NoMemory way e = cc
 never_started (fault.Worn table) way e = cc
 
--- ---- of a leaf that is down no deed but a start does anything
+-- ---- no deed but a start begins a life, or does anything of a leaf that is down
 
 both : (b : Bool) → b ≡ true → b ≡ false → ⊥
 both b one other = cc
@@ -91,31 +65,79 @@ down_up mode owed down up = cc
 never_begins : (mode : Mode) (p : Progress) → mode ≡ Down → BeginsAt mode p → ⊥
 never_begins mode p down begins = subst (λ (a : Mode). BeginsAt a p) down begins
 
-record Rests (life : Life) (ends : Ending) (next : Life) : Type 0 where
-  now : next ≡ life
-  ended : ends ≡ ending.NotUp
+pub record Rests (life : Life) (ends : Ending) (next : Life) : Type 0 where
+  pub now : next ≡ life
+  pub ended : ends ≡ ending.NotUp
 
-flush_rests : (table : ℕ) (life : Life) (notes : List Noted) (ends : Ending) (next : Life) → life.mode ≡ Down → OfFlush table life notes ends next → Rests life ends next
-flush_rests table life notes ends next down (OfFlush.done owed first own count up owes pair all ended now) = absurd (down_up life.mode owed down up)
-flush_rests table life notes ends next down (OfFlush.half owed first own count up owes note all ended now) = absurd (down_up life.mode owed down up)
-flush_rests table life notes ends next down (OfFlush.stuck o up none ended now) = absurd (down_up life.mode (Some o) down up)
-flush_rests table life notes ends next down (OfFlush.worn owed up owes ended now) = absurd (down_up life.mode owed down up)
-flush_rests table life notes ends next down (OfFlush.not_up other none ended now) = record { now = now; ended = ended }
+pub record Stays (life : Life) (ends : Ending) (next : Life) : Type 0 where
+  pub begun : next.begun ≡ life.begun
+  pub rests : life.mode ≡ Down → Rests life ends next
 
-drain_rests : (told : Bool) (tables : ℕ) (columns : Columns) (stop : Option ℕ) (life : Life) (notes : List Noted) (ends : Ending) (next : Life) → life.mode ≡ Down → OfDrain told tables columns stop life notes ends next
-    → Rests life ends next
-drain_rests told tables columns stop life notes ends next down (OfDrain.done copy n made p treating handing size begins steps last may hands all ended now) = absurd (never_begins life.mode p down begins)
-drain_rests told tables columns stop life notes ends next down (OfDrain.region_fails copy n made p size within begins steps may ended now) = absurd (never_begins life.mode p down begins)
-drain_rests told tables columns stop life notes ends next down (OfDrain.no_room copy n p q size crowded begins steps treated may ended now) = absurd (never_begins life.mode p down begins)
-drain_rests told tables columns stop life notes ends next down (OfDrain.no_memory copy n p q r treating starving size begins steps starves may all ended now) = absurd (never_begins life.mode p down begins)
-drain_rests told tables columns stop life notes ends next down (OfDrain.disk_fails copy n p q r treating halting size begins steps fewer halts may all ended now) =
-    absurd (never_begins life.mode p down begins)
-drain_rests told tables columns stop life notes ends next down (OfDrain.stops copy n p s treating closing size within begins steps stops closes all ended now) = absurd (never_begins life.mode p down begins)
-drain_rests told tables columns stop life notes ends next down (OfDrain.not_up is_down none ended now) = record { now = now; ended = ended }
+-- the leaf was up
+stays_up : (life : Life) (ends : Ending) (next then : Life) (owed : Option Owed) → life.mode ≡ Up owed → next ≡ then → then.begun ≡ life.begun → Stays life ends next
+stays_up life ends next then owed up now begun = record { begun = begun_of next then now ∙ begun; rests = λ down. absurd (down_up life.mode owed down up) }
 
-kill_rests : (tables : ℕ) (life : Life) (notes : List Noted) (ends : Ending) (next : Life) → life.mode ≡ Down → OfKill tables life notes ends next → Rests life ends next
-kill_rests tables life notes ends next down (OfKill.kills p begins closes ended now) = absurd (never_begins life.mode p down begins)
-kill_rests tables life notes ends next down (OfKill.not_up is_down none ended now) = record { now = now; ended = ended }
+-- or up, or shutting its tables
+stays_so : (life : Life) (ends : Ending) (next then : Life) (p : Progress) → BeginsAt life.mode p → next ≡ then → then.begun ≡ life.begun → Stays life ends next
+stays_so life ends next then p begins now begun = record { begun = begun_of next then now ∙ begun; rests = λ down. absurd (never_begins life.mode p down begins) }
+
+-- nothing was done
+stays_still : (life next : Life) → next ≡ life → Stays life ending.NotUp next
+stays_still life next now = record { begun = begun_of next life now; rests = λ down. record { now = now; ended = refl } }
+
+pub flush_stays : (table : ℕ) (life : Life) (notes : List Noted) (ends : Ending) (next : Life) → OfFlush table life notes ends next → Stays life ends next
+flush_stays table life notes ending.Done next h = stays_up life ending.Done next _ h.0 h.2 h.4 refl
+flush_stays table life notes ending.FaultDisk next (inl h) = stays_up life ending.FaultDisk next _ h.0 h.2 h.4 refl
+flush_stays table life notes ending.FaultDisk next (inr h) = stays_up life ending.FaultDisk next _ (Some h.0) h.1 h.3 refl
+flush_stays table life notes ending.Worn next h = stays_up life ending.Worn next _ h.0 h.1 h.3 refl
+flush_stays table life notes ending.NotUp next h = stays_still life next h.2
+flush_stays table life notes ending.NotDown next h = absurd h
+flush_stays table life notes ending.Stopped next h = absurd h
+flush_stays table life notes (ending.Started way) next h = absurd h
+flush_stays table life notes ending.FaultRegion next h = absurd h
+flush_stays table life notes ending.FaultRoom next h = absurd h
+flush_stays table life notes ending.FaultMemory next h = absurd h
+flush_stays table life notes ending.FaultDamaged next h = absurd h
+flush_stays table life notes (ending.FaultStranger name) next h = absurd h
+flush_stays table life notes (ending.FaultWorn other) next h = absurd h
+
+pub drain_stays : (told : Bool) (tables : ℕ) (columns : Columns) (stop : Option ℕ) (life : Life) (notes : List Noted) (ends : Ending) (next : Life) → OfDrain told tables columns stop life notes ends next
+    → Stays life ends next
+drain_stays told tables columns stop life notes ending.Done next h = stays_so life ending.Done next _ h.4.0 h.4.1 h.9 refl
+drain_stays told tables columns stop life notes ending.FaultRegion next h = stays_so life ending.FaultRegion next _ h.4.0 h.4.1 h.6 refl
+drain_stays told tables columns stop life notes ending.FaultRoom next h = stays_so life ending.FaultRoom next _ h.3.0 h.3.1 h.6 refl
+drain_stays told tables columns stop life notes ending.FaultMemory next h = stays_so life ending.FaultMemory next _ h.5.0 h.5.1 h.9 refl
+drain_stays told tables columns stop life notes ending.FaultDisk next h = stays_so life ending.FaultDisk next _ h.5.0 h.5.1 h.10 refl
+drain_stays told tables columns stop life notes ending.Stopped next h = stays_so life ending.Stopped next _ h.6.0 h.6.1 h.10 refl
+drain_stays told tables columns stop life notes ending.NotUp next h = stays_still life next h.2
+drain_stays told tables columns stop life notes ending.NotDown next h = absurd h
+drain_stays told tables columns stop life notes ending.Worn next h = absurd h
+drain_stays told tables columns stop life notes (ending.Started way) next h = absurd h
+drain_stays told tables columns stop life notes ending.FaultDamaged next h = absurd h
+drain_stays told tables columns stop life notes (ending.FaultStranger name) next h = absurd h
+drain_stays told tables columns stop life notes (ending.FaultWorn table) next h = absurd h
+
+pub kill_stays : (tables : ℕ) (life : Life) (notes : List Noted) (ends : Ending) (next : Life) → OfKill tables life notes ends next → Stays life ends next
+kill_stays tables life notes ending.Done next h = stays_so life ending.Done next _ h.0 h.1 h.3 refl
+kill_stays tables life notes ending.NotUp next h = stays_still life next h.2
+kill_stays tables life notes ending.NotDown next h = absurd h
+kill_stays tables life notes ending.Worn next h = absurd h
+kill_stays tables life notes ending.Stopped next h = absurd h
+kill_stays tables life notes (ending.Started way) next h = absurd h
+kill_stays tables life notes ending.FaultRegion next h = absurd h
+kill_stays tables life notes ending.FaultRoom next h = absurd h
+kill_stays tables life notes ending.FaultDisk next h = absurd h
+kill_stays tables life notes ending.FaultMemory next h = absurd h
+kill_stays tables life notes ending.FaultDamaged next h = absurd h
+kill_stays tables life notes (ending.FaultStranger name) next h = absurd h
+kill_stays tables life notes (ending.FaultWorn table) next h = absurd h
+
+does_begun : (told : Bool) (tables : ℕ) (columns : Columns) (deed : Deed) (life : Life) (notes : List Noted) (ends : Ending) (next : Life) → Does told tables columns deed life notes ends next
+    → life.begun ≡ true → next.begun ≡ true
+does_begun told tables columns Start life notes ends next does begun = start_begun told tables life notes ends next (starts told tables life notes ends next does) begun
+does_begun told tables columns (Flush table) life notes ends next does begun = (flush_stays table life notes ends next does).begun ∙ begun
+does_begun told tables columns (Drain stop) life notes ends next does begun = (drain_stays told tables columns stop life notes ends next does).begun ∙ begun
+does_begun told tables columns Kill life notes ends next does begun = (kill_stays tables life notes ends next does).begun ∙ begun
 
 -- nor touches anything
 down_leaf : (leaf : Leaf) → FitsMode Down leaf → IsDownLeaf leaf
@@ -196,11 +218,11 @@ module _ (number : ℕ) (names : List (List ℕ)) (held : Pair) where
   IsRead m = BeginsScan (length held.disk) held.disk m.held.disk
 
   -- what is left to be said of a leaf over this region
-  abbrev On : List Piece → List ℕ → Type 0
-  On more region = Strangers names held.disk number region more
+  abbrev On : List Did → List ℕ → Type 0
+  On more region = StrangersIn names held.disk region more
 
   -- what is to be said of a start or another deed that ended so, and behind it
-  abbrev Says : Meaning → Ending → List Piece → Type 0
+  abbrev Says : Meaning → Ending → List Did → Type 0
   Says m ends more = FitsStrangers names m.held.region held.disk ends × Behind ends m.held.region (On more)
 
   -- one that came up found no stranger
@@ -230,19 +252,15 @@ module _ (number : ℕ) (names : List (List ℕ)) (held : Pair) where
   -- what has to be shown of a deed that ended so
   record Goes (life : Life) (ends : Ending) (next : Life) (m m' : Meaning) : Type 0 where
     rest : next.begun ≡ false → (next.mode ≡ Down) × IsRead m'
-    on : life.begun ≡ false → (more : List Piece) → (next.begun ≡ false → On more m'.held.region) → Says m ends more
-
-  -- a deed of this leaf's steward
-  act_on : (deed : Deed) (notes : List Noted) (ends : Ending) (more : List Piece) (m : Meaning) → Says m ends more → On (Acted number deed notes ends ∷ more) m.held.region
-  act_on deed notes ends more m all = rw (eq-eqb number number refl) all
+    on : life.begun ≡ false → (more : List Did) → (next.begun ≡ false → On more m'.held.region) → Says m ends more
 
   goes_named : (life : Life) (pieces : List Piece) (deed : Deed) (m m' : Meaning) (notes : List Noted) (ends : Ending) (next : Life) → Goes life ends next m m' → AreNamed number names held life pieces m
       → AreNamed number names held next (pieces ++ Acted number deed notes ends ∷ []) m'
   goes_named life pieces deed m m' notes ends next goes named = record {
     rest = goes.rest;
     on = λ more all.
-        subst (λ (ps : List Piece). On ps held.region) (sym (append_assoc pieces (Acted number deed notes ends ∷ []) more))
-        (named.on (Acted number deed notes ends ∷ more) (λ fresh. act_on deed notes ends more m (goes.on fresh more all)));
+        subst (λ (ds : List Did). On ds held.region) (sym (ap (λ (ds : List Did). ds ++ more) (deeds_act number pieces deed notes ends) ∙ append_assoc (deeds number pieces) (did deed notes ends ∷ []) more))
+        (named.on (did deed notes ends ∷ more) (λ fresh. goes.on fresh more all));
   }
 
   begun_goes : (life : Life) (ends : Ending) (next : Life) (m m' : Meaning) → life.begun ≡ true → next.begun ≡ true → Goes life ends next m m'
@@ -274,7 +292,7 @@ module _ (number : ℕ) (names : List (List ℕ)) (held : Pair) where
   refused_goes tables life m m' leaf notes ends leaf' next tells down same_names read refusal mode begun (StartMoves.not_down up none still ended same) = absurd (up down)
 
   -- one that opened the tables
-  opened_on : (m m' : Meaning) (leaf : Leaf) (notes : List Note) (ends : Ending) (leaf' : Leaf) (way : Way) (more : List Piece) → IsTrue m.tells → IsDownLeaf leaf → (seated_of leaf).names ≡ names
+  opened_on : (m m' : Meaning) (leaf : Leaf) (notes : List Note) (ends : Ending) (leaf' : Leaf) (way : Way) (more : List Did) → IsTrue m.tells → IsDownLeaf leaf → (seated_of leaf).names ≡ names
       → IsRead m → ends ≡ ending.Started way → StartMoves m m' leaf notes ends leaf' → Says m ends more
   opened_on m m' leaf notes ends leaf' way more tells down same_names read started (StartMoves.opened x s v is owed each told ended now) =
       let own : x.names ≡ names = sym (ap (λ (l : Leaf). (seated_of l).names) is) ∙ same_names in
@@ -284,33 +302,33 @@ module _ (number : ℕ) (names : List (List ℕ)) (held : Pair) where
   opened_on m m' leaf notes ends leaf' way more tells down same_names read started (StartMoves.not_down up none still ended same) = absurd (up down)
 
   start_goes : (tables : ℕ) (life : Life) (m m' : Meaning) (leaf : Leaf) (notes : List Note) (ends : Ending) (leaf' : Leaf) (next : Life) → IsTrue m.tells → IsDownLeaf leaf → (seated_of leaf).names ≡ names
-      → life.mode ≡ Down → IsRead m → StartMoves m m' leaf notes ends leaf' → OfStart true tables life (noted_all notes) ends next → Goes life ends next m m'
-  start_goes tables life m m' leaf notes ends leaf' next tells down same_names mode read moves (OfStart.opens way counts is_down may ways durable count notes_are ended now) = record {
+      → life.mode ≡ Down → IsRead m → StartMoves m m' leaf notes ends leaf' → Starts true tables life (noted_all notes) ends next → Goes life ends next m m'
+  start_goes tables life m m' leaf notes ends leaf' next tells down same_names mode read moves (Starts.opens way counts is_down may ways durable count notes_are ended now) = record {
     rest = λ fresh. absurd (both next.begun (begun_of next _ now) fresh);
     on = λ fresh more all. opened_on m m' leaf notes ends leaf' way more tells down same_names read ended moves;
   }
-  start_goes tables life m m' leaf notes ends leaf' next tells down same_names mode read moves (OfStart.refuses is_down refusal none now) =
+  start_goes tables life m m' leaf notes ends leaf' next tells down same_names mode read moves (Starts.refuses is_down refusal none now) =
       refused_goes tables life m m' leaf notes ends leaf' next tells down same_names read refusal (mode_of next _ now) (begun_of next _ now) moves
-  start_goes tables life m m' leaf notes ends leaf' next tells down same_names mode read moves (OfStart.not_down up none ended now) = absurd (up mode)
+  start_goes tables life m m' leaf notes ends leaf' next tells down same_names mode read moves (Starts.not_down up none ended now) = absurd (up mode)
 
   -- a deed of a leaf that was never up
   fresh_goes : (tables : ℕ) (columns : Columns) (deed : Deed) (life : Life) (m m' : Meaning) (leaf : Leaf) (notes : List Note) (ends : Ending) (leaf' : Leaf) (next : Life) → IsTrue m.tells → IsDownLeaf leaf
       → (seated_of leaf).names ≡ names → life.mode ≡ Down → IsRead m → Moves deed m m' leaf notes ends leaf' → Does true tables columns deed life (noted_all notes) ends next → Goes life ends next m m'
   fresh_goes tables columns Start life m m' leaf notes ends leaf' next tells down same_names mode read moves does =
-      start_goes tables life m m' leaf notes ends leaf' next tells down same_names mode read moves does
+      start_goes tables life m m' leaf notes ends leaf' next tells down same_names mode read moves (starts true tables life (noted_all notes) ends next does)
   fresh_goes tables columns (Flush table) life m m' leaf notes ends leaf' next tells down same_names mode read moves does =
-      rests_goes life ends next m m' mode read (flush_rests table life (noted_all notes) ends next mode does) (flush_held table m m' leaf notes ends leaf' down moves)
+      rests_goes life ends next m m' mode read ((flush_stays table life (noted_all notes) ends next does).rests mode) (flush_held table m m' leaf notes ends leaf' down moves)
   fresh_goes tables columns (Drain stop) life m m' leaf notes ends leaf' next tells down same_names mode read moves does =
-      rests_goes life ends next m m' mode read (drain_rests true tables columns stop life (noted_all notes) ends next mode does) (drain_held stop m m' leaf notes ends leaf' down moves)
+      rests_goes life ends next m m' mode read ((drain_stays true tables columns stop life (noted_all notes) ends next does).rests mode) (drain_held stop m m' leaf notes ends leaf' down moves)
   fresh_goes tables columns Kill life m m' leaf notes ends leaf' next tells down same_names mode read moves does =
-      rests_goes life ends next m m' mode read (kill_rests tables life (noted_all notes) ends next mode does) (kill_held m m' leaf notes ends leaf' down moves)
+      rests_goes life ends next m m' mode read ((kill_stays tables life (noted_all notes) ends next does).rests mode) (kill_held m m' leaf notes ends leaf' down moves)
 
 -- ---- a run
 
 pub named_first : (number : ℕ) (names : List (List ℕ)) (k : Known) (m : Meaning) → k.held ≡ m.held → AreNamed number names k.held (first_life (Some k) names) [] m
 named_first number names k m same = record {
   rest = λ fresh. (refl, inl (sym (ap (λ (p : Pair). p.disk) same)));
-  on = λ more all. subst (λ (p : Pair). Strangers names k.held.disk number p.region more) (sym same) (all refl);
+  on = λ more all. subst (λ (p : Pair). StrangersIn names k.held.disk p.region more) (sym same) (all refl);
 }
 
 pub named_act : (number : ℕ) (names : List (List ℕ)) (columns : Columns) (held : Pair) (life : Life) (pieces : List Piece) (deed : Deed) (m m' : Meaning) (leaf : Leaf) (notes : List Note) (ends : Ending) (leaf' : Leaf) (next : Life)

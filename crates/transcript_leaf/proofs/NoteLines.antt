@@ -1,7 +1,7 @@
 -- What notes tell: one entry for each table in order, or that of what was owed.
 use Rattle.std.proofs.Common.{◌≡◌, ℕ, suc, List, [], ◌∷◌, ◌++◌, length, map, refl, sym, ap, ap₂, subst, ◌∙◌, Option, Some, None}
 use Rattle.std.specs.Prelude.{replicate}
-use Rattle.std.proofs.lemmas.List.{map-append}
+use Rattle.std.proofs.lemmas.List.{append-nil, map-append}
 use Rattle.row_records.specs.Records.{LogRecord}
 use Rattle.leaf_steward.specs.Owing.{Owing, flushed_note}
 use Rattle.leaf_steward.specs.declared.notes.Note.{Note}
@@ -13,7 +13,7 @@ use Rattle.leaf_machine.specs.Starts.{IsOpenedNote}
 use Rattle.printed_lines.specs.declared.line.Said.{Said}
 use Rattle.printed_lines.specs.declared.line.Said.TheVariants as said
 use Rattle.transcript.specs.Pieces.{Noted}
-use Rattle.transcript.specs.Life.{Notes, Owed, OwedNote}
+use Rattle.transcript.specs.Life.{Notes, Owed, NotesOf, owed_words}
 use Rattle.leaf_moves.specs.Steps.{noted, noted_all, said_of_note}
 use Rattle.transcript_leaf.specs.Session.{IsOwedAs}
 
@@ -77,18 +77,28 @@ handed_noted place count (n ∷ ns) h =
 
 -- ---- what was owed
 
--- one entry, by its table, its number and what it says
-abbrev entry : ℕ → ℕ → Said → Noted
-entry place n s = record { table = place; number = n; said = s }
+-- a note by its table and what its line says
+abbrev pub words_in : List Note → List (ℕ × Said)
+words_in notes = map (λ (n : Noted). (n.table, n.said)) (noted_all notes)
 
-pub owed_noted : (told : Option Owed) (o : Owing) (notes : List Note) → IsOwedAs told o → OwedNotes o.log.owed o notes → OwedNote told (noted_all notes)
-owed_noted None o notes is owes = noted_none notes (subst (λ (owed : Option LogRecord). OwedNotes owed o notes) is owes)
-owed_noted (Some told) o notes is owes =
+words_append : (xs ys : List Note) → words_in (xs ++ ys) ≡ words_in xs ++ words_in ys
+words_append xs ys = ap (λ (ns : List Noted). map (λ (n : Noted). (n.table, n.said)) ns) (noted_append xs ys) ∙ map-append (λ (n : Noted). (n.table, n.said)) (noted_all xs) (noted_all ys)
+
+owed_told : (told : Option Owed) (o : Owing) (notes : List Note) → IsOwedAs told o → OwedNotes o.log.owed o notes → words_in notes ≡ owed_words told
+owed_told None o notes is owes = ap words_in (subst (λ (owed : Option LogRecord). OwedNotes owed o notes) is owes)
+owed_told (Some told) o notes is owes =
     let one = some is.0 (subst (λ (owed : Option LogRecord). OwedNotes owed o notes) is.1 owes) in
-    (one.0, ap (λ (ns : List Note). noted_all ns) one.1 ∙ one_entry one.0)
+    ap words_in one.1 ∙ ap₂ (λ (place writes : ℕ). let w : ℕ × Said = (place, said.Flushed writes) in w ∷ []) is.2 is.3
   where
     some : (r : LogRecord) → OwedNotes (Some r) o notes → (number : ℕ) × (notes ≡ flushed_note o number ∷ [])
     some r h = h
 
-    one_entry : (number : ℕ) → noted_all (flushed_note o number ∷ []) ≡ entry told.table number (said.Flushed told.count) ∷ []
-    one_entry number = ap₂ (λ (place writes : ℕ). entry place number (said.Flushed writes) ∷ []) is.2 is.3
+-- behind its entry a table is told with these words
+pub tells : (told : Option Owed) (o : Owing) (notes first own : List Note) (table : ℕ) (saids : List Said) → IsOwedAs told o → OwedNotes o.log.owed o first → notes ≡ first ++ own
+    → words_in own ≡ map (λ (s : Said). (table, s)) saids → NotesOf told table saids (noted_all notes)
+tells told o notes first own table saids is owes notes_are words =
+    ap words_in notes_are ∙ (words_append first own ∙ ap₂ (λ (xs ys : List (ℕ × Said)). xs ++ ys) (owed_told told o first is owes) words)
+
+-- or alone
+pub tells_owed : (told : Option Owed) (o : Owing) (notes : List Note) (table : ℕ) → IsOwedAs told o → OwedNotes o.log.owed o notes → NotesOf told table [] (noted_all notes)
+tells_owed told o notes table is owes = owed_told told o notes is owes ∙ sym (append-nil (owed_words told))

@@ -29,7 +29,8 @@ use Rattle.leaf_moves.specs.Stage.{IsDown, IsUp, Leaf, Stands, StandsOn, seated_
 use Rattle.leaf_moves.specs.Steps.{DrainMoves, FlushMoves, KillMoves, Moves, RefusalTold, RegionStopped, StartMoves}
 use Rattle.transcript_leaf.specs.Session.{AreInPlace, IsOwn}
 use Rattle.transcript_leaf.proofs.AsHanded.{read_named, refused_breaks}
-use Rattle.transcript_leaf.proofs.Named.{begun_of, drain_begun, flush_begun, kill_begun, never_started}
+use Rattle.transcript_leaf.proofs.Starts.{Starts, starts}
+use Rattle.transcript_leaf.proofs.Named.{begun_of, drain_stays, flush_stays, kill_stays, never_started}
 use Rattle.transcript_leaf.proofs.Owning.{broken_own, closed_own, no_stranger}
 use Rattle.transcript_leaf.proofs.Standing.{as_many}
 
@@ -38,11 +39,11 @@ use Rattle.transcript_leaf.proofs.Standing.{as_many}
 not_started : (ends : Ending) → ends ≡ ending.NotDown → (way : Way) → ends ≡ ending.Started way → ⊥
 not_started ends is way e = cc
 
-begun_still : (told : Bool) (tables : ℕ) (life : Life) (notes : List Noted) (ends : Ending) (next : Life) → ((way : Way) → ends ≡ ending.Started way → ⊥) → OfStart told tables life notes ends next
+begun_still : (told : Bool) (tables : ℕ) (life : Life) (notes : List Noted) (ends : Ending) (next : Life) → ((way : Way) → ends ≡ ending.Started way → ⊥) → Starts told tables life notes ends next
     → next.begun ≡ life.begun
-begun_still told tables life notes ends next not (OfStart.opens way counts down may ways durable count notes_are ended now) = absurd (not way ended)
-begun_still told tables life notes ends next not (OfStart.refuses down refusal none now) = begun_of next _ now
-begun_still told tables life notes ends next not (OfStart.not_down up none ended now) = begun_of next _ now
+begun_still told tables life notes ends next not (Starts.opens way counts down may ways durable count notes_are ended now) = absurd (not way ended)
+begun_still told tables life notes ends next not (Starts.refuses down refusal none now) = begun_of next _ now
+begun_still told tables life notes ends next not (Starts.not_down up none ended now) = begun_of next _ now
 
 -- ---- the region behind a deed
 
@@ -115,16 +116,16 @@ module _ (names : List (List ℕ)) (base : NamedStates) (m m' : Meaning) (met mo
     start_owned told tables noted (StartMoves.opened x s way is owed each came ended now) does =
         comes s now (closed_own names m'.held.region (left_closed m.held.region m'.held.region (came tells).came.started.region))
     start_owned told tables noted (StartMoves.refused x f is worn damaged why none ended same) does =
-        stays (start_region (StartMoves.refused x f is worn damaged why none ended same)) (begun_still told tables life noted ends next (λ way e. never_started f way (sym ended ∙ e)) does)
+        stays (start_region (StartMoves.refused x f is worn damaged why none ended same)) (begun_still told tables life noted ends next (λ way e. never_started f way (sym ended ∙ e)) (starts told tables life noted ends next does))
     start_owned told tables noted (StartMoves.not_down up none held ended same) does =
-        stays (held_own names m m' held) (begun_still told tables life noted ends next (not_started ends ended) does)
+        stays (held_own names m m' held) (begun_still told tables life noted ends next (not_started ends ended) (starts told tables life noted ends next does))
 
     pub owned : (told : Bool) (tables : ℕ) (columns : Columns) (deed : Deed) (noted : List Noted) → Moves deed m m' met notes ends moved → Does told tables columns deed life noted ends next
         → IsOwn names (seated_of moved) m'
     owned told tables columns Start noted moves does = start_owned told tables noted moves does
-    owned told tables columns (Flush table) noted moves does = stays (flush_region table moves) (flush_begun table life noted ends next does)
-    owned told tables columns (Drain stop) noted moves does = stays (drain_region stop moves) (drain_begun told tables columns stop life noted ends next does)
-    owned told tables columns Kill noted moves does = stays (kill_region moves) (kill_begun tables life noted ends next does)
+    owned told tables columns (Flush table) noted moves does = stays (flush_region table moves) (flush_stays table life noted ends next does).begun
+    owned told tables columns (Drain stop) noted moves does = stays (drain_region stop moves) (drain_stays told tables columns stop life noted ends next does).begun
+    owned told tables columns Kill noted moves does = stays (kill_region moves) (kill_stays tables life noted ends next does).begun
 
 -- ---- a meeting
 

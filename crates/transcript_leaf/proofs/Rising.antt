@@ -1,7 +1,6 @@
 -- The moments of the entries that a leaf's steward makes do not fall.
-use Rattle.std.proofs.Common.{◌≡◌, ℕ, ◌-◌, ◌==◌, ◌≤◌, Bool, true, false, List, [], ◌∷◌, ◌++◌, length, Option, Some, refl, sym, ap, subst, ◌∙◌, arith, append-nil}
-use Rattle.std.specs.Prelude.{slice_get, option_map, if◌then◌else◌}
-use Rattle.std.proofs.lemmas.Bool.{eq-eqb}
+use Rattle.std.proofs.Common.{◌≡◌, ℕ, ◌-◌, ◌≤◌, List, [], ◌∷◌, ◌++◌, length, Option, Some, refl, sym, ap, subst, ◌∙◌, arith, append-nil}
+use Rattle.std.specs.Prelude.{slice_get, option_map}
 use Rattle.std.proofs.lemmas.List.{length-append}
 use Rattle.std.proofs.lemmas.Grind.{flat_map-append}
 use Rattle.leaf_history.specs.History.{Entry}
@@ -14,13 +13,14 @@ use Rattle.leaf_steward.specs.Seated.{Seated}
 use Rattle.leaf_steward.specs.Making.{MadeAs, Makes, OneEntry}
 use Rattle.printed_lines.specs.declared.line.Ending.{Ending}
 use Rattle.printed_lines.specs.declared.line.Deed.{Deed}
-use Rattle.transcript.specs.Pieces.{Acted, Called, Noted, Piece, Says, Worn}
+use Rattle.transcript.specs.Pieces.{Acted, Did, Noted, Piece, deeds, notes_of}
 use Rattle.transcript.specs.Histories.{Ground}
-use Rattle.transcript.specs.Moments.{MomentsRise, moment_of, notes_in, notes_told}
+use Rattle.transcript.specs.Moments.{MomentsRise, moment_of, notes_told}
 use Rattle.leaf_moves.specs.Steps.{noted, noted_all}
 use Rattle.transcript_leaf.specs.Session.{AreToldOn, HasNoDeed}
 use Rattle.transcript_leaf.proofs.Ids.{stewards_still}
 use Rattle.transcript_leaf.proofs.Lists.{element_at, get_set_same, within}
+use Rattle.transcript_leaf.proofs.Lives.{deeds_act, deeds_between, did}
 use Rattle.transcript_leaf.proofs.CountingNotes.{AreStewards, makes_seats}
 use Rattle.transcript_leaf.proofs.Noting.{notes_at}
 use Rattle.transcript_leaf.proofs.ToldOn.{told_made}
@@ -89,34 +89,10 @@ module _ (grounds : ℕ → Ground) (histories : ℕ → List Entry) where
 
 -- ---- of pieces
 
-pub told_append : (leaf : ℕ) (ps qs : List Piece) → notes_told leaf (ps ++ qs) ≡ notes_told leaf ps ++ notes_told leaf qs
-told_append leaf ps qs = flat_map-append (notes_in leaf) ps qs
-
 pub told_act : (leaf : ℕ) (ps : List Piece) (deed : Deed) (notes : List Noted) (ends : Ending) → notes_told leaf (ps ++ Acted leaf deed notes ends ∷ []) ≡ notes_told leaf ps ++ notes
 told_act leaf ps deed notes ends =
-    told_append leaf ps (Acted leaf deed notes ends ∷ []) ∙ ap (λ (ns : List Noted). notes_told leaf ps ++ ns) own
-  where
-    by : (b : Bool) → b ≡ true → (if b then notes else []) ++ [] ≡ notes
-    by true e = append-nil notes
-    by false e = absurd cc
-
-    own : notes_told leaf (Acted leaf deed notes ends ∷ []) ≡ notes
-    own = by (leaf == leaf) (eq-eqb leaf leaf refl)
-
--- ---- past what is no deed of the leaf's steward
-
-none_by : (b : Bool) (notes rest : List Noted) → b ≡ false → (if b then notes else []) ++ rest ≡ rest
-none_by true notes rest e = absurd cc
-none_by false notes rest e = refl
-
-notes_none : (leaf : ℕ) (ps : List Piece) → HasNoDeed leaf ps → notes_told leaf ps ≡ []
-notes_none leaf [] apart = refl
-notes_none leaf (Acted l d ns e ∷ ps) apart = none_by (l == leaf) ns (notes_told leaf ps) apart.0 ∙ notes_none leaf ps apart.1
-notes_none leaf (Called l t c n said ∷ ps) apart = notes_none leaf ps apart.1
-notes_none leaf (Worn l t ∷ ps) apart = notes_none leaf ps apart.1
-notes_none leaf (Says line ∷ ps) apart = notes_none leaf ps apart.1
+    ap notes_of (deeds_act leaf ps deed notes ends)
+    ∙ (flat_map-append (λ (d : Did). d.notes) (deeds leaf ps) (did deed notes ends ∷ []) ∙ ap (λ (ns : List Noted). notes_told leaf ps ++ ns) (append-nil notes))
 
 pub notes_between : (leaf : ℕ) (before none more : List Piece) → HasNoDeed leaf none → notes_told leaf (before ++ (none ++ more)) ≡ notes_told leaf (before ++ more)
-notes_between leaf before none more apart =
-    told_append leaf before (none ++ more)
-    ∙ (ap (λ (ns : List Noted). notes_told leaf before ++ ns) (told_append leaf none more ∙ ap (λ (ns : List Noted). ns ++ notes_told leaf more) (notes_none leaf none apart)) ∙ sym (told_append leaf before more))
+notes_between leaf before none more apart = ap notes_of (deeds_between leaf before none more apart)

@@ -13,11 +13,11 @@ use Rattle.transcript.specs.Life.{Columns, Life, Does, Notes, claimed, durable_w
 use Rattle.transcript.specs.Counts.{is_disk_fault}
 use Rattle.leaf_history.specs.History.{Entry}
 use Rattle.transcript.specs.Histories.{Ground}
-use Rattle.transcript.specs.Answers.{bulk_ever, columns_ever, columns_handed}
+use Rattle.transcript.specs.Answers.{columns_handed, columns_of}
 use Rattle.transcript.specs.Transcript.{Known}
-use Rattle.leaf_steward.specs.Seated.{AreFounded}
+use Rattle.leaf_steward.specs.Seated.{AtEach}
 use Rattle.leaf_moves.specs.Stage.{Leaf, seated_of}
-use Rattle.transcript_leaf.specs.Session.{AreToldOn, FitsMode}
+use Rattle.transcript_leaf.specs.Session.{AreToldOn, FitsMode, IsNoted}
 
 -- a fault of the disk at a flush or a drain loses what was claimed of the counts; one at a start touches no record of the log
 abbrev pub loses_counts : Deed → Ending → Bool
@@ -36,15 +36,15 @@ FitsWay None life m = life.way ≡ None
 FitsWay (Some k) life m = IfSome life.way (IsWayOf m.held.region)
 
 -- What a deed hands over: tables, in these entries, that had so many columns: at least those that the histories tell. Behind a deed that does not end a copy these are the columns that it has
--- at most, no more than rows and cells that the histories add to founded tables; and behind one whose copy has no room these are the rows, cells and writes of its tables.
+-- at most, no more than the histories tell behind the leaf's entries; and behind one whose copy has no room these are the rows, cells and writes of its tables.
 pub record Hands (leaf : Leaf) : Type 0 where
   pub handed : List Noted
   pub columns : ℕ
   pub most : ℕ
   pub bulk : ℕ
   pub told : (grounds : ℕ → Ground) (histories : ℕ → List Entry) → AreToldOn grounds histories (seated_of leaf) → columns_handed grounds histories handed ≤ columns
-  pub few : (grounds : ℕ → Ground) (histories : ℕ → List Entry) → AreToldOn grounds histories (seated_of leaf) → AreFounded (seated_of leaf)
-      → (most ≤ columns_ever grounds histories 0 (length (seated_of leaf).tables)) × (bulk ≤ bulk_ever grounds histories 0 (length (seated_of leaf).tables))
+  pub few : (grounds : ℕ → Ground) (histories : ℕ → List Entry) (notes : List Noted) → AreToldOn grounds histories (seated_of leaf) → AtEach (IsNoted notes) (seated_of leaf)
+      → (most ≤ (columns_of grounds histories (length (seated_of leaf).tables) notes).most) × (bulk ≤ (columns_of grounds histories (length (seated_of leaf).tables) notes).bulk)
 
 -- the life behind a deed
 pub record Lived (known : Option Known) (tables : ℕ) (deed : Deed) (life : Life) (notes : List Noted) (ending : Ending) (leaf : Leaf) (m : Meaning) : Type 0 where

@@ -1,6 +1,6 @@
 -- One leaf of a run in the middle, by its number: what holds of what the run printed so far, of each of the leaf's tables, and of the leaf, by who holds it or seats of it: the
 -- run, or a lane of a burst. The pieces are those of all leaves.
-use Rattle.std.specs.Prelude.{◌≡◌, ◌⊎◌, ℕ, suc, ◌+◌, ◌<◌, ◌==◌, true, false, List, [], ◌∷◌, ◌++◌, length, map, Option, Some, None, IfSome, is_some, slice_get, IsPermutation, IsTrue, ⊤}
+use Rattle.std.specs.Prelude.{◌≡◌, ◌⊎◌, ℕ, suc, ◌+◌, ◌<◌, ◌≤◌, ◌==◌, true, false, List, [], ◌∷◌, ◌++◌, length, map, take, Option, Some, None, IfSome, is_some, slice_get, IsPermutation, IsTrue, ⊤}
 use Rattle.std.specs.List.{AllByRecursion}
 use Rattle.row_records.specs.Records.{LogRecord}
 use Rattle.berth_face.specs.Berth.{Meaning, Pair}
@@ -15,18 +15,18 @@ use Rattle.crash_moments.specs.Watched.{was_opened}
 use Rattle.turnstile.specs.Ids.{InShare}
 use Rattle.turnstile.specs.Seats.{AreIds, Owns, unused_seat}
 use Rattle.leaf_table.specs.Turns.{Shared, is_founded, start_of}
-use Rattle.leaf_table.specs.Calls.{SeatView, OwnsTheRest, base_seen, name_of, seen_of}
+use Rattle.leaf_table.specs.Calls.{SeatView, OwnsTheRest, SeesShut, base_seen, name_of, seen_of, state_of, state_seen}
 use Rattle.leaf_steward.specs.Owing.{Owing}
 use Rattle.leaf_steward.specs.Seated.{Seated, AtEach, watched_by}
 use Rattle.leaf_machine.specs.States.{Shutting, IsShutAndTaken, treated}
 use Rattle.crash_states.specs.Beginning.{MayBegin}
 use Rattle.transcript.specs.Base.{LogHas, unseen, watched_with}
-use Rattle.transcript.specs.Pieces.{Piece, Called, Worn, Acted, Says, PlayedItem, all_pieces}
+use Rattle.transcript.specs.Pieces.{Piece, Called, Worn, Acted, Says, Did, Noted, PlayedItem, all_pieces, deeds}
 use Rattle.transcript.specs.Life.{Life, Mode, Down, Up, Preparing, Owed, Progress, Lives, first_open}
 use Rattle.transcript.specs.Histories.{Ground, InOrder, Shown, Shows, shown}
-use Rattle.transcript.specs.Strangers.{Strangers}
+use Rattle.transcript.specs.Strangers.{StrangersIn}
 use Rattle.transcript.specs.Moments.{MomentsRise, notes_told}
-use Rattle.transcript.specs.Answers.{columns_of}
+use Rattle.transcript.specs.Answers.{columns_of, last_of}
 use Rattle.transcript.specs.Transcript.{Known, first_life, ground_of}
 use Rattle.transcript.specs.Leaving.{IsKnown}
 use Rattle.leaf_moves.specs.Stage.{Leaf, IsDown, IsUp, IsPreparing, seated_of, Stands, AreHandedNothing}
@@ -145,7 +145,7 @@ pub record StandsKnown (k : Known) (leaf : Leaf) (m : Meaning) : Type 0 where
 -- until the leaf is first up the disk reads as it was handed, but for the first byte of one of at most one, and each start fits the strangers that there are
 pub record AreNamed (number : ℕ) (names : List (List ℕ)) (held : Pair) (life : Life) (pieces : List Piece) (m : Meaning) : Type 0 where
   pub rest : life.begun ≡ false → (life.mode ≡ Down) × BeginsScan (length held.disk) held.disk m.held.disk
-  pub on : (more : List Piece) → (life.begun ≡ false → Strangers names held.disk number m.held.region more) → Strangers names held.disk number held.region (pieces ++ more)
+  pub on : (more : List Did) → (life.begun ≡ false → StrangersIn names held.disk m.held.region more) → StrangersIn names held.disk held.region (deeds number pieces ++ more)
 
 -- of a leaf that was up: a table of it was opened, and its region names no stranger
 pub record IsOwn (names : List (List ℕ)) (x : Seated) (m : Meaning) : Type 0 where
@@ -170,12 +170,17 @@ pub record AreToldOn (grounds : ℕ → Ground) (histories : ℕ → List Entry)
   pub grounded : AtEach (λ place t v. grounds place ≡ ground_of_table t) x
   pub on : (place : ℕ) (v : SeatView) → slice_get x.seats place ≡ Some v → (more : List Entry) × (histories place ≡ seen_of v ++ more)
 
+-- The seat at a table has seen the last entry that these notes tell of it; and while the table is shut, nothing was written since then.
+abbrev pub IsNoted : List Noted → ℕ → Shared → SeatView → Type 0
+IsNoted notes place t v = (last_of place notes ≤ length (seen_of v)) × (SeesShut t v → (state_of (base_seen t) (take (last_of place notes) (seen_of v))).writes ≡ (state_seen (base_seen t) v).writes)
+
 -- What is known of a leaf by who holds it, behind these pieces of the run. Its berth meant `old` when the run began, and means `m` now. Its life is so, and the moments of its steward's entries do not fall, however the histories go on.
 pub record LeafHeld (number : ℕ) (names : List (List ℕ)) (known : Option Known) (old : Meaning) (pieces : List Piece) (leaf : Leaf) (m : Meaning) : Type 0 where
   pub life : Life
   pub lives : (grounds : ℕ → Ground) (histories : ℕ → List Entry) → AreToldOn grounds histories (seated_of leaf)
-      → Lives (is_some known) (length names) (columns_of grounds histories (length names)) number (first_life known names) pieces life
+      → Lives (is_some known) (length names) (columns_of grounds histories (length names)) [] (first_life known names) (deeds number pieces) life
   pub moments : (grounds : ℕ → Ground) (histories : ℕ → List Entry) → AreToldOn grounds histories (seated_of leaf) → MomentsRise histories old.clock (notes_told number pieces) m.clock
+  pub noted : AtEach (IsNoted (notes_told number pieces)) (seated_of leaf)
   pub in_place : AreInPlace names (seated_of leaf)
   pub grounded : AreGrounded known (seated_of leaf)
   pub mode : FitsMode life.mode leaf

@@ -8,7 +8,7 @@ use Rattle.leaf_deeds.specs.Moves as move
 use Rattle.leaf_deeds.specs.Steps.{Spends}
 use Rattle.leaf_deeds.specs.declared.drain.Shut.TheVariants as how
 use Rattle.leaf_deeds.proofs.Fewer.{step_few, treated_few}
-use Rattle.leaf_deeds.proofs.Drained.{SoFar, Stepped, fewer_left, so_far_none, shut_stopped, shut_more, shut_ready, shut_halted, shut_starved, shut_roomless}
+use Rattle.leaf_deeds.proofs.Drained.{SoFar, Stepped, all_shut, fewer_left, so_far_none, shut_stopped, shut_more, shut_ready, shut_halted, shut_starved, shut_roomless}
 use Rattle.leaf_deeds.proofs.drain.shut_all.Goals as goal
 
 pub loop-alloc-init : goal.loop-alloc-init
@@ -97,7 +97,7 @@ returns-in-Ok-Ready-clause-shuts g c =
     let some : c.spend.result ≡ true = search rules in
     let spends = subst (λ taken. Spends left taken left') some c.spend.ensures in
     subst (λ notes. move.ShutsTables meaning c.args.leaf.0 (meaning c.args.leaf.1) c.args.steps.now.left notes (how.Ready c.in-Ok-Ready.copying) left') (sym c.append.ensures)
-    (shut_ready meaning c.args.leaf.0 (meaning c.args.leaf.1) c.args.steps.now.left left left' y c.loop-alloc.notes c.loop-alloc.invariant spends own c.in-Ok-Ready.copying here)
+    (shut_ready meaning c.args.leaf.0 (meaning c.args.leaf.1) c.args.steps.now.left left left' y c.loop-alloc.notes c.loop-alloc.invariant spends own c.in-Ok-Ready.copying (all_shut y.0 c.shuts.ensures.closed) here)
 
 pub returns-in-Ok-Ready-clause-time : goal.returns-in-Ok-Ready-clause-time
 returns-in-Ok-Ready-clause-time g c =
@@ -191,7 +191,7 @@ returns-in-Err-default-NoRoom-clause-shuts g c =
     let some : c.spend.result ≡ true = search rules in
     let spends = subst (λ taken. Spends left taken left') some c.spend.ensures in
     subst (λ notes. move.ShutsTables meaning c.args.leaf.0 (meaning c.args.leaf.1) c.args.steps.now.left notes (how.Roomless c.in-Err-default-NoRoom.left) left') (sym c.append.ensures)
-    (shut_roomless meaning c.args.leaf.0 (meaning c.args.leaf.1) c.args.steps.now.left left left' y c.loop-alloc.notes c.loop-alloc.invariant spends own c.in-Err-default-NoRoom.left c.in-Err-default-NoRoom.field-0-1 here c.in-Err-default-NoRoom.field-0-1-is)
+    (shut_roomless meaning c.args.leaf.0 (meaning c.args.leaf.1) c.args.steps.now.left left left' y c.loop-alloc.notes c.loop-alloc.invariant spends own c.in-Err-default-NoRoom.left c.in-Err-default-NoRoom.field-0-1 here (all_shut y.0 c.shuts.ensures.closed) c.in-Err-default-NoRoom.field-0-1-is)
 
 pub returns-in-Err-default-NoRoom-clause-few : goal.returns-in-Err-default-NoRoom-clause-few
 returns-in-Err-default-NoRoom-clause-few g c =
