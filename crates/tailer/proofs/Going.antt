@@ -11,13 +11,9 @@ use Rattle.leaf_table.specs.Turns.{Shared}
 use Rattle.leaf_table.specs.Calls.{SeatView}
 use Rattle.aggregator.specs.Asks.{AreSeatsAt}
 use Rattle.tail_picks.specs.Tails.{TryOf, IsTry, Goes, Tails, pick_of, sent_by}
-use Rattle.tailer.specs.Calls.{CallsOn, calls_in, calls_of, free_of, is_added, tries_seen, try_seen}
+use Rattle.tailer.specs.Calls.{CallsOn, behind, behind_tries, calls_in, calls_of, free_of, is_added, tries_seen, try_seen}
 use Rattle.tailer.specs.declared.tries.Try.{Try}
 use Rattle.tailer.proofs.Calling.{joined}
-
--- the generator behind the words of one try
-abbrev pub behind : Lcg → Lcg
-behind words = (pcg32 (pcg32 words).1).1
 
 -- the two words of a try, and those behind them
 two_words : (k : ℕ) (words : Lcg) → first_words pcg32 (suc (suc k)) words ≡ (pcg32 words).0 ∷ (pcg32 (pcg32 words).1).0 ∷ first_words pcg32 k (behind words)
@@ -46,6 +42,9 @@ is_next n m words first second t count one other leaves two add = record {
   add = add;
 }
 
+drawn_more : (turn : ℕ) (start words : Lcg) → words ≡ behind_tries turn start → behind words ≡ behind_tries (turn + 1) start
+drawn_more turn start words is = let more : suc turn ≡ turn + 1 = omega arith in ap behind is ∙ ap (λ (n : ℕ). behind_tries n start) more
+
 -- the tries with one more
 pub seen_more : (xs ys : List Try) (t : Try) → ys ≡ xs ++ t ∷ [] → tries_seen ys ≡ tries_seen xs ++ try_seen t ∷ []
 seen_more xs ys t is = ap tries_seen is ∙ map-append try_seen xs (t ∷ [])
@@ -53,12 +52,13 @@ seen_more xs ys t is = ap tries_seen is ∙ map-append try_seen xs (t ∷ [])
 -- So many tries were made, none of which ended the tail: what goes on behind them is a whole tail with them.
 pub record Trying (fleet : List (List Shared)) (table : ℕ) (rows : List Row) (start : Lcg) (vs : List SeatView) (turn : ℕ) (ts : List (TryOf Reply)) (words : Lcg) (ws : List SeatView) : Type 0 where
   pub seats : AreSeatsAt fleet table ws
+  pub drawn : words ≡ behind_tries turn start
   pub calls : CallsOn fleet table vs (calls_in rows ts) ws
   pub tails : (more : List (TryOf Reply)) (sent : Option ℕ) → Tails free_of is_added (length fleet) (first_words pcg32 (32 - 2 * turn) words) more sent
       → Tails free_of is_added (length fleet) (first_words pcg32 32 start) (ts ++ more) sent
 
 pub begins : (fleet : List (List Shared)) (table : ℕ) (rows : List Row) (start : Lcg) (vs : List SeatView) → AreSeatsAt fleet table vs → Trying fleet table rows start vs 0 [] start vs
-begins fleet table rows start vs are = record { seats = are; calls = refl; tails = λ more sent h. h }
+begins fleet table rows start vs are = record { seats = are; drawn = refl; calls = refl; tails = λ more sent h. h }
 
 -- the calls of one try more
 pub calls_more : (fleet : List (List Shared)) (table : ℕ) (rows : List Row) (vs ws us : List SeatView) (ts : List (TryOf Reply)) (t : TryOf Reply)
@@ -81,6 +81,7 @@ module _ (fleet : List (List Shared)) (table : ℕ) (rows : List Row) (start : L
       → CallsOn fleet table ws (calls_of rows t) us → AreSeatsAt fleet table us → Trying fleet table rows start vs (turn + 1) (ts ++ t ∷ []) (behind words) us
   goes_on t us low next none calls are = record {
     seats = are;
+    drawn = drawn_more turn start words trying.drawn;
     calls = calls_more fleet table rows vs ws us ts t trying.calls calls;
     tails = λ more sent h.
         subst (λ all. Tails free_of is_added (length fleet) (first_words pcg32 32 start) all sent) (sym (append_assoc ts (t ∷ []) more))
@@ -93,6 +94,10 @@ module _ (fleet : List (List Shared)) (table : ℕ) (rows : List Row) (start : L
   ends t leaf low next some =
       let X = Tails free_of is_added (length fleet) (first_words pcg32 (32 - 2 * (turn + 1)) (behind words)) [] (Some leaf) in
       one_more t [] (Some leaf) low next (subst (λ (o : Option ℕ). Goes free_of is_added o [] (Some leaf) X) (sym some) (refl, refl))
+
+  -- the words of the last one are drawn
+  pub drawn_last : (xs : List Try) (us : Lcg) → us ≡ behind words → length xs ≡ turn + 1 → us ≡ behind_tries (length xs) start
+  drawn_last xs us one count = one ∙ (drawn_more turn start words trying.drawn ∙ ap (λ (n : ℕ). behind_tries n start) (sym count))
 
   -- no try is left
   pub runs_out : turn ≡ 16 → Tails free_of is_added (length fleet) (first_words pcg32 32 start) ts None

@@ -1,6 +1,8 @@
 -- The calls of a tail at one table of each leaf, by the callers' seats there.
-use Rattle.std.specs.Prelude.{◌≡◌, ℕ, Bool, true, false, List, [], ◌∷◌, ◌++◌, map, slice_get, slice_set, Option, Some, None, ⊤}
+use Rattle.std.specs.Prelude.{◌≡◌, ℕ, zero, suc, Bool, true, false, List, [], ◌∷◌, ◌++◌, map, slice_get, slice_set, Option, Some, None, ⊤}
 use Rattle.std.specs.List.{flat_map}
+use Rattle.rand_pcg.specs.Lcg.{Lcg}
+use Rattle.rand_pcg.specs.Pcg.{pcg32}
 use Rattle.leaf_model.specs.declared.rows.Row.{Row}
 use Rattle.leaf_model.specs.Groups.{groups}
 use Rattle.leaf_history.specs.Calls.{Call}
@@ -40,6 +42,15 @@ tries_seen ts = map try_seen ts
 abbrev pub sent_to : Sent → Option ℕ
 sent_to (sent.To leaf) = Some leaf
 sent_to sent.Refused = None
+
+-- the generator behind the two words of a try
+abbrev pub behind : Lcg → Lcg
+behind words = (pcg32 (pcg32 words).1).1
+
+-- and behind those of so many tries
+abbrev pub behind_tries : ℕ → Lcg → Lcg
+behind_tries zero words = words
+behind_tries (suc n) words = behind (behind_tries n words)
 
 -- ---- calls
 

@@ -8,7 +8,7 @@ ghost use Rattle.leaf_history.specs.History.{Entry};
 ghost use Rattle.aggregator.specs.Asks.{AreSeatsAt};
 ghost use Rattle.aggregator.specs.Partial.{GoOn, bases_in};
 ghost use Rattle.tail_picks.specs.Tails.{Tails};
-ghost use Rattle.tailer.specs.Calls.{CallsOn, IsOverRows, calls_in, free_of, is_added, sent_to, tries_seen};
+ghost use Rattle.tailer.specs.Calls.{CallsOn, IsOverRows, behind_tries, calls_in, free_of, is_added, sent_to, tries_seen};
 
 use crate::calls::Tail;
 use crate::tries::{Tailed, Tries};
@@ -40,12 +40,15 @@ pub fn send<R: Wait + Threads + Sync, G: Gate>(
     requires rows { AllByRecursion IsRow rows.now }
     // The tries are those of the words, and end as these say.
     ensures tails { IfOk result (λ t. Tails free_of is_added (length fleet.now) (first_words pcg32 32 words.old) (tries_seen t.tries) (sent_to t.sent)) }
+    // Each try draws its two words, and no more are drawn.
+    ensures words { IfOk result (λ t. words.new ≡ behind_tries (length t.tries) words.old) }
     // Each reply is that of a call by the seat of its leaf, one call after another.
     ensures calls { IfOk result (λ t. CallsOn fleet.now table seats.old (calls_in rows.now (tries_seen t.tries)) seats.new) }
     // What a leaf answered counts the rows before its entry, however the histories go on.
     ensures over { (histories : ℕ → List Entry) → GoOn seats.new histories → IfOk result (λ t. AllByRecursion (IsOverRows (bases_in fleet.now table) histories) (calls_in rows.now (tries_seen t.tries))) }
-    // Where memory is wanted, no leaf was asked.
+    // Where memory is wanted, no leaf was asked, and no word drawn.
     ensures refused { IsErr result → seats.new ≡ seats.old }
+    ensures undrawn { IsErr result → words.new ≡ words.old }
     ensures seats { AreSeatsAt fleet.now table seats.new }
 {
     let query = every_row(alloc)?;
