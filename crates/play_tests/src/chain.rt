@@ -43,17 +43,23 @@ fn first<R: Wait + Threads + Sync>(
     let mut unheard: Vec<Box<dyn Watch>> = Vec::new(alloc);
     let mut berths = Vec::new(alloc);
     berths.push(empty_files(alloc))?;
-    let (status, _known) =
-        run_keeping::<EmptyBerths, R, MemSource, MemSink, FileBerth<MemFiles>, OpenGate>(
-            rt,
-            alloc,
-            words,
-            source,
-            sink,
-            &mut berths,
-            &OpenGate,
-            &mut unheard,
-        );
+    let (status, _known) = run_keeping::<
+        EmptyBerths,
+        R,
+        MemSource,
+        MemSink,
+        FileBerth<MemFiles>,
+        OpenGate,
+    >(
+        rt,
+        alloc,
+        words,
+        source,
+        sink,
+        &mut berths,
+        &OpenGate,
+        &mut unheard,
+    );
     match berths.pop() {
         Some(berth) => Ok((status, berth)),
         None => unreachable!(),
@@ -61,7 +67,10 @@ fn first<R: Wait + Threads + Sync>(
 }
 
 /// A berth over files that are opened on what a crash may now leave of this one's.
-fn behind_a_crash(berth: &FileBerth<MemFiles>, image: u64) -> Result<FileBerth<MemFiles>, AllocError>
+fn behind_a_crash(
+    berth: &FileBerth<MemFiles>,
+    image: u64,
+) -> Result<FileBerth<MemFiles>, AllocError>
     requires { HasBase (⟦<FileBerth<MemFiles> as Berth>⟧.meaning berth.now) }
     ensures { IfOk result (λ left. HasBase (⟦<FileBerth<MemFiles> as Berth>⟧.meaning left)) }
 {
@@ -104,11 +113,15 @@ fn tells_three_rows(sink: &MemSink) -> bool {
         return false;
     };
     let answer = b"\n0 events #2 asked\nanswer named 1 of 1 lines 1\n3\n";
-    start.strip_suffix(answer).is_some_and(|way| way == b"memory" || way == b"disk nohead")
+    start
+        .strip_suffix(answer)
+        .is_some_and(|way| way == b"memory" || way == b"disk nohead")
 }
 
 #[test]
-fn a_play_goes_on_over_each_image_that_a_crash_leaves_of_files(rt: HostRuntime) -> Result<(), Fail> {
+fn a_play_goes_on_over_each_image_that_a_crash_leaves_of_files(
+    rt: HostRuntime,
+) -> Result<(), Fail> {
     let alloc = rt.alloc();
     let words = play_words(alloc)?;
     let mut source = source_of(alloc, DRAINED)?;
