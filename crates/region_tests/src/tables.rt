@@ -5,14 +5,11 @@ ghost use Rattle.leaf_model.specs.Values.{IsRow};
 ghost use Rattle.region_layout.specs.Names.{IsName};
 ghost use Rattle.table_state.specs.Tables.{IsParts};
 
-use column_bytes::{ColumnView, ValueRef};
-use leaf_model::{PackedRows, Rows, Steps, Text, Write};
+use leaf_model::{PackedRows, Rows, Text, Write};
 use region_layout::DrainTable;
-use row_blocks::BlockColumn;
+use row_blocks::RowBlock;
 use row_records::read_rows;
 use std::alloc::{AllocError, Global};
-use std::marker::Brand;
-use std::sync::ledger::{Blank, Ledger};
 use table_state::TableState;
 
 /// So many rows, from their bytes.
@@ -64,47 +61,23 @@ pub fn handed_over(alloc: Global, name: &str, table: TableState) -> Result<Drain
     Ok(DrainTable { name, parts })
 }
 
-/// Adds what tells of a column: its name, and its cell at each place, where one that is missing is `-`.
-fn tell_column<L: Ledger>(
-    alloc: Global,
-    column: &BlockColumn,
-    steps: &mut Steps<L>,
-    line: &mut String,
-) -> Result<(), AllocError> {
-    line.push_str(format!(in alloc; "; {}", column.name.as_str())?.as_str())?;
-    let Ok(view) = ColumnView::read(column.bytes.as_slice(), steps) else {
-        return line.push_str(" no column");
-    };
-    for place in 0..view.len() {
-        let told = match view.cell(place) {
-            None => String::from_str(alloc, " -"),
-            Some(ValueRef::Int(number)) => format!(in alloc; " {number}"),
-            Some(ValueRef::Text(text)) => format!(in alloc; " '{text}'"),
-            Some(ValueRef::Set(texts)) => format!(in alloc; " of {}", texts.len()),
-        };
-        line.push_str(told?.as_str())?;
+/// What tells of a column: its name and its bytes.
+pub fn told_column(alloc: Global, name: &str, bytes: &[u8]) -> Result<String, AllocError> {
+    let mut told = format!(in alloc; "; {name}")?;
+    for byte in bytes {
+        told.push_str(format!(in alloc; " {byte}")?.as_str())?;
     }
-    Ok(())
+    Ok(told)
 }
 
-/// Adds what tells of the columns of each block.
-fn tell_blocks<L: Ledger>(
-    alloc: Global,
-    table: &TableState,
-    blank: Blank,
-    line: &mut String,
-) -> Result<(), AllocError>
-    requires name { blank.name ≡ L.name }
-    requires parts { blank.parts ≡ L.parts }
-    requires some { 0 < blank.parts }
-{
-    let mut steps: Steps<L> = Steps::new(blank);
-    for block in table.blocks().as_slice() {
-        for column in block.columns() {
-            tell_column(alloc, column, &mut steps, line)?;
-        }
+/// What tells of a block's columns.
+fn told_block(alloc: Global, block: &RowBlock) -> Result<String, AllocError> {
+    let mut told = String::new(alloc);
+    for column in block.columns() {
+        let name = column.name.as_str();
+        told.push_str(told_column(alloc, name, column.bytes.as_slice())?.as_str())?;
     }
-    Ok(())
+    Ok(told)
 }
 
 /// What tells of a table: its name, horizon and number of writes, how many rows are cut away from its first block, how
@@ -115,7 +88,9 @@ pub fn line_of(alloc: Global, name: &str, table: &TableState) -> Result<String, 
     let skip = table.skip();
     let tail = table.tail();
     let mut line = format!(in alloc; "{name} {horizon} {writes} {skip} {tail}")?;
-    tell_blocks::<Brand>(alloc, table, Blank::new(1), &mut line)?;
+    for block in table.blocks().as_slice() {
+        line.push_str(told_block(alloc, block)?.as_str())?;
+    }
     line.push_str("\n")?;
     Ok(line)
 }

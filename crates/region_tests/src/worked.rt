@@ -4,7 +4,7 @@ ghost use Rattle.drain_copy.specs.declared.step.Next.TheVariants as next;
 
 use crate::drains::{LOG_END, drain_one, one_name};
 use crate::steps::{adopt_all, drain_all, lines_back};
-use crate::tables::{added, handed_over};
+use crate::tables::{added, handed_over, told_column};
 use adopt::{Adopt, Found, find};
 use berth_mem::MemBerth;
 use drain_copy::{Drain, DrainStep};
@@ -93,7 +93,9 @@ fn the_worked_image_is_adopted(rt: HostRuntime) -> Result<(), Fail> {
     let (log_end, lines) = adopted(alloc, adopt, &mut berth, &mut seen)?.expect(&rt, "tables");
     assert_eq!(rt; seen.as_slice(), [(16, 48)].as_slice());
     assert_eq!(rt; log_end, LOG_END);
-    assert_eq!(rt; lines.as_str(), "t 0 1 0 0; time 5\n");
+    let column = told_column(alloc, "time", &IMAGE[16..64])?;
+    let wanted = format!(in alloc; "t 0 1 0 0{column}\n")?;
+    assert_eq!(rt; lines.as_str(), wanted.as_str());
     assert_eq!(rt; shape(&berth), (16, Some(0)));
     Ok(())
 }
