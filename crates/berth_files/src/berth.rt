@@ -37,13 +37,6 @@ impl<F: FileCalls + Send + Drop> FileBerth<F> {
             disk_reads: 0,
         }
     }
-
-    /// The files that it is over.
-    pub fn files(&self) -> &F
-        ensures { MeansFiles (F.holds result.now) (⟦<FileBerth<F> as Berth>⟧.meaning self.now) }
-    {
-        &self.files
-    }
 }
 
 impl FileBerth<FolderFiles> {

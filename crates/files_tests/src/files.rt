@@ -1,14 +1,13 @@
 // The two files of a leaf in memory, which tell what they hold.
-ghost use Rattle.std.specs.Prelude.{◌≡◌, ◌+◌, ◌<◌, ◌≤◌, length, IfOk, IsTrue};
+ghost use Rattle.std.specs.Prelude.{◌≤◌, length, IfOk, IsTrue};
 ghost use Rattle.std.specs.Io.{ReadsAtMost};
-ghost use Rattle.berth_face.specs.Berth.{Gives, OpenedOn, Pair, Stays};
+ghost use Rattle.berth_face.specs.Berth.{Gives, OpenedOn, Stays};
 ghost use Rattle.berth_files.specs.Files.{GoesOn, content};
 ghost use Rattle.files_tests.specs.Laws.{keeps_region, region_now, short, stands};
 
 use berth_face::{Berth, Failed};
 use berth_files::{FileCalls, LeafFile};
 use berth_mem::MemBerth;
-use std::alloc::AllocError;
 
 /// A read gives so many bytes at most.
 const SOME: usize = 3;
@@ -27,32 +26,6 @@ impl MemFiles {
         MemFiles {
             kept: MemBerth::new(region, disk),
         }
-    }
-
-    /// How many moments their calls made.
-    pub fn moments(&self) -> u64
-        ensures { result ≡ (⟦<MemFiles as FileCalls>⟧.holds self.now).clock + 1 }
-    {
-        self.kept.moments()
-    }
-
-    /// How many images are offered of a moment.
-    pub fn images(&self, moment: u64) -> u64
-        requires { moment ≤ (⟦<MemFiles as FileCalls>⟧.holds self.now).clock }
-        ensures { result ≡ images_at moment }
-    {
-        self.kept.images(moment)
-    }
-
-    /// Files that are opened on what a crash at that moment may have left of these.
-    pub fn pick(&self, moment: u64, image: u64) -> Result<MemFiles, AllocError>
-        requires moment { moment ≤ (⟦<MemFiles as FileCalls>⟧.holds self.now).clock }
-        requires image { image < images_at moment }
-        ensures { IfOk result (λ files. (p : Pair) × (⟦<MemFiles as FileCalls>⟧.holds self.now).leaves moment p × OpenedOn p.region p.disk (⟦<MemFiles as FileCalls>⟧.holds files)) }
-    {
-        Ok(MemFiles {
-            kept: self.kept.pick(moment, image)?,
-        })
     }
 }
 

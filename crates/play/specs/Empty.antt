@@ -47,10 +47,8 @@ rests_empty m o there = record {
   region = λ p left. closed (subst (λ (held : Pair). IsClosed held.region) (sym o.held) (inl (lit< tt)));
 }
 
--- a leaf may begin over a berth that was opened on nothing, and no name has writes there
-pub empty_base : (m : Meaning) → OpenedOn [] [] m → m.leaves m.clock m.held → IsBase nothing_kept m
-empty_base m opened there = record { begins = (opened.tells, (none_written, None, rests_empty m opened there)); is = λ name. refl }
-
--- so may one over a berth in memory that was just made on nothing
+-- a leaf may begin over a berth that was just made on nothing, and no name has writes there
 pub is_fresh_base : (berth : MemBerth) → FreshOn [] [] berth → IsBase nothing_kept (meaning berth)
-is_fresh_base berth f = empty_base (meaning berth) f.opened (stands berth.region.items berth.disk.items berth.calls.items berth.region_faults berth.disk_faults berth.disk_reads)
+is_fresh_base berth f =
+    let there = stands berth.region.items berth.disk.items berth.calls.items berth.region_faults berth.disk_faults berth.disk_reads in
+    record { begins = (refl, (none_written, None, rests_empty (meaning berth) f.opened there)); is = λ name. refl }

@@ -35,8 +35,7 @@ use Rattle.transcript_leaf.proofs.Lists.{element_at, same_some, within}
 use Rattle.play.proofs.Lists.{choose_each}
 use Rattle.play_again.proofs.Listing.{front_same, list_kept}
 use Rattle.play.specs.Played.{AreBases, IsBase, IsPlayed}
-use Rattle.play_again.specs.Keeping.{IsKeptOf, KeepsBy, KeepsEach, KeepsOne, KeepsSame, Kept, LeavesKnown, base_kept, bases_of, states_of, tables_left}
-use Rattle.play_again.specs.Over.{HasBase, HaveNamedBases}
+use Rattle.play_again.specs.Keeping.{IsKeptOf, KeepsBy, KeepsEach, KeepsOne, KeepsSame, Kept, LeavesKnown, base_kept, bases_of, tables_left}
 use Rattle.play.specs.Outcome.{IsDone, UnlessPlayed}
 use Rattle.play.specs.Shortened.{EndsShort, IfShort, IsShort}
 use Rattle.run_ends.specs.declared.status.Status.{Status}
@@ -277,32 +276,6 @@ bases_left status base meaning before after was now old new next (LeavesKnown.do
 bases_left status base meaning before after was now old new next (LeavesKnown.short watching watched text script shortened ended read is_script keeps) =
     keeps_bases meaning new (script_fleet (map item_of shortened.played)) keeps.known (shortened.told keeps.known keeps.are_known).transcript.histories next keeps.keeps
 bases_left status base meaning before after was now old new next (LeavesKnown.nothing ended unwritten unplayed keeps) = keeps_bases meaning new no_fleet keeps.known (λ leaf table. []) next keeps.keeps
-
--- what is kept of a berth whose base was known is a base of it
-named_one : (fleet : Fleet) (leaf : ℕ) (named : Option NamedStates) (known : Option Known) (histories : ℕ → List Entry) (was m : Meaning) (kept : Option (List Kept)) → IsKnown named was known
-    → KeepsOne fleet leaf known histories m kept → IfSome named (λ states. HasBase m)
-named_one fleet leaf None known histories was m kept is keeps = tt
-named_one fleet leaf (Some states) None histories was m kept is keeps = absurd is
-named_one fleet leaf (Some states) (Some k) histories was m None is keeps = absurd keeps
-named_one fleet leaf (Some states) (Some k) histories was m (Some kept) is keeps = (states_of kept, keeps.is_base)
-
-named_each : {B : Type 0} (base : ℕ → Option NamedStates) (meaning : B → Meaning) (old new : List B) (fleet : Fleet) (known : ℕ → Option Known) (histories : ℕ → ℕ → List Entry) (next : List (Option (List Kept)))
-    → length new ≡ length old → AreKnown meaning old new base known → KeepsEach meaning new fleet known histories next → HaveNamedBases base meaning new
-named_each base meaning old new fleet known histories next as_many are keeps leaf b at =
-    let inside = within new leaf b at in
-    let was = element_at old leaf (omega (arith, inside, as_many)) in
-    let kept = element_at next leaf (omega (arith, inside, keeps.as_many)) in
-    named_one fleet leaf (base leaf) (known leaf) (histories leaf) (meaning was.0) (meaning b) kept.0 (are leaf was.0 was.1) (keeps.each leaf b kept.0 at kept.1)
-
--- after a play each berth whose base was named has one
-pub named_bases : {B : Type 0} (status : Status) (base : ℕ → Option NamedStates) (meaning : B → Meaning) (before after was now : Option (List ℕ)) (old new : List B) (next : List (Option (List Kept)))
-    → length new ≡ length old → LeavesKnown status base meaning before after was now old new next → HaveNamedBases base meaning new
-named_bases status base meaning before after was now old new next as_many (LeavesKnown.done watching watched played ended keeps) =
-    named_each base meaning old new (script_fleet played.script.items) keeps.known (played.written.told keeps.known keeps.are_known).transcript.histories next as_many keeps.are_known keeps.keeps
-named_bases status base meaning before after was now old new next as_many (LeavesKnown.short watching watched text script shortened ended read is_script keeps) =
-    named_each base meaning old new (script_fleet (map item_of shortened.played)) keeps.known (shortened.told keeps.known keeps.are_known).transcript.histories next as_many keeps.are_known keeps.keeps
-named_bases status base meaning before after was now old new next as_many (LeavesKnown.nothing ended unwritten unplayed keeps) =
-    named_each base meaning old new no_fleet keeps.known (λ leaf table. []) next as_many keeps.are_known keeps.keeps
 
 -- ---- a play
 

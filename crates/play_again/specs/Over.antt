@@ -1,5 +1,5 @@
 -- Berths over which leaves may begin, whatever they hold.
-use Rattle.std.specs.Prelude.{◌≡◌, ◌<◌, ℕ, List, length, slice_get, Option, Some, None, IfSome}
+use Rattle.std.specs.Prelude.{◌≡◌, ◌<◌, ℕ, List, length, slice_get, Option, Some, None}
 use Rattle.berth_face.specs.Berth.{Meaning}
 use Rattle.crash_moments.specs.Left.{NamedStates}
 use Rattle.play.specs.Played.{AreBases, IsBase}
@@ -12,10 +12,6 @@ HasBase m = (base : NamedStates) × IsBase base m
 -- so it is of the berths of so many leaves, the first ones
 abbrev pub HaveBases : {B : Type 0} → ℕ → (B → Meaning) → List B → Type 0
 HaveBases {B} leaves meaning berths = (leaf : ℕ) (b : B) → leaf < leaves → slice_get berths leaf ≡ Some b → HasBase (meaning b)
-
--- so it is of each berth of which a base is named
-abbrev pub HaveNamedBases : {B : Type 0} → (ℕ → Option NamedStates) → (B → Meaning) → List B → Type 0
-HaveNamedBases {B} named meaning berths = (leaf : ℕ) (b : B) → slice_get berths leaf ≡ Some b → IfSome (named leaf) (λ states. HasBase (meaning b))
 
 -- what is kept of a berth is a base of it
 abbrev pub IsBaseKept : Meaning → Option (List Kept) → Type 0

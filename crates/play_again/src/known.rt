@@ -2,7 +2,6 @@
 ghost use Rattle.std.specs.Prelude.{◌≡◌, List, Option, Some, IfOk, IfSome, map, string_bytes};
 ghost use Rattle.play_again.specs.Keeping.{IsKeptBase, Kept, LeavesKnown, RanTwice, bases_of, states_of};
 ghost use Rattle.play.specs.Played.{AreBases, IsBase};
-ghost use Rattle.play_again.specs.Over.{HaveNamedBases};
 ghost use Rattle.play.specs.Ran.{HasRun, outside, sight};
 ghost use Rattle.run_words.specs.Words.{request_of};
 ghost use Rattle.run_words.specs.declared.words.Request.TheVariants.{Play};
@@ -91,8 +90,6 @@ pub fn run_keeping<N: Bases, R: Wait + Threads + Sync, S: Source, K: Sink, B: Be
         (outside source.old sink.old berths.old watches.old (map (λ watch. held watch) watches.old.items))
         (outside source.new sink.new berths.new watches.new (map (λ watch. held watch) watches.new.items)) }
     ensures known { IfSome result.1 (λ known. LeavesKnown result.0 N.base B.meaning (S.left source.old) (S.left source.new) (K.written sink.old) (K.written sink.new) berths.old.items berths.new.items known) }
-    // Whatever was kept, each berth of which a base is named has one again.
-    ensures bases { HaveNamedBases N.base B.meaning berths.new.items }
 {
     let source_was = Snapshot::of(&*source);
     let sink_was = Snapshot::of(&*sink);

@@ -1,10 +1,8 @@
-// Laws of what is known of berths.
-ghost use Rattle.std.specs.Prelude.{ℕ, Option, []};
-ghost use Rattle.berth_face.specs.Berth.{OpenedOn};
+// A law of what is known of berths.
+ghost use Rattle.std.specs.Prelude.{ℕ, Option};
 ghost use Rattle.transcript.specs.Transcript.{Known};
 ghost use Rattle.transcript.specs.Leaving.{AreKnown};
-ghost use Rattle.play.specs.Empty.{nothing_kept};
-ghost use Rattle.play.specs.Played.{AreBases, IsBase};
+ghost use Rattle.play.specs.Played.{AreBases};
 
 use berth_face::Berth;
 use play::Bases;
@@ -13,9 +11,4 @@ use play::Bases;
 pub fn something_is_known<N: Bases, B: Berth>(_olds: &Vec<B>, _news: &Vec<B>)
     requires { AreBases N.base B.meaning _olds.now.items }
     ensures { (known : ℕ → Option Known) × AreKnown B.meaning _olds.now.items _news.now.items N.base known }
-{}
-
-/// A leaf may begin over a berth that was opened on nothing, and no name has a write there.
-pub fn has_empty_base<B: Berth>(berth: &B)
-    ensures { OpenedOn [] [] (B.meaning berth.now) → IsBase nothing_kept (B.meaning berth.now) }
 {}

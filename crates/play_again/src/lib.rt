@@ -8,5 +8,5 @@ mod over;
 
 pub use kept::{Choice, KeptTables, KnownBerths};
 pub use known::{keep, run_keeping, run_known, run_twice};
-pub use laws::{has_empty_base, something_is_known};
+pub use laws::something_is_known;
 pub use over::{has_base_where_opened, run_over};

@@ -8,7 +8,7 @@ ghost use Rattle.play_tests.specs.Fresh.{IsEmptyBerth};
 use berth_face::OpenGate;
 use berth_mem::{MemBerth, MemSink, MemSource};
 use play::{EmptyBerths, Status};
-use play_again::{keep, run_keeping, run_known, run_over, run_twice};
+use play_again::{keep, run_keeping, run_known, run_twice};
 use rollover_watch::Watch;
 use std::alloc::{AllocError, Global};
 use std::sync::Wait;
@@ -16,15 +16,15 @@ use std::test::*;
 use std::thread::Threads;
 
 /// A leaf that takes three rows and is drained.
-pub(crate) const DRAINED: &str =
+const DRAINED: &str =
     "fleet 1 1 events\nadd 0 events 3\n{\"time\":1}\n{\"time\":2}\n{\"time\":3}\ndrain 0\n";
 
 /// What it prints.
-pub(crate) const DRAINED_LINES: &str =
+const DRAINED_LINES: &str =
     "0 events #1 opened 0\nstart 0 disk nohead\n0 events #2 added 3 late 0\n0 events #3 closed 1\n0 events #4 flushed 1\n0 events #5 handed\ndrain 0 done\n";
 
 /// A leaf that counts.
-pub(crate) const COUNTED: &str =
+const COUNTED: &str =
     "fleet 1 1 events\nquery SELECT COUNT(*) FROM events WHERE time >= 0 AND time <= 9\n";
 
 /// What it prints over the region that the drain left.
@@ -36,7 +36,7 @@ const EMPTY_LINES: &str =
     "0 events #1 opened 0\nstart 0 disk nohead\n0 events #2 asked\nanswer named 1 of 1 lines 0\n";
 
 /// The word of a play.
-pub(crate) fn play_words(alloc: Global) -> Result<Vec<String>, AllocError>
+fn play_words(alloc: Global) -> Result<Vec<String>, AllocError>
     ensures { IfOk result (λ words. request_of (map string_bytes words.items) ≡ Some Play) }
 {
     let mut words = Vec::new(alloc);
@@ -60,11 +60,11 @@ fn fresh_berths(alloc: Global) -> Result<Vec<MemBerth>, AllocError>
     Ok(berths)
 }
 
-pub(crate) fn source_of(alloc: Global, script: &str) -> Result<MemSource, AllocError> {
+fn source_of(alloc: Global, script: &str) -> Result<MemSource, AllocError> {
     Ok(MemSource::new(script.as_bytes().to_vec(alloc)?))
 }
 
-pub(crate) fn has_written(sink: &MemSink, lines: &str) -> bool {
+fn has_written(sink: &MemSink, lines: &str) -> bool {
     sink.bytes() == lines.as_bytes()
 }
 
@@ -91,30 +91,6 @@ fn twice<R: Wait + Threads + Sync>(
         sink,
         next_source,
         next_sink,
-        berths,
-        &OpenGate,
-        &mut unheard,
-    )
-}
-
-/// A play over berths over which a leaf may begin.
-fn over<R: Wait + Threads + Sync>(
-    rt: &R,
-    alloc: Global,
-    words: &[String],
-    source: &mut MemSource,
-    sink: &mut MemSink,
-    berths: &mut Vec<MemBerth>,
-) -> Result<Status, AllocError>
-    requires { AllByRecursion IsEmptyBerth berths.old.items }
-{
-    let mut unheard: Vec<Box<dyn Watch>> = Vec::new(alloc);
-    run_over::<R, MemSource, MemSink, MemBerth, OpenGate>(
-        rt,
-        alloc,
-        words,
-        source,
-        sink,
         berths,
         &OpenGate,
         &mut unheard,
@@ -245,26 +221,6 @@ fn a_play_leaves_something_known(rt: HostRuntime) -> Result<(), Fail> {
     assert!(rt; matches!(status, Status::Done));
     assert!(rt; is_known);
     assert!(rt; has_written(&sink, DRAINED_LINES));
-    Ok(())
-}
-
-#[test]
-fn a_play_over_berths_whose_bases_are_only_said_to_exist(rt: HostRuntime) -> Result<(), Fail> {
-    let alloc = rt.alloc();
-    let words = play_words(alloc)?;
-    let mut berths = fresh_berths(alloc)?;
-    let mut source = source_of(alloc, COUNTED)?;
-    let mut sink = MemSink::new(alloc);
-    let status = over(
-        &rt,
-        alloc,
-        words.as_slice(),
-        &mut source,
-        &mut sink,
-        &mut berths,
-    )?;
-    assert!(rt; matches!(status, Status::Done));
-    assert!(rt; has_written(&sink, EMPTY_LINES));
     Ok(())
 }
 

@@ -4,8 +4,6 @@
 #[cfg(test)]
 mod again;
 #[cfg(test)]
-mod chain;
-#[cfg(test)]
 mod crashes;
 #[cfg(test)]
 mod faults;
