@@ -1,12 +1,25 @@
 -- Which tables of a directory the leaf has.
-use Rattle.std.proofs.Common.{◌≡◌, ℕ, suc, Bool, true, false, ◌||◌, cond, not, List, [], ◌∷◌, Option, Some, None, refl, sym, arith}
+use Rattle.std.proofs.Common.{◌≡◌, ℕ, suc, Bool, true, false, ◌||◌, cond, not, List, [], ◌∷◌, Option, Some, None, refl, sym, subst, arith}
 use Rattle.std.specs.Prelude.{Contains}
 use Rattle.std.specs.List.{AllByRecursion, list_any}
 use Rattle.std.specs.Str.{bytes_eq}
 use Rattle.std.proofs.lemmas.Slice.Eq.{bytes_eq-Decides}
 use Rattle.region_layout.specs.declared.directory.TablePlaces.{TablePlaces}
-use Rattle.region_strangers.specs.Strangers.{stranger_of}
+use Rattle.region_layout.specs.Names.{IsName}
+use Rattle.region_layout.specs.Directory.{IsTablePlaces}
+use Rattle.region_strangers.specs.Strangers.{is_stranger, stranger_of}
 use Rattle.region_strangers.proofs.First.{names_of}
+
+-- the first stranger's name is one
+pub stranger_named : (names : List (List ℕ)) (tables : List TablePlaces) (name : List ℕ) → AllByRecursion IsTablePlaces tables → stranger_of names (names_of tables) ≡ Some name → IsName name
+stranger_named names [] name each e = absurd cc
+stranger_named names (t ∷ tables) name each e = by (is_stranger names t) e (stranger_named names tables name each.1)
+  where
+    by : (b : Bool) → cond b (Some t.name) (stranger_of names (names_of tables)) ≡ Some name → (stranger_of names (names_of tables) ≡ Some name → IsName name) → IsName name
+    by true own later = let same : t.name ≡ name = cc in subst IsName same each.0.name
+    by false own later = later own
+
+-- ---- where there is none
 
 among_by : (names : List (List ℕ)) (name other : List ℕ) (b : Bool) → bytes_eq name other ≡ b → (b || list_any (bytes_eq name) names) ≡ true → (list_any (bytes_eq name) names ≡ true → Contains names name) → Contains (other ∷ names) name
 among_by names name other true same e others = (0, omega arith, sym ((bytes_eq-Decides name other).0 same))

@@ -21,6 +21,7 @@ use Rattle.region_layout.specs.declared.directory.TablePlaces.{TablePlaces}
 use Rattle.region_layout.specs.declared.directory.Directory.{Directory}
 use Rattle.region_layout.specs.declared.drained.DrainTable.{DrainTable}
 use Rattle.table_state.specs.Tables.{IsParts}
+use Rattle.region_layout.specs.Names.{IsName}
 use Rattle.region_layout.specs.Directory.{columns_of}
 use Rattle.region_layout.specs.Region.{HasDirectory, IsAdoptable, MeanIn, allows, column_in, directory_from, parts_in, reads}
 use Rattle.region_layout.specs.Drained.{images_of}
@@ -99,14 +100,14 @@ Finds names old new (Ok (found.Ready a)) = Adopting old a new × (a.names ≡ na
 Finds names old new (Err RegionFault) = IsBroken old new
 Finds names old new (Err NoMemory) = IsLeftBehind old new
 
--- on every berth
+-- on every berth: an adoption is for these names, and a stranger's is a name
 abbrev pub KeepsNames : List (List ℕ) → Found → Type 0
 KeepsNames names (found.Ready a) = a.names ≡ names
 KeepsNames names found.NoHead = ⊤
 KeepsNames names (found.Closed flag) = ⊤
 KeepsNames names (found.OtherVersion version) = ⊤
 KeepsNames names found.NoImage = ⊤
-KeepsNames names (found.Stranger name) = ⊤
+KeepsNames names (found.Stranger name) = IsName name
 
 -- at most 16 tables of distinct names among these, with parts that a table may be made of
 pub record AreDrained (names : List (List ℕ)) (tables : List DrainTable) : Type 0 where

@@ -5,6 +5,7 @@ use Rattle.berth_face.specs.Berth.{Meaning, IsClosed, Passes, Ended, SameDisk}
 use Rattle.berth_face.specs.Moments.{Throughout}
 use Rattle.table_state.specs.Tables.{Table}
 use Rattle.region_layout.specs.Images.{TableImage, held_of, image_names}
+use Rattle.region_layout.specs.Names.{IsName}
 use Rattle.region_layout.specs.Region.{IsAdoptable}
 use Rattle.region_layout.specs.Drained.{images_of}
 use Rattle.adopt.specs.declared.found.AdoptFault.{AdoptFault}
@@ -60,9 +61,9 @@ Adopts names old new (Ok found) = IsAdoption names old found × IsLeftBehind old
 Adopts names old new (Err RegionFault) = IsBroken old new
 Adopts names old new (Err NoMemory) = IsLeftBehind old new
 
--- on every berth: one table for each name, which owes the log nothing and has fewer than 2^63 writes, and a log's end
--- below 2^63
+-- on every berth: a stranger's name is one; or there is one table for each name, which owes the log nothing and has fewer
+-- than 2^63 writes, and a log's end below 2^63
 abbrev pub HasTables : ℕ → Adoption → Type 0
 HasTables count (NoTables why) = ⊤
-HasTables count (Stranger name) = ⊤
+HasTables count (Stranger name) = IsName name
 HasTables count (Tables a) = (length a.tables.each ≡ count) × AllByRecursion (λ (t : Table). (t.pending ≡ None) × (t.writes < 2 ^ 63)) a.tables.each × (a.log_end < 2 ^ 63)

@@ -35,7 +35,7 @@ unfolding directory_of
 directory_found place columns directory is fits =
     ap (λ (n : ℕ). drop n (image_bytes place columns directory)) (place_found place columns directory fits) ∙ behind_place place columns directory is
 
-image_head : (place : ℕ) (columns : List (List ℕ)) (directory : List ℕ) → head_of (image_bytes place columns directory) ≡ Version layout
+pub image_head : (place : ℕ) (columns : List (List ℕ)) (directory : List ℕ) → head_of (image_bytes place columns directory) ≡ Version layout
 unfolding image_bytes
 image_head place columns directory =
     let long : ltb (length (image_bytes place columns directory)) 16 ≡ false = le-ltb _ _ (omega arith) in

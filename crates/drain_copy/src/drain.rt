@@ -10,7 +10,9 @@ ghost use Rattle.leaf_model.specs.Names.{AreDistinct};
 ghost use Rattle.region_layout.specs.Names.{IsName};
 ghost use Rattle.table_state.specs.Tables.{IsParts};
 ghost use Rattle.region_layout.specs.declared.drained.DrainTable.{DrainTable};
-ghost use Rattle.region_layout.specs.Region.{IsAdoptable};
+ghost use Rattle.region_head.specs.declared.head.Head.TheVariants.{Version};
+ghost use Rattle.region_head.specs.Head.{head_of};
+ghost use Rattle.region_layout.specs.Region.{IsAdoptable, layout};
 ghost use Rattle.region_layout.specs.Drained.{all_columns, has_no_room, images_of};
 ghost use Rattle.drain_copy.specs.declared.step.Next.TheVariants as next;
 ghost use Rattle.drain_copy.specs.declared.step.PlanFault.TheVariants as plan_fault;
@@ -128,6 +130,7 @@ impl Drain {
     pub fn step<B: Berth>(&mut self, berth: &mut B) -> Result<DrainStep, RegionFault>
         requires more { self.old.next ≢ next.Nothing }
         ensures image { self.new.image ≡ self.old.image }
+        ensures layout { head_of self.old.image ≡ Version layout }
         ensures step { IfOk result (λ s. IsStep self.old s self.new) }
         ensures told { IsTrue (B.meaning berth.old).tells → Draining self.old (B.meaning berth.old).held.region → OnOk result (Draining self.new (B.meaning berth.new).held.region) }
         ensures room { IsTrue (B.meaning berth.old).tells → Draining self.old (B.meaning berth.old).held.region
@@ -205,8 +208,9 @@ impl Drain {
     }
 
     // No-op; states the invariant of a drain and its image.
-    #[tactic(auto, using(crate::proofs::Standing::image_flag, crate::proofs::Standing::image_length, crate::proofs::Standing::whole_image))]
+    #[tactic(auto, using(crate::proofs::Imaging::image_head, crate::proofs::Standing::image_flag, crate::proofs::Standing::image_length, crate::proofs::Standing::whole_image))]
     fn is_planned(&self)
+        ensures layout { head_of self.now.image ≡ Version layout }
         ensures flag { take 1 self.now.image ≡ 1 ∷ [] }
         ensures long { 16 ≤ length self.now.image }
         ensures whole { self.now.next ≡ next.Begin → joined self.now.heap ++ directory_of self.now.image ≡ drop 16 self.now.image }

@@ -31,7 +31,7 @@ use Rattle.printed_lines.specs.declared.line.Deed.{Deed}
 use Rattle.printed_lines.specs.declared.line.Deed.TheVariants.{Start}
 use Rattle.transcript.specs.Counts.{reads_disk}
 use Rattle.leaf_moves.specs.Stage.{Leaf, IsDown, IsUp, IsPreparing, Stands, Carries, seated_of}
-use Rattle.leaf_moves.specs.Steps.{BeginsShutting, StartMoves, FlushMoves, KillMoves, DrainMoves, Moves, IsWornFor, RegionRefused, ending_of, ending_of_flush}
+use Rattle.leaf_moves.specs.Steps.{BeginsShutting, StartMoves, FlushMoves, KillMoves, DrainMoves, Moves, IsTrueOf, RegionRefused, ending_of, ending_of_flush}
 use Rattle.leaf_deeds.specs.declared.leaf.OneLeaf.{OneLeaf}
 use Rattle.leaf_deeds.specs.declared.leaf.OneLeaf.TheVariants as one
 use Rattle.leaf_deeds.specs.Held.{KeepsSeats, state_of, berth_of, seats_of}
@@ -63,7 +63,7 @@ rests_carried leaf y notes m m' made crash = record {
 
 -- a start that is refused, by its fault
 pub record Refused (x : Seated) (notes : List Note) (y : Seated) (f : StartFault) : Type 0 where
-  pub worn : IsWornFor x f
+  pub worn : IsTrueOf x f
   pub same : y ≡ x
   pub none : notes ≡ []
 
@@ -71,7 +71,7 @@ pub refused : {B : Type 0} (x : Seated) (b : B) (notes : List Note) (y : Seated 
 refused x b notes y fault.RegionFault start = record { worn = tt; same = start.1; none = start.2 }
 refused x b notes y fault.DiskFault start = record { worn = tt; same = start.1; none = start.2 }
 refused x b notes y fault.DiskDamaged start = record { worn = tt; same = start.1; none = start.2 }
-refused x b notes y (fault.Stranger name) start = record { worn = tt; same = start.1; none = start.2 }
+refused x b notes y (fault.Stranger name) start = record { worn = start.3; same = start.1; none = start.2 }
 refused x b notes y fault.NoMemory start = record { worn = tt; same = start.1; none = start.2 }
 refused x b notes y (fault.Worn table) start = record { worn = start.0.worn; same = start.1; none = start.3 }
 

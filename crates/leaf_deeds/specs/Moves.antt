@@ -1,12 +1,12 @@
 -- What the deeds of one leaf do, by the notes that they make.
-use Rattle.std.specs.Prelude.{◌≡◌, ◌⊎◌, ℕ, suc, ◌+◌, ◌<◌, ◌≤◌, List, [], ◌++◌, length, slice_get, slice_set, Option, Some, Result, Vec, IsTrue, ⊤}
+use Rattle.std.specs.Prelude.{◌≡◌, ◌⊎◌, ℕ, suc, ◌+◌, ◌<◌, ◌≤◌, true, List, [], ◌++◌, length, slice_get, slice_set, Option, Some, Result, Vec, IsTrue, ⊤}
 use Rattle.std.specs.Global.{Global}
 use Rattle.std.specs.List.{AllByRecursion}
 use Rattle.leaf_model.specs.declared.writes.Write.{Write}
 use Rattle.berth_face.specs.Berth.{Meaning, IsClosed}
 use Rattle.berth_face.specs.Causes.{Rose}
 use Rattle.leaf_words.specs.declared.ways.Way.TheVariants.{Memory}
-use Rattle.leaf_opening.specs.Starts.{IsWayOf}
+use Rattle.leaf_opening.specs.Starts.{IsWayLeft}
 use Rattle.crash_moments.specs.Left.{NamedStates}
 use Rattle.crash_moments.specs.Told as moments
 use Rattle.crash_states.specs.Standing.{Copies}
@@ -156,7 +156,7 @@ pub data CopyEnds (c : Copying) (stop : Option ℕ) (m m' : Meaning) (notes : Li
       → suc made ≡ copy_left c
       → MayMake stop (suc made)
       → EachNoted IsHandedNote 0 (length c.seated.tables) notes
-      → (IsTrue m.tells → AreFounded c.seated → CopyStands c m → IsWayOf m'.held.region Memory)
+      → (IsTrue m.tells → AreFounded c.seated → CopyStands c m → IsWayLeft true m'.held.region Memory)
       → (IsTrue m.tells → AreFounded c.seated → CopyStands c m → IsCopied c m')
       → ends ≡ ending.Done
       → CopyEnds c stop m m' notes ends y

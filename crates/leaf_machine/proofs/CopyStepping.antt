@@ -4,14 +4,16 @@ use Rattle.std.specs.Prelude.{◌≢◌, IsTrue}
 use Rattle.leaf_model.specs.declared.writes.Write.{Write}
 use Rattle.berth_face.specs.Berth.{Meaning, IsClosed, Passes}
 use Rattle.berth_face.specs.Moments.{Throughout}
-use Rattle.region_layout.specs.Region.{IsAdoptable}
+use Rattle.region_head.specs.declared.head.Head.TheVariants.{Version}
+use Rattle.region_head.specs.Head.{head_of}
+use Rattle.region_layout.specs.Region.{IsAdoptable, layout}
 use Rattle.drain_copy.specs.declared.step.Next.{Next}
 use Rattle.drain_copy.specs.declared.step.Next.TheVariants as next
 use Rattle.drain_copy.specs.declared.step.DrainStep.{DrainStep}
 use Rattle.drain_copy.specs.declared.step.DrainStep.TheVariants.{Finished}
 use Rattle.drain_copy.specs.Draining.{DrainState, Draining, DrainsFrom, StandsAt, AllClosed, IsStep, IsStepFrom, left, left_from}
 use Rattle.leaf_words.specs.declared.ways.Way.TheVariants.{Memory}
-use Rattle.leaf_opening.specs.Starts.{IsWayOf}
+use Rattle.leaf_opening.specs.Starts.{IsWayLeft}
 use Rattle.crash_moments.specs.Watched.{Watched, was_opened}
 use Rattle.crash_moments.proofs.Telling.{none_more, told_join, opened_more}
 use Rattle.crash_states.specs.Standing.{StandsNow, Copies, Holds, Rests}
@@ -152,11 +154,13 @@ module _ (x : Seated) (drain : DrainState) (a b : Meaning) where
               (told_now ws (watched_by y) others b (left_others (watched_by y) others b opened (rests_left (watched_by y) no_others writes None b rests)) over.more);
         }
 
-    pub copy_last : DrainMade drain a b → (Draining drain a.held.region → b.held.region ≡ drain.image) → (writes : List ℕ → List Write) → Copies ws drain writes a → RestsOn x y a b × IsWayOf b.held.region Memory
-    copy_last made whole writes copies =
+    pub copy_last : DrainMade drain a b → (Draining drain a.held.region → b.held.region ≡ drain.image) → head_of drain.image ≡ Version layout → (writes : List ℕ → List Write) → Copies ws drain writes a
+        → RestsOn x y a b × IsWayLeft true b.held.region Memory
+    copy_last made whole laid writes copies =
         let region : b.held.region ≡ drain.image = whole copies.draining in
         let holds : Holds ws drain.image writes b = step_last ws drain writes a b copies (stepped writes copies made) region in
-        (handed_rests writes copies made holds, (copies.images, copies.log_end, subst (λ (bytes : List ℕ). IsAdoptable bytes copies.images copies.log_end) (sym region) copies.image))
+        (handed_rests writes copies made holds, ((copies.images, copies.log_end, subst (λ (bytes : List ℕ). IsAdoptable bytes copies.images copies.log_end) (sym region) copies.image),
+          λ up memory. ap (λ (bytes : List ℕ). head_of bytes) region ∙ laid))
 
 -- the copy is given up
 pub copy_left : (x : Seated) (drain : DrainState) (m : Meaning) (writes : List ℕ → List Write) → Copies (watched_by x) drain writes m → RestsOn x x m m

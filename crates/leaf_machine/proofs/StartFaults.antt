@@ -5,7 +5,7 @@ use Rattle.leaf_opening.specs.declared.ways.OpenFault.{OpenFault}
 use Rattle.leaf_opening.specs.declared.ways.OpenFault.TheVariants as found
 use Rattle.leaf_words.specs.declared.ways.Way.{Way}
 use Rattle.leaf_opening.specs.Answers.{IsExact}
-use Rattle.leaf_opening.specs.Starts.{IsOpeningRefusal}
+use Rattle.leaf_opening.specs.Starts.{IsOpeningRefusal, TellsName}
 use Rattle.leaf_table.specs.Calls.{IsFresh}
 use Rattle.leaf_steward.specs.declared.notes.Note.{Note}
 use Rattle.leaf_steward.specs.Seated.{Seated, AtEach}
@@ -22,12 +22,12 @@ told_refused names old new (found.Stranger name) is = (found.Stranger name, refl
 told_refused names old new found.NoMemory is = (found.NoMemory, refl, is)
 
 -- nothing that is found tells of a seat
-told_start : {B : Type 0} (x : Seated) (berth after : B) (notes : List Note) (f : OpenFault) → AtEach (λ place t v. IsFresh v) x → notes ≡ [] → IsStart x berth notes (Err ((x, after), told_of f))
-told_start x berth after notes found.RegionFault fresh none = (fresh, refl, none)
-told_start x berth after notes found.DiskFault fresh none = (fresh, refl, none)
-told_start x berth after notes found.DiskDamaged fresh none = (fresh, refl, none)
-told_start x berth after notes (found.Stranger name) fresh none = (fresh, refl, none)
-told_start x berth after notes found.NoMemory fresh none = (fresh, refl, none)
+told_start : {B : Type 0} (x : Seated) (berth after : B) (notes : List Note) (f : OpenFault) → AtEach (λ place t v. IsFresh v) x → notes ≡ [] → TellsName f → IsStart x berth notes (Err ((x, after), told_of f))
+told_start x berth after notes found.RegionFault fresh none named = (fresh, refl, none)
+told_start x berth after notes found.DiskFault fresh none named = (fresh, refl, none)
+told_start x berth after notes found.DiskDamaged fresh none named = (fresh, refl, none)
+told_start x berth after notes (found.Stranger name) fresh none named = (fresh, refl, none, named)
+told_start x berth after notes found.NoMemory fresh none named = (fresh, refl, none)
 
 -- what the bytes decide is told as it is
 abbrev answer : OpenFault → Result Way OpenFault
@@ -35,7 +35,7 @@ answer f = Err f
 
 told_exact : (names : List (List ℕ)) (held : Pair) (f : OpenFault) → IsExact names held.region held.disk (answer f) → IsExactRefusal names held (told_of f)
 told_exact names held found.RegionFault is = tt
-told_exact names held found.DiskFault is = tt
+told_exact names held found.DiskFault is = is
 told_exact names held found.DiskDamaged is = is
 told_exact names held (found.Stranger name) is = is
 told_exact names held found.NoMemory is = tt
@@ -48,8 +48,8 @@ module _ (f : OpenFault) (e : StartFault) (told : e ≡ told_of f) where
   pub exact_as : (names : List (List ℕ)) (held : Pair) → IsExact names held.region held.disk (answer f) → IsExactRefusal names held e
   exact_as names held is = subst (λ (x : StartFault). IsExactRefusal names held x) (sym told) (told_exact names held f is)
 
-  pub start_as : {B : Type 0} (x : Seated) (berth after : B) (notes : List Note) → AtEach (λ place t v. IsFresh v) x → notes ≡ [] → IsStart x berth notes (Err ((x, after), e))
-  start_as x berth after notes fresh none = subst (λ (y : StartFault). IsStart x berth notes (Err ((x, after), y))) (sym told) (told_start x berth after notes f fresh none)
+  pub start_as : {B : Type 0} (x : Seated) (berth after : B) (notes : List Note) → AtEach (λ place t v. IsFresh v) x → notes ≡ [] → TellsName f → IsStart x berth notes (Err ((x, after), e))
+  start_as x berth after notes fresh none named = subst (λ (y : StartFault). IsStart x berth notes (Err ((x, after), y))) (sym told) (told_start x berth after notes f fresh none named)
 
 -- each is told as itself
 pub told_damaged : (f : OpenFault) → told_of f ≡ DiskDamaged → f ≡ found.DiskDamaged

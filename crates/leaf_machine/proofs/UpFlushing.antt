@@ -1,6 +1,6 @@
 -- A flush, by its steps: what was owed is settled, the table is taken, and what was taken is brought onto the disk.
 use Rattle.std.proofs.Common.{◌≡◌, ℕ, ◌<◌, ◌≤◌, List, [], ◌∷◌, ◌++◌, length, Option, Some, None, refl, sym, ap, subst, ◌∙◌, arith, append_assoc, append-nil, le_refl}
-use Rattle.std.specs.Prelude.{IsTrue, IsSome, IfSome, Result, Ok, Err, IsOk, IsErr}
+use Rattle.std.specs.Prelude.{slice_get, IsTrue, IsSome, IfSome, Result, Ok, Err, IsOk, IsErr}
 use Rattle.leaf_model.specs.declared.writes.Write.{Write}
 use Rattle.row_records.specs.Records.{LogRecord}
 use Rattle.berth_face.specs.Berth.{Meaning, Passes}
@@ -10,17 +10,18 @@ use Rattle.disk_backup.proofs.Results.{of_err}
 use Rattle.crash_moments.proofs.Telling.{told_join}
 use Rattle.crash_states.specs.Standing.{Runs}
 use Rattle.leaf_table.specs.Turns.{Shared}
-use Rattle.leaf_table.specs.Calls.{base_seen, name_of, state_seen}
+use Rattle.leaf_table.specs.Calls.{IsFresh, base_seen, name_of, state_seen}
 use Rattle.leaf_steward.specs.declared.notes.Note.{Note}
 use Rattle.leaf_steward.specs.declared.notes.What.TheVariants as what
 use Rattle.leaf_steward.specs.Seated.{Seated, AtPlace, AreSeated, AreFounded, Spares, watched_by}
 use Rattle.leaf_steward.specs.Making.{Makes, OneEntry, TakesAt, WornAt}
 use Rattle.leaf_steward.proofs.WatchMakes.{makes_seated, makes_tables}
+use Rattle.leaf_steward.proofs.WatchPlaces.{watch_same}
 use Rattle.leaf_steward.specs.Owing.{Owing, Brings, HasJustTaken, RunsTo, SettlesOwed, flushed_note}
 use Rattle.leaf_machine.specs.declared.up.FlushReply.{FlushReply}
 use Rattle.leaf_machine.specs.declared.up.FlushReply.TheVariants as reply
 use Rattle.leaf_machine.specs.States.{Serving, IsUp, UpStands, GoesOn, GoesOnServing}
-use Rattle.leaf_machine.specs.Flushes.{Flushes, OwedNotes}
+use Rattle.leaf_machine.specs.Flushes.{Flushes, FreshBehind, OwedNotes}
 use Rattle.leaf_machine.specs.UpFlush.{FlushGoes}
 use Rattle.leaf_machine.proofs.UpSeats.{Serves, count_taken, named_taken, serves_flushed, serves_taken, spares_taken, takes_entry}
 use Rattle.leaf_machine.proofs.UpOwing.{OwedBy, owed_none, owed_same, up_serves, up_owed, up_of, founded_as, stands_on}
@@ -188,6 +189,9 @@ module _ {T E : Type 0} (table number n : ℕ) (pending : Option LogRecord) (x y
   spares_now : AtPlace (Spares 4) taken table
   spares_now = spares_taken b.clock table number n pending y.seated taken takes seated_now
 
+  fresh_now : FreshBehind x.seated first table
+  fresh_now = (a.clock, b.clock, y.seated, goes.made, λ t v at sat. subst IsFresh (watch_same (slice_get y.seated.seats table) takes.before v takes.was sat) takes.fresh)
+
   made_now : Makes a.clock b.clock x.seated between taken
   made_now = subst (λ (l : List Note). Makes a.clock b.clock x.seated l taken) (sym noted)
       (makes_join a.clock b.clock b.clock x.seated y.seated taken first (took ∷ []) goes.made (makes_one b.clock b.clock b.clock y.seated took taken (le_refl b.clock) (le_refl b.clock) entry))
@@ -243,7 +247,7 @@ module _ {T E : Type 0} (table number n : ℕ) (pending : Option LogRecord) (x y
       let made : Makes a.clock c.clock x.seated (between ++ last ∷ []) z.seated =
       makes_join a.clock b.clock c.clock x.seated taken z.seated between (last ∷ []) made_now (makes_one b.clock c.clock c.clock taken last z.seated outside.time.later (le_refl c.clock) one) in
       whole told
-      (Flushes.done first number flushing n settled.noted (joined ∙ append_assoc first (took ∷ []) (last ∷ [])) told_is none)
+      (Flushes.done first number flushing n settled.noted fresh_now (joined ∙ append_assoc first (took ∷ []) (last ∷ [])) told_is none)
       (serves_flushed c.clock n flushing table taken z.seated one taken_seated spares_now serves_now)
       (owed_none z.seated z.owing.log.owed z.owing.owner z.owing.count none)
       (subst (λ (l : List Note). Makes a.clock c.clock x.seated l z.seated) (sym noted_on) made)
@@ -260,7 +264,7 @@ module _ {T E : Type 0} (table number n : ℕ) (pending : Option LogRecord) (x y
       let made : Makes a.clock c.clock x.seated (between ++ []) z.seated =
       makes_join a.clock b.clock c.clock x.seated taken z.seated between [] made_now (Makes.none b.clock c.clock taken [] z.seated outside.time.later refl same) in
       whole reply.DiskFault
-      (Flushes.half first number n settled.noted (kept ∙ noted) refl (subst (λ (q : Option LogRecord). IsSome q) (sym owed) refl) owner count)
+      (Flushes.half first number n settled.noted fresh_now (kept ∙ noted) refl (subst (λ (q : Option LogRecord). IsSome q) (sym owed) refl) owner count)
       (subst Serves (sym same) serves_now)
       (owed_same taken z.seated (Some r) z.owing.log.owed table z.owing.owner n z.owing.count same owed owner count owes)
       (subst (λ (l : List Note). Makes a.clock c.clock x.seated l z.seated) (append-nil between ∙ sym kept) made)

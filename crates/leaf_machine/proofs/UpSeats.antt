@@ -9,7 +9,7 @@ use Rattle.leaf_history.specs.Replies.{Reply}
 use Rattle.leaf_history.specs.Replies as reply
 use Rattle.leaf_history.specs.History.{untaken}
 use Rattle.leaf_table.specs.Turns.{Shared, record_for}
-use Rattle.leaf_table.specs.Calls.{SeatView, Made, IsFresh, IsSteward, base_seen, name_of, state_before, state_seen, SeesOpen}
+use Rattle.leaf_table.specs.Calls.{SeatView, Made, IsSteward, base_seen, name_of, state_before, state_seen, SeesOpen}
 use Rattle.leaf_table.proofs.Knowing.{live_after_flushed, open_after_take, taken_after_take}
 use Rattle.leaf_steward.specs.declared.notes.What.TheVariants as what
 use Rattle.leaf_steward.specs.Seated.{Seated, AtEach, AtPlace, IsSeated, AreSeated, Spares, with_seat}
@@ -54,15 +54,11 @@ serves_flushed clock count number place x y one seated spares serves =
 -- ---- a table is taken
 
 module _ (clock place number n : ℕ) (pending : Option LogRecord) (x y : Seated) (takes : TakesAt clock x place number n pending y) (seated : AreSeated x) where
-  -- a table is taken by a seat that has seen fewer than 2^62 entries
-  takes_fresh : IsFresh takes.before
-  takes_fresh = takes.fresh
-
   takes_sits : IsSeated takes.table takes.before
   takes_sits = seated.each place takes.table takes.before takes.at takes.was
 
   takes_room : 1024 ≤ takes.before.room
-  takes_room = takes_sits.room takes_fresh
+  takes_room = takes_sits.room takes.fresh
 
   -- the entry that it is
   pub takes_entry : OneEntry clock x (record { table = place; number = number; what = what.Took n }) y

@@ -1,5 +1,5 @@
 -- What a step of a leaf that copies its tables does.
-use Rattle.std.specs.Prelude.{◌≡◌, ◌⊎◌, ℕ, suc, ◌+◌, ◌≤◌, List, [], length, Result, Ok, Err, ⊤}
+use Rattle.std.specs.Prelude.{◌≡◌, ◌⊎◌, ℕ, suc, ◌+◌, ◌≤◌, true, List, [], length, Result, Ok, Err, ⊤}
 use Rattle.leaf_model.specs.declared.writes.Write.{Write}
 use Rattle.berth_face.specs.Berth.{Meaning, IsClosed}
 use Rattle.drain_copy.specs.declared.step.Next.{Next}
@@ -8,7 +8,7 @@ use Rattle.drain_copy.specs.declared.step.RegionFault.{RegionFault}
 use Rattle.drain_copy.specs.Draining.{held, left}
 use Rattle.crash_states.specs.Standing.{Copies as Stands}
 use Rattle.leaf_words.specs.declared.ways.Way.TheVariants.{Memory}
-use Rattle.leaf_opening.specs.Starts.{IsWayOf}
+use Rattle.leaf_opening.specs.Starts.{IsWayLeft}
 use Rattle.leaf_steward.specs.declared.notes.Note.{Note}
 use Rattle.leaf_steward.specs.Seated.{Seated, watched_by}
 use Rattle.leaf_steward.specs.Making.{EachNoted, IsHandedNote}
@@ -44,7 +44,7 @@ IsCopyStep c notes (Err (leaf, fault)) = (leaf.0 ≡ c.seated) × (notes ≡ [])
 abbrev pub CopyGoesOn : {B : Type 0} → (B → Meaning) → Copying → Meaning → Result (Copied B) ((Seated × B) × RegionFault) → Type 0
 CopyGoesOn meaning c m (Ok (copied.More leaf)) = (writes : List ℕ → List Write) → Stands (watched_by c.seated) c.drain writes m → GoesOnCopying c.seated leaf.0 m (meaning leaf.1)
 CopyGoesOn meaning c m (Ok (copied.Finished leaf)) = (writes : List ℕ → List Write) → Stands (watched_by c.seated) c.drain writes m
-    → RestsOn c.seated leaf.0 m (meaning leaf.1) × IsWayOf (meaning leaf.1).held.region Memory
+    → RestsOn c.seated leaf.0 m (meaning leaf.1) × IsWayLeft true (meaning leaf.1).held.region Memory
 CopyGoesOn meaning c m (Err (leaf, fault)) = (writes : List ℕ → List Write) → Stands (watched_by c.seated) c.drain writes m → RestsOn c.seated leaf.0 m (meaning leaf.1)
 
 -- what is still held on the heap and the region together are no longer than the image

@@ -1,9 +1,11 @@
 -- What a flush does.
 use Rattle.std.specs.Prelude.{◌≡◌, ℕ, List, [], ◌∷◌, ◌++◌, Option, Some, None, IsSome}
 use Rattle.row_records.specs.Records.{LogRecord}
+use Rattle.leaf_table.specs.Calls.{IsFresh}
 use Rattle.leaf_steward.specs.declared.notes.Note.{Note}
 use Rattle.leaf_steward.specs.declared.notes.What.TheVariants as what
-use Rattle.leaf_steward.specs.Making.{WornAt}
+use Rattle.leaf_steward.specs.Seated.{Seated, AtPlace}
+use Rattle.leaf_steward.specs.Making.{Makes, WornAt}
 use Rattle.leaf_steward.specs.Owing.{Owing, flushed_note}
 use Rattle.leaf_machine.specs.declared.up.FlushReply.{FlushReply}
 use Rattle.leaf_machine.specs.declared.up.FlushReply.TheVariants.{Flushed, DiskFault, Worn}
@@ -14,17 +16,23 @@ abbrev pub OwedNotes : Option LogRecord → Owing → List Note → Type 0
 OwedNotes None o notes = notes ≡ []
 OwedNotes (Some r) o notes = (number : ℕ) × (notes ≡ flushed_note o number ∷ [])
 
--- A flush of the table in that place: what was owed is settled and noted; then the table is taken and noted as flushed, with one number of writes;
+-- behind these entries the seat in that place is not worn
+abbrev pub FreshBehind : Seated → List Note → ℕ → Type 0
+FreshBehind x notes place = (from to : ℕ) × (y : Seated) × Makes from to x notes y × AtPlace (λ t v. IsFresh v) y place
+
+-- A flush of the table in that place: what was owed is settled and noted; then the table, whose seat is not worn, is taken and noted as flushed, with one number of writes;
 -- or the disk fails behind the taking; or the seat is worn, and the table is not taken; or the disk fails at what was owed.
 pub data Flushes (table : ℕ) (old new : Serving) (notes : List Note) (reply : FlushReply) : Type 0 where
   done : (first : List Note) (taking flushing n : ℕ)
       → OwedNotes old.owing.log.owed old.owing first
+      → FreshBehind old.seated first table
       → notes ≡ first ++ (record { table = table; number = taking; what = what.Took n } ∷ record { table = table; number = flushing; what = what.Flushed n } ∷ [])
       → reply ≡ Flushed
       → new.owing.log.owed ≡ None
       → Flushes table old new notes reply
   half : (first : List Note) (taking n : ℕ)
       → OwedNotes old.owing.log.owed old.owing first
+      → FreshBehind old.seated first table
       → notes ≡ first ++ record { table = table; number = taking; what = what.Took n } ∷ []
       → reply ≡ DiskFault
       → IsSome new.owing.log.owed

@@ -3,11 +3,12 @@ use Rattle.std.specs.Prelude.{◌≡◌, ◌≢◌, ℕ, ◌<◌, List, [], leng
 use Rattle.leaf_model.specs.declared.writes.Write.{Write}
 use Rattle.row_records.specs.Records.{LogRecord}
 use Rattle.berth_face.specs.Berth.{Meaning, Pair}
+use Rattle.region_layout.specs.Names.{IsName}
 use Rattle.leaf_words.specs.declared.ways.Way.{Way}
 use Rattle.leaf_opening.specs.declared.ways.OpenFault.{OpenFault}
 use Rattle.leaf_opening.specs.declared.ways.OpenFault.TheVariants as found
 use Rattle.leaf_opening.specs.OpenedLeaf.{OpenedLeaf}
-use Rattle.leaf_opening.specs.Answers.{IsAnswer}
+use Rattle.leaf_opening.specs.Answers.{GoesToLog, IsAnswer}
 use Rattle.leaf_opening.specs.Starts.{Started, IsOpeningRefusal}
 use Rattle.leaf_table.specs.Calls.{SeatView, IsFresh}
 use Rattle.crash_moments.specs.Left.{NamedStates}
@@ -56,6 +57,7 @@ abbrev pub IsStart : {B : Type 0} → Seated → B → List Note → Result ((Se
 IsStart x berth notes (Ok ((up, b), way)) = AtEach (λ place t v. IsFresh v) x × (up.seated.names ≡ x.names) × (up.seated.tables ≡ x.tables) × (up.owing.log.owed ≡ None)
     × EachNoted IsOpenedNote 0 (length x.tables) notes
 IsStart x berth notes (Err ((y, b), Worn table)) = IsFirstWorn x table × (y ≡ x) × (b ≡ berth) × (notes ≡ [])
+IsStart x berth notes (Err ((y, b), Stranger name)) = AtEach (λ place t v. IsFresh v) x × (y ≡ x) × (notes ≡ []) × IsName name
 IsStart x berth notes (Err ((y, b), fault)) = AtEach (λ place t v. IsFresh v) x × (y ≡ x) × (notes ≡ [])
 
 -- where the berth tells its contents: what was found, or why it was refused
@@ -69,8 +71,9 @@ abbrev pub IsStartRefused : List (List ℕ) → Meaning → Meaning → StartFau
 IsStartRefused names old new (Worn table) = ⊤
 IsStartRefused names old new fault = (f : OpenFault) × (fault ≡ told_of f) × IsOpeningRefusal names old new f
 
--- a refusal that the bytes decide is the one that they decide
+-- a refusal that the bytes decide is the one that they decide; the disk is told to fail only where the region gave no tables
 abbrev pub IsExactRefusal : List (List ℕ) → Pair → StartFault → Type 0
+IsExactRefusal names held DiskFault = GoesToLog names held.region
 IsExactRefusal names held DiskDamaged = IsAnswer names held.region held.disk (Err found.DiskDamaged)
 IsExactRefusal names held (Stranger name) = IsAnswer names held.region held.disk (Err (found.Stranger name))
 IsExactRefusal names held _ = ⊤

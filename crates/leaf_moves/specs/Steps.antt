@@ -1,15 +1,16 @@
 -- What each command does to the leaves of a fleet and their callers' seats as the program holds them: the pieces that it prints, and what stands behind it.
-use Rattle.std.specs.Prelude.{◌≡◌, ◌≢◌, ℕ, zero, suc, ◌+◌, ◌<◌, ◌≤◌, List, [], ◌++◌, length, map, Option, Some, None, Ok, slice_get, slice_set, IsTrue, ⊤}
+use Rattle.std.specs.Prelude.{◌≡◌, ◌≢◌, ℕ, zero, suc, ◌+◌, ◌<◌, ◌≤◌, true, List, [], ◌++◌, length, map, Option, Some, None, Ok, slice_get, slice_set, IsTrue, ⊤}
 use Rattle.berth_face.specs.Berth.{Meaning}
 use Rattle.leaf_history.specs.Calls.{Call}
 use Rattle.leaf_words.specs.declared.ways.WhyDisk.TheVariants as why
 use Rattle.adopt.specs.Adopting.{HasNoStranger, IsLeftBehind}
 use Rattle.region_head.specs.Closing.{IsBroken}
 use Rattle.disk_backup.specs.Scanning.{BeginsScan}
+use Rattle.region_layout.specs.Names.{IsName}
 use Rattle.leaf_words.specs.declared.ways.Way.{Way}
 use Rattle.leaf_words.specs.declared.ways.Way.TheVariants.{Memory, Disk}
 use Rattle.leaf_opening.specs.Answers.{IsAnswer}
-use Rattle.leaf_opening.specs.Starts.{IsWayOf}
+use Rattle.leaf_opening.specs.Starts.{IsWayLeft, IsWayOf}
 use Rattle.crash_moments.specs.Left.{NamedStates}
 use Rattle.leaf_table.specs.declared.replies.Reply.{Reply}
 use Rattle.leaf_table.specs.declared.replies.Reply.TheVariants as told
@@ -105,14 +106,14 @@ ending_of (fault.Stranger name) = ending.FaultStranger name
 ending_of fault.NoMemory = ending.FaultMemory
 ending_of (fault.Worn table) = ending.FaultWorn table
 
--- a start is refused for a worn seat only where that seat is worn
-abbrev pub IsWornFor : Seated → StartFault → Type 0
-IsWornFor x (fault.Worn table) = WornAt x table
-IsWornFor x fault.RegionFault = ⊤
-IsWornFor x fault.DiskFault = ⊤
-IsWornFor x fault.DiskDamaged = ⊤
-IsWornFor x (fault.Stranger name) = ⊤
-IsWornFor x fault.NoMemory = ⊤
+-- a start is refused for a worn seat only where that seat is worn, and for a stranger only by a name
+abbrev pub IsTrueOf : Seated → StartFault → Type 0
+IsTrueOf x (fault.Worn table) = WornAt x table
+IsTrueOf x fault.RegionFault = ⊤
+IsTrueOf x fault.DiskFault = ⊤
+IsTrueOf x fault.DiskDamaged = ⊤
+IsTrueOf x (fault.Stranger name) = IsName name
+IsTrueOf x fault.NoMemory = ⊤
 
 -- what a refused start leaves of the region: what it was for a worn seat, and else, unless the region failed, an open flag closed
 abbrev pub RegionRefused : StartFault → Meaning → Meaning → Type 0
@@ -145,7 +146,7 @@ pub data StartMoves (m m' : Meaning) (leaf : Leaf) (notes : List Note) (ends : E
       → StartMoves m m' leaf notes ends leaf'
   refused : (x : Seated) (f : StartFault)
       → leaf ≡ IsDown x
-      → IsWornFor x f
+      → IsTrueOf x f
       → ((base : NamedStates) → IsTrue m.tells → AreFounded x → Stands base leaf m → f ≢ fault.DiskDamaged)
       → (IsTrue m.tells → RefusalTold x m m' f)
       → notes ≡ []
@@ -280,7 +281,7 @@ pub data DrainMoves (m m' : Meaning) (leaf : Leaf) (stop : Option ℕ) (notes : 
       → Part y.serving.seated handing z
       → EachNoted IsHandedNote 0 (length x.serving.seated.tables) handing
       → notes ≡ treating ++ handing
-      → ((base : NamedStates) → IsTrue m.tells → AreFounded (seated_of leaf) → Stands base leaf m → IsWayOf m'.held.region Memory)
+      → ((base : NamedStates) → IsTrue m.tells → AreFounded (seated_of leaf) → Stands base leaf m → IsWayLeft true m'.held.region Memory)
       → ((base : NamedStates) → IsTrue m.tells → AreFounded (seated_of leaf) → Stands base leaf m → HasNoStranger (seated_of leaf).names m'.held.region)
       → ends ≡ ending.Done
       → leaf' ≡ IsDown z

@@ -1,11 +1,14 @@
 -- What a start finds, and what it leaves.
-use Rattle.std.specs.Prelude.{◌≡◌, ◌⊎◌, ℕ, List, [], length, None, false, Result, Ok, Err, ⊤}
+use Rattle.std.specs.Prelude.{◌≡◌, ◌⊎◌, ℕ, Bool, true, List, [], length, None, false, Result, Ok, Err, ⊤}
 use Rattle.std.specs.List.{AllByRecursion}
 use Rattle.berth_face.specs.Berth.{Meaning, Pair, IsClosed, Ended, SameDisk}
 use Rattle.berth_face.specs.Moments.{EachNow}
 use Rattle.table_state.specs.Tables.{Table}
+use Rattle.region_layout.specs.Names.{IsName}
 use Rattle.region_layout.specs.Images.{TableImage, held_of, image_names}
-use Rattle.region_layout.specs.Region.{IsAdoptable}
+use Rattle.region_head.specs.declared.head.Head.TheVariants.{Version}
+use Rattle.region_head.specs.Head.{head_of}
+use Rattle.region_layout.specs.Region.{IsAdoptable, layout}
 use Rattle.leaf_words.specs.declared.ways.WhyDisk.{WhyDisk}
 use Rattle.leaf_words.specs.declared.ways.WhyDisk.TheVariants as why
 use Rattle.adopt.specs.Adopting.{IsWhy, IsLeftBehind, IsStranger}
@@ -26,6 +29,10 @@ use Rattle.leaf_opening.specs.OpenedLeaf.{OpenedLeaf}
 abbrev pub IsWayOf : List ℕ → Way → Type 0
 IsWayOf region Memory = (images : List TableImage) × (log_end : ℕ) × IsAdoptable region images log_end
 IsWayOf region (Disk w) = IsWhy region w
+
+-- the way that a leaf leaves for its next start: one that was up leaves no image but of the version that a drain writes
+abbrev pub IsWayLeft : Bool → List ℕ → Way → Type 0
+IsWayLeft up region way = IsWayOf region way × (up ≡ true → way ≡ Memory → head_of region ≡ Version layout)
 
 -- the way of the next start of a leaf that came this way and was not drained
 abbrev pub way_after : Way → Way
@@ -65,6 +72,14 @@ IsOpeningRefusal names old new DiskDamaged = IsLeftBehind old.held.region new.he
 IsOpeningRefusal names old new (Stranger name) = IsLeftBehind old.held.region new.held.region
     × (IsStranger names old.held.region name ⊎ recovery.IsRecoveryRefusal names new.held.disk (found.Stranger name))
 IsOpeningRefusal names old new NoMemory = IsLeftBehind old.held.region new.held.region
+
+-- on every berth: a stranger's name is one
+abbrev pub TellsName : OpenFault → Type 0
+TellsName (Stranger name) = IsName name
+TellsName RegionFault = ⊤
+TellsName DiskFault = ⊤
+TellsName DiskDamaged = ⊤
+TellsName NoMemory = ⊤
 
 -- the leaf that serves what was opened
 abbrev pub opened_leaf : List (List ℕ) → Opened → OpenedLeaf

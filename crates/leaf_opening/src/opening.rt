@@ -10,7 +10,7 @@ ghost use Rattle.region_layout.specs.Names.{AreNames};
 ghost use Rattle.leaf_words.specs.declared.ways.Way.TheVariants as way;
 ghost use Rattle.leaf_opening.specs.declared.ways.OpenFault.TheVariants as fault;
 ghost use Rattle.leaf_opening.specs.Answers.{IsExact, way_of};
-ghost use Rattle.leaf_opening.specs.Starts.{Started, IsOpeningRefusal, IsWayOf, AreFresh, OpensFrom, KeepsDisks, IsDurable, opened_leaf};
+ghost use Rattle.leaf_opening.specs.Starts.{Started, IsOpeningRefusal, IsWayOf, AreFresh, OpensFrom, KeepsDisks, IsDurable, TellsName, opened_leaf};
 
 use crate::ways::OpenFault;
 use adopt::{Adopted, Adoption, adopt};
@@ -58,6 +58,7 @@ pub fn open_tables<B: Berth>(
     ensures held { IsTrue (B.meaning berth.old).tells → BeginsScan (length (B.meaning berth.old).held.disk) (B.meaning berth.old).held.disk (B.meaning berth.new).held.disk }
     ensures log_room { IfOk result (λ o. o.log.end < 2 ^ 63) }
     // On every berth.
+    ensures named { IfErr result TellsName }
     ensures time { Passes (B.meaning berth.old) (B.meaning berth.new) }
     ensures region_cause { result ≡ Err fault.RegionFault → Rose (B.meaning berth.old).region_faults (B.meaning berth.new).region_faults }
     ensures disk_cause { result ≡ Err fault.DiskFault → Rose (B.meaning berth.old).disk_faults (B.meaning berth.new).disk_faults }

@@ -1,5 +1,5 @@
 -- The tables that a log gives back.
-use Rattle.std.specs.Prelude.{◌≡◌, ◌⊎◌, ℕ, ◌<◌, ◌≤◌, ◌^◌, Bool, true, false, not, List, [], ◌∷◌, ◌++◌, length, map, take, slice_get, Option, Some, None, option_map, ⊤, bytes_eq}
+use Rattle.std.specs.Prelude.{◌≡◌, ◌⊎◌, ℕ, ◌<◌, ◌≤◌, ◌^◌, Bool, true, false, not, List, [], ◌∷◌, ◌++◌, length, map, take, slice_get, Option, Some, None, option_map, IsUtf8, ⊤, bytes_eq}
 use Rattle.std.specs.List.{find, list_any}
 use Rattle.leaf_model.specs.Content.{content}
 use Rattle.row_records.specs.Records.{LogRecord}
@@ -65,6 +65,13 @@ IsRecoveryRefusal names disk (Stranger name) = (records : List LogRecord) × (r 
 IsRecoveryRefusal names disk DiskDamaged = IsDamagedLog names disk ⊎ ((records : List LogRecord) × (r : LogRecord) × ComesTo names disk records r × (list_any (bytes_eq r.name) names ≡ true) × IsTooLong records r)
 IsRecoveryRefusal names disk DiskFault = ⊤
 IsRecoveryRefusal names disk NoMemory = ⊤
+
+-- on every berth: a stranger's name is UTF-8 of at most 255 bytes
+abbrev pub TellsName : RecoveryFault → Type 0
+TellsName (Stranger name) = IsUtf8 name × (length name ≤ 255)
+TellsName DiskDamaged = ⊤
+TellsName DiskFault = ⊤
+TellsName NoMemory = ⊤
 
 -- a claim about the refusals that the log's bytes decide
 abbrev pub IfRead : RecoveryFault → Type 0 → Type 0

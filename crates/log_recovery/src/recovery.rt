@@ -9,7 +9,7 @@ ghost use Rattle.disk_backup.specs.Scanning.{StepsFrom, BeginsScan, begun};
 ghost use Rattle.log_recovery.specs.declared.fault.RecoveryFault.TheVariants as fault;
 ghost use Rattle.leaf_model.specs.Names.{AreDistinct};
 ghost use Rattle.table_state.specs.Tables.{Table, bare, columns_most};
-ghost use Rattle.log_recovery.specs.Recovery.{AreFew, IfRead, IsRecovered, IsRecoveryRefusal, tables_of};
+ghost use Rattle.log_recovery.specs.Recovery.{AreFew, IfRead, IsRecovered, IsRecoveryRefusal, TellsName, tables_of};
 
 use crate::apply::{apply, empty_tables};
 use crate::fault::RecoveryFault;
@@ -47,6 +47,7 @@ pub fn recover<B: Berth>(
     ensures one { IfOk result (λ r. length r.tables.each ≡ length names.now) }
     ensures none_owed { IfOk result (λ r. (r.log.owed ≡ None) × (r.log.end < 2 ^ 63)) }
     ensures settled { IfOk result (λ r. AllByRecursion (λ t. (t.pending ≡ None) × (t.writes < 2 ^ 63)) r.tables.each) }
+    ensures named { IfErr result TellsName }
     ensures time { Passes (B.meaning berth.old) (B.meaning berth.new) }
     ensures cause { result ≡ Err fault.DiskFault → Rose (B.meaning berth.old).disk_faults (B.meaning berth.new).disk_faults }
 {
@@ -73,6 +74,7 @@ fn read_on<B: Berth>(
     requires empty { map bare tables.old.items ≡ tables_of names.now [] }
     requires columns { AreFew names.now [] (map (λ (t : Table). columns_most t.store) tables.old.items) }
     ensures stays { IsTrue (B.meaning berth.old).tells → Stays (B.meaning berth.old) (B.meaning berth.new) }
+    ensures named { IfErr result TellsName }
     ensures time { Passes (B.meaning berth.old) (B.meaning berth.new) }
     ensures cause { result ≡ Err fault.DiskFault → Rose (B.meaning berth.old).disk_faults (B.meaning berth.new).disk_faults }
     ensures told { IsTrue (B.meaning berth.old).tells → IfOk result (λ log. (x : IsRecovered names.now (B.meaning berth.old).held.disk (map bare tables.new.items) log)

@@ -20,7 +20,7 @@ use Rattle.transcript.specs.Pieces.{Acted, lines_in}
 use Rattle.transcript.specs.Counts.{reads_disk}
 use Rattle.leaf_moves.specs.Stage.{Leaf, seated_of, Carries, MeetAll}
 use Rattle.leaf_moves.specs.Steps as step
-use Rattle.leaf_moves.specs.Steps.{Moves, StartMoves, FlushMoves, KillMoves, DrainMoves, IsWornFor, ending_of, ending_of_flush, noted_all}
+use Rattle.leaf_moves.specs.Steps.{Moves, StartMoves, FlushMoves, KillMoves, DrainMoves, IsTrueOf, ending_of, ending_of_flush, noted_all}
 use Rattle.leaf_deeds.specs.Held.{KeepsSeats}
 use Rattle.player.specs.Stage.{IsMember}
 use Rattle.player.specs.Lines.{AreEnded}
@@ -33,7 +33,7 @@ use Rattle.player.proofs.CommandLines.{counted, deed_fits, one_piece}
 
 -- ---- how a deed ends
 
-worn_fits : (names : List (List ℕ)) (x : Seated) (f : StartFault) → length x.seats ≡ length names → IsWornFor x f → EndsOf names (ending_of f)
+worn_fits : (names : List (List ℕ)) (x : Seated) (f : StartFault) → length x.seats ≡ length names → IsTrueOf x f → EndsOf names (ending_of f)
 worn_fits names x fault.RegionFault count worn = tt
 worn_fits names x fault.DiskFault count worn = tt
 worn_fits names x fault.DiskDamaged count worn = tt

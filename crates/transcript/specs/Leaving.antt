@@ -1,10 +1,13 @@
 -- What a run writes and leaves, over leaves of whose berths the base is known or not.
-use Rattle.std.specs.Prelude.{◌≡◌, ℕ, ◌<◌, List, drop, Option, Some, None, IfSome, slice_get, ⊤}
+use Rattle.std.specs.Prelude.{◌≡◌, ℕ, ◌<◌, true, List, drop, Option, Some, None, IfSome, slice_get, ⊤}
 use Rattle.std.specs.Io.KnownBytes.{Appends}
 use Rattle.berth_face.specs.Berth.{Meaning}
 use Rattle.berth_face.specs.Moments.{EachNow}
 use Rattle.leaf_history.specs.History.{Entry}
-use Rattle.region_layout.specs.Region.{reads}
+use Rattle.region_head.specs.declared.head.Head.TheVariants.{Version}
+use Rattle.region_head.specs.Head.{head_of}
+use Rattle.region_layout.specs.Region.{layout, reads}
+use Rattle.leaf_words.specs.declared.ways.Way.TheVariants.{Memory}
 use Rattle.leaf_opening.specs.Starts.{IsWayOf}
 use Rattle.crash_moments.specs.Left.{NamedStates, Left}
 use Rattle.crash_moments.specs.Told as moments
@@ -28,12 +31,14 @@ use Rattle.transcript.specs.Moments.{MomentsRise, notes_told}
 -- ---- one leaf's berth with a base
 
 -- At every moment since the run began, each region and disk that a crash may leave belong to the tables as they stood then, each cut behind the last entry that
--- the steward had made; now they belong to the tables with all their entries; a run may begin over the berth again; and its first start prints what is claimed of it.
+-- the steward had made; now they belong to the tables with all their entries; a run may begin over the berth again; its first start prints what is claimed of it;
+-- and an image that a drain of this run left is of the version that drains write.
 pub record LeavesBerth (names : List (List ℕ)) (base : NamedStates) (life : Life) (histories : ℕ → List Entry) (old new : Meaning) : Type 0 where
   pub crash : moments.Told base (watched_with names base unseen) (watched_with names base histories) old new
   pub left : EachNow (λ p. Left reads (tables_of base (watched_with names base histories) new) p) new
   pub begins : BeginsAgain (tables_of base (watched_with names base histories) new) new
   pub way : IfSome life.way (IsWayOf new.held.region)
+  pub layout : life.begun ≡ true → life.way ≡ Some Memory → head_of new.held.region ≡ Version layout
 
 -- what is known of a leaf's beginning, by its berth's base
 abbrev pub IsKnown : Option NamedStates → Meaning → Option Known → Type 0

@@ -1,9 +1,10 @@
 -- The life of one leaf, as its steward's deeds print it: in which state it is, what its next start prints, and what its next `opened` lines tell.
 -- No rule looks at a table's history; how many columns tables have at least and at most that are copied is said from outside.
-use Rattle.std.specs.Prelude.{◌≡◌, ◌⊎◌, ℕ, zero, suc, ◌+◌, ◌<◌, ◌≤◌, ◌^◌, Bool, true, false, ◌&&◌, List, [], ◌∷◌, ◌++◌, length, map, Option, Some, None, IfSome, option_map, slice_set, replicate, if◌then◌else◌, ⊤}
+use Rattle.std.specs.Prelude.{◌≡◌, ◌≢◌, ◌⊎◌, ℕ, zero, suc, ◌+◌, ◌<◌, ◌≤◌, ◌^◌, Bool, true, false, ◌&&◌, List, [], ◌∷◌, ◌++◌, length, map, Option, Some, None, IfSome, option_map, slice_set, replicate, if◌then◌else◌, ⊤}
 use Rattle.leaf_words.specs.declared.ways.Way.{Way}
 use Rattle.leaf_words.specs.declared.ways.Way.TheVariants.{Memory, Disk}
 use Rattle.leaf_words.specs.declared.ways.WhyDisk.TheVariants as why
+use Rattle.region_layout.specs.Names.{IsName}
 use Rattle.leaf_opening.specs.Starts.{way_after}
 use Rattle.printed_lines.specs.declared.line.Said.{Said}
 use Rattle.printed_lines.specs.declared.line.Said.TheVariants.{Opened, Took, Flushed, Closed, Handed}
@@ -89,15 +90,16 @@ abbrev pub MayCome : Bool → Way → Type 0
 MayCome told (Disk why.NoImage) = told ≡ false
 MayCome told _ = ⊤
 
--- how a start is refused; over a berth whose base is known a damaged log is not told, and no stranger of a leaf that was up before; a seat is told as worn of a table that the leaf has
-abbrev pub IsStartRefusal : Bool → Bool → ℕ → Ending → Type 0
-IsStartRefusal told begun tables ends.FaultRegion = ⊤
-IsStartRefusal told begun tables ends.FaultDisk = ⊤
-IsStartRefusal told begun tables ends.FaultMemory = ⊤
-IsStartRefusal told begun tables (ends.FaultStranger name) = (told && begun) ≡ false
-IsStartRefusal told begun tables (ends.FaultWorn table) = table < tables
-IsStartRefusal told begun tables ends.FaultDamaged = told ≡ false
-IsStartRefusal told begun tables _ = ⊥
+-- how a start is refused: by the disk only where it does not come from memory; by a stranger's name, and over a berth whose base is known none of a leaf that was up before; for a worn seat
+-- of a table that the leaf has; and for a damaged log only where no base is known
+abbrev pub IsStartRefusal : Bool → ℕ → Life → Ending → Type 0
+IsStartRefusal told tables life ends.FaultRegion = ⊤
+IsStartRefusal told tables life ends.FaultDisk = life.way ≢ Some Memory
+IsStartRefusal told tables life ends.FaultMemory = ⊤
+IsStartRefusal told tables life (ends.FaultStranger name) = ((told && life.begun) ≡ false) × IsName name
+IsStartRefusal told tables life (ends.FaultWorn table) = table < tables
+IsStartRefusal told tables life ends.FaultDamaged = told ≡ false
+IsStartRefusal told tables life _ = ⊥
 
 -- what the start behind a refused one prints: nothing is touched for a worn seat; a region that failed is not known; else an open flag was closed
 abbrev pub way_refused : Ending → Option Way → Option Way
@@ -110,7 +112,7 @@ abbrev pub OfStart : Bool → ℕ → Life → List Noted → Ending → Life �
 OfStart told tables life notes (ends.Started way) next = (counts : List ℕ) × (life.mode ≡ Down) × MayCome told way × IfSome life.way (λ w. way ≡ w) × IfSome life.durable (λ known. counts ≡ known)
     × (length counts ≡ tables) × Notes 0 (map Opened counts) notes × (next ≡ record { mode = Up None; way = claimed told (way_after way); durable = claimed told counts; begun = true })
 OfStart told tables life notes ends.NotDown next = (life.mode ≡ Down → ⊥) × (notes ≡ []) × (next ≡ life)
-OfStart told tables life notes ending next = (life.mode ≡ Down) × IsStartRefusal told life.begun tables ending × (notes ≡ []) × (next ≡ on life Down (way_refused ending life.way) [])
+OfStart told tables life notes ending next = (life.mode ≡ Down) × IsStartRefusal told tables life ending × (notes ≡ []) × (next ≡ on life Down (way_refused ending life.way) [])
 
 -- ---- flushes
 

@@ -50,7 +50,7 @@ first_next : (names : List (List ℕ)) (base : Option NamedStates) (known : Opti
     → AreInPlace names x → IsKnown base m known → FitsNext known (first_life known names) (IsDown x) m
 first_next names base None x m in_place is = (refl, refl)
 first_next names None (Some k) x m in_place is = absurd is
-first_next names (Some b) (Some k) x m in_place is = (is.2, first_durable names k m x in_place is.3)
+first_next names (Some b) (Some k) x m in_place is = ((is.2, λ begun memory. absurd (clash_bool false begun refl)), first_durable names k m x in_place is.3)
 
 first_known : (number : ℕ) (names : List (List ℕ)) (base : Option NamedStates) (known : Option Known) (x : Seated) (m : Meaning)
     → AreInPlace names x → AreGrounded known x → AtEach (λ place t v. v ≡ unused_seat t.site 0 1 1024) x → IfSome base (StandsFirst x m) → IsKnown base m known

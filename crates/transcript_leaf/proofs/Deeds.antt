@@ -4,8 +4,10 @@ use Rattle.std.specs.Prelude.{◌≢◌, IfSome, IsSome, IsTrue, is_some, option
 use Rattle.row_records.specs.Records.{LogRecord}
 use Rattle.berth_face.specs.Berth.{Meaning}
 use Rattle.adopt.specs.Adopting.{IsLeftBehind}
+use Rattle.region_layout.specs.Names.{IsName}
 use Rattle.leaf_words.specs.declared.ways.Way.{Way}
-use Rattle.leaf_opening.specs.Starts.{IsWayOf, way_after}
+use Rattle.leaf_words.specs.declared.ways.Way.TheVariants.{Memory}
+use Rattle.leaf_opening.specs.Starts.{IsWayLeft, IsWayOf, way_after}
 use Rattle.printed_lines.specs.declared.line.Said.TheVariants as said
 use Rattle.printed_lines.specs.declared.line.Ending.{Ending}
 use Rattle.printed_lines.specs.declared.line.Ending.TheVariants as ending
@@ -19,7 +21,7 @@ use Rattle.leaf_machine.specs.declared.faults.StartFault.{StartFault}
 use Rattle.leaf_machine.specs.declared.faults.StartFault.TheVariants as fault
 use Rattle.leaf_machine.specs.declared.up.FlushReply.{FlushReply}
 use Rattle.leaf_machine.specs.States.{Serving}
-use Rattle.leaf_machine.specs.Starts.{IsOpenedNote}
+use Rattle.leaf_machine.specs.Starts.{IsExactRefusal, IsOpenedNote}
 use Rattle.leaf_machine.specs.Flushes.{OwedNotes}
 use Rattle.leaf_machine.specs.Flushes as flushing
 use Rattle.printed_lines.specs.declared.line.Deed.{Deed}
@@ -28,14 +30,14 @@ use Rattle.transcript.specs.Life.{Life, Mode, Down, Up, MayCome, Notes, Owed, Pr
 use Rattle.transcript.specs.Counts.{is_disk_fault}
 use Rattle.transcript.specs.Transcript.{Known}
 use Rattle.leaf_moves.specs.Stage.{Leaf, IsDown, IsUp, Stands, seated_of}
-use Rattle.leaf_moves.specs.Steps.{FlushMoves, IsWornFor, KillMoves, Moves, RefusalTold, RegionRefused, StartMoves, StartsTold, ending_of, ending_of_flush, noted_all, said_of_note}
+use Rattle.leaf_moves.specs.Steps.{FlushMoves, IsTrueOf, KillMoves, Moves, RefusalTold, RegionRefused, StartMoves, StartsTold, ending_of, ending_of_flush, noted_all, said_of_note}
 use Rattle.leaf_moves.specs.Steps as steps
 use Rattle.transcript_leaf.specs.Session.{AreGrounded, AreInPlace, FitsMode, FitsNext, IsOwedAs, IsOwn, StandsKnown}
 use Rattle.transcript_leaf.specs.Acting.{FitsWay, Lived}
 use Rattle.transcript_leaf.specs.Acting as acting
 use Rattle.transcript_leaf.proofs.Lists.{clash_bool, within}
 use Rattle.transcript_leaf.proofs.Owned.{never_stranger}
-use Rattle.transcript_leaf.proofs.Ways.{comes_known, may_come, same_way, way_left}
+use Rattle.transcript_leaf.proofs.Ways.{after_start, comes_known, found_way, left_as, may_come, not_memory, same_way, way_left}
 use Rattle.transcript_leaf.proofs.Modes.{as_many, counts_stay, down_mode, founded_known, not_resting, not_serving, preparing_mode, resting_mode, same_held, up_mode, way_stays, where_known}
 use Rattle.transcript_leaf.proofs.Starts.{Starts, as_told}
 use Rattle.transcript_leaf.proofs.NoteLines.{closed_noted, noted_none, opened_noted, tells, tells_owed}
@@ -88,13 +90,13 @@ way_claimed (Some v) region way is h = same_way region way v is h
 way_opens : (known : Option Known) (life : Life) (m m' : Meaning) (leaf : Leaf) (x : Seated) (s : Serving) (notes : List Note) (way : Way)
     → FitsNext known life leaf m → IfSome known (λ (k : Known). StartsTold x m m' s notes way) → IfSome life.way (λ (v : Way). way ≡ v)
 way_opens None life m m' leaf x s notes way fits told = subst (λ (w : Option Way). IfSome w (λ (v : Way). way ≡ v)) (sym fits.0) tt
-way_opens (Some k) life m m' leaf x s notes way fits told = way_claimed life.way m.held.region way told.way_is fits.0
+way_opens (Some k) life m m' leaf x s notes way fits told = way_claimed life.way m.held.region way told.way_is (found_way life.begun m.held.region life.way fits.0)
 
 -- the way of the next start
 way_opened : (known : Option Known) (m m' : Meaning) (x : Seated) (s : Serving) (notes : List Note) (way : Way) (counts : List ℕ)
     → IfSome known (λ (k : Known). StartsTold x m m' s notes way) → FitsWay known (opened_life (is_some known) way counts) m'
 way_opened None m m' x s notes way counts told = refl
-way_opened (Some k) m m' x s notes way counts told = way_left m.held.region m'.held.region way told.came.started.region told.way_is
+way_opened (Some k) m m' x s notes way counts told = left_as true m'.held.region (way_after way) (way_left m.held.region m'.held.region way told.came.started.region told.way_is) (after_start way)
 
 -- what was found is what a leaf may find
 way_may : (known : Option Known) (m m' : Meaning) (leaf : Leaf) (x : Seated) (s : Serving) (notes : List Note) (way : Way) → IfSome known (λ (k : Known). StandsKnown k leaf m) → leaf ≡ IsDown x
@@ -120,23 +122,23 @@ start_opened known tables life m m' leaf x s notes way ends leaf' size mode may 
 
 -- ---- a start that is refused
 
-refusal : (told begun : Bool) (tables : ℕ) (f : StartFault) → (told ≡ true → f ≢ fault.DiskDamaged) → (told ≡ true → begun ≡ true → (name : List ℕ) → f ≢ fault.Stranger name)
-    → ((table : ℕ) → f ≡ fault.Worn table → table < tables) → IsStartRefusal told begun tables (ending_of f)
-refusal told begun tables fault.RegionFault not own among = tt
-refusal told begun tables fault.DiskFault not own among = tt
-refusal told begun tables fault.DiskDamaged not own among = by told not
+refusal : (told : Bool) (tables : ℕ) (life : Life) (f : StartFault) → (f ≡ fault.DiskFault → life.way ≢ Some Memory) → (told ≡ true → f ≢ fault.DiskDamaged) → (told ≡ true → life.begun ≡ true → (name : List ℕ) → f ≢ fault.Stranger name)
+    → ((table : ℕ) → f ≡ fault.Worn table → table < tables) → ((name : List ℕ) → f ≡ fault.Stranger name → IsName name) → IsStartRefusal told tables life (ending_of f)
+refusal told tables life fault.RegionFault goes not own among named = tt
+refusal told tables life fault.DiskFault goes not own among named = goes refl
+refusal told tables life fault.DiskDamaged goes not own among named = by told not
   where
     by : (b : Bool) → (b ≡ true → fault.DiskDamaged ≢ fault.DiskDamaged) → b ≡ false
     by true h = absurd (h refl refl)
     by false h = refl
-refusal told begun tables (fault.Stranger name) not own among = by told begun own
+refusal told tables life (fault.Stranger name) goes not own among named = (by told life.begun own, named name refl)
   where
     by : (a b : Bool) → (a ≡ true → b ≡ true → (n : List ℕ) → fault.Stranger name ≢ fault.Stranger n) → (a && b) ≡ false
     by true true h = absurd (h refl refl name refl)
     by true false h = refl
     by false b h = refl
-refusal told begun tables fault.NoMemory not own among = tt
-refusal told begun tables (fault.Worn table) not own among = among table refl
+refusal told tables life fault.NoMemory goes not own among named = tt
+refusal told tables life (fault.Worn table) goes not own among named = among table refl
 
 undamaged : (names : List (List ℕ)) (known : Option Known) (m : Meaning) (leaf : Leaf) (x : Seated) (f : StartFault)
     → AreInPlace names (seated_of leaf) → AreGrounded known (seated_of leaf) → IfSome known (λ (k : Known). StandsKnown k leaf m) → leaf ≡ IsDown x
@@ -145,6 +147,15 @@ undamaged : (names : List (List ℕ)) (known : Option Known) (m : Meaning) (leaf
 undamaged names None m leaf x f in_place grounded stands is sound e = absurd (clash_bool false e refl)
 undamaged names (Some k) m leaf x f in_place grounded stands is sound e =
     sound k.base stands.tells (subst (λ (l : Leaf). AreFounded (seated_of l)) is (founded_known names k (seated_of leaf) in_place grounded)) stands.stands
+
+-- the disk is told to fail only where no image was claimed
+logged : (known : Option Known) (life : Life) (m m' : Meaning) (leaf : Leaf) (x : Seated) (f : StartFault) → FitsNext known life leaf m → IfSome known (λ (k : Known). RefusalTold x m m' f)
+    → f ≡ fault.DiskFault → life.way ≢ Some Memory
+logged None life m m' leaf x f fits told is e = clash life.way fits.0 e
+  where
+    clash : (w : Option Way) → w ≡ None → w ≡ Some Memory → ⊥
+    clash w none some = cc
+logged (Some k) life m m' leaf x f fits told is e = not_memory x.names m.held.region life.way (subst (λ (g : StartFault). IsExactRefusal x.names m.held g) is told.exact) (found_way life.begun m.held.region life.way fits.0) e
 
 -- no stranger of a leaf that was up
 strangers_none : (names : List (List ℕ)) (known : Option Known) (begun : Bool) (m m' : Meaning) (leaf : Leaf) (x : Seated) (f : StartFault)
@@ -156,19 +167,19 @@ strangers_none names (Some k) begun m m' leaf x f in_place stands own is told e 
     never_stranger names k.base x m m' f name (subst (λ (l : Leaf). AreInPlace names (seated_of l)) is in_place) (subst (λ (l : Leaf). Stands k.base l m) is stands.stands)
     (subst (λ (l : Leaf). IsOwn names (seated_of l) m) is (own up)) told
 
-left_way : (way : Option Way) (m m' : Meaning) → IsLeftBehind m.held.region m'.held.region → IfSome way (IsWayOf m.held.region)
-    → IfSome (option_map way_after way) (IsWayOf m'.held.region)
-left_way None m m' e h = tt
-left_way (Some w) m m' e h = way_left m.held.region m'.held.region w e h
+left_way : (begun : Bool) (way : Option Way) (m m' : Meaning) → IsLeftBehind m.held.region m'.held.region → IfSome way (IsWayLeft begun m.held.region)
+    → IfSome (option_map way_after way) (IsWayLeft begun m'.held.region)
+left_way begun None m m' e h = tt
+left_way begun (Some w) m m' e h = left_as begun m'.held.region (way_after w) (way_left m.held.region m'.held.region w e h.0) (after_start w)
 
-refused_way : (f : StartFault) (way : Option Way) (m m' : Meaning) → RegionRefused f m m' → IfSome way (IsWayOf m.held.region)
-    → IfSome (way_refused (ending_of f) way) (IsWayOf m'.held.region)
-refused_way fault.RegionFault way m m' e h = tt
-refused_way fault.DiskFault way m m' e h = left_way way m m' e h
-refused_way fault.DiskDamaged way m m' e h = left_way way m m' e h
-refused_way (fault.Stranger name) way m m' e h = left_way way m m' e h
-refused_way fault.NoMemory way m m' e h = left_way way m m' e h
-refused_way (fault.Worn table) way m m' e h = subst (λ (region : List ℕ). IfSome way (IsWayOf region)) (sym e) h
+refused_way : (f : StartFault) (begun : Bool) (way : Option Way) (m m' : Meaning) → RegionRefused f m m' → IfSome way (IsWayLeft begun m.held.region)
+    → IfSome (way_refused (ending_of f) way) (IsWayLeft begun m'.held.region)
+refused_way fault.RegionFault begun way m m' e h = tt
+refused_way fault.DiskFault begun way m m' e h = left_way begun way m m' e h
+refused_way fault.DiskDamaged begun way m m' e h = left_way begun way m m' e h
+refused_way (fault.Stranger name) begun way m m' e h = left_way begun way m m' e h
+refused_way fault.NoMemory begun way m m' e h = left_way begun way m m' e h
+refused_way (fault.Worn table) begun way m m' e h = subst (λ (region : List ℕ). IfSome way (IsWayLeft begun region)) (sym e) h
 
 -- where nothing is claimed of it, nothing is
 refused_unknown : (f : StartFault) → way_refused (ending_of f) None ≡ None
@@ -185,12 +196,12 @@ refused_life life f = on life Down (way_refused (ending_of f) life.way) []
 way_refuses : (known : Option Known) (life : Life) (m m' : Meaning) (leaf : Leaf) (x : Seated) (f : StartFault)
     → FitsNext known life leaf m → IfSome known (λ (k : Known). RefusalTold x m m' f) → FitsWay known (refused_life life f) m'
 way_refuses None life m m' leaf x f fits told = ap (λ (w : Option Way). way_refused (ending_of f) w) fits.0 ∙ refused_unknown f
-way_refuses (Some k) life m m' leaf x f fits told = refused_way f life.way m m' told.region fits.0
+way_refuses (Some k) life m m' leaf x f fits told = refused_way f life.begun life.way m m' told.region fits.0
 
 -- ---- starts
 
 -- a seat that is worn is one of the leaf's
-worn_among : (names : List (List ℕ)) (leaf : Leaf) (x : Seated) (f : StartFault) → AreInPlace names (seated_of leaf) → leaf ≡ IsDown x → IsWornFor x f → (table : ℕ) → f ≡ fault.Worn table
+worn_among : (names : List (List ℕ)) (leaf : Leaf) (x : Seated) (f : StartFault) → AreInPlace names (seated_of leaf) → leaf ≡ IsDown x → IsTrueOf x f → (table : ℕ) → f ≡ fault.Worn table
     → table < length names
 worn_among names leaf x (fault.Worn t) place is worn table e =
     let below = within x.seats t worn.0 worn.1 in
@@ -202,6 +213,15 @@ worn_among names leaf x fault.DiskFault place is worn table e = cc
 worn_among names leaf x fault.DiskDamaged place is worn table e = cc
 worn_among names leaf x (fault.Stranger name) place is worn table e = cc
 worn_among names leaf x fault.NoMemory place is worn table e = cc
+
+-- a stranger's name is one
+name_told : (x : Seated) (f : StartFault) → IsTrueOf x f → (name : List ℕ) → f ≡ fault.Stranger name → IsName name
+name_told x (fault.Stranger other) is name e = let same : other ≡ name = cc in subst IsName same is
+name_told x fault.RegionFault is name e = absurd cc
+name_told x fault.DiskFault is name e = absurd cc
+name_told x fault.DiskDamaged is name e = absurd cc
+name_told x fault.NoMemory is name e = absurd cc
+name_told x (fault.Worn table) is name e = absurd cc
 
 pub start_lives : (names : List (List ℕ)) (known : Option Known) (life : Life) (m m' : Meaning) (leaf : Leaf) (notes : List Note) (ends : Ending) (leaf' : Leaf)
     → AreInPlace names (seated_of leaf) → AreGrounded known (seated_of leaf) → IfSome known (λ (k : Known). StandsKnown k leaf m)
@@ -217,10 +237,10 @@ start_lives names known life m m' leaf notes ends leaf' in_place grounded stands
   next = refused_life life f;
   hands = hands_nothing leaf';
   does = λ columns few more. as_told (is_some known) (length names) life (noted_all notes) ends (refused_life life f) (Starts.refuses (down_mode life.mode x (subst (λ (l : Leaf). FitsMode life.mode l) is mode))
-      (subst (λ (e : Ending). IsStartRefusal (is_some known) life.begun (length names) e) (sym ends_are)
-      (refusal (is_some known) life.begun (length names) f (undamaged names known m leaf x f in_place grounded stands is sound)
+      (subst (λ (e : Ending). IsStartRefusal (is_some known) (length names) life e) (sym ends_are)
+      (refusal (is_some known) (length names) life f (logged known life m m' leaf x f fits (where_known known leaf m (RefusalTold x m m' f) stands told)) (undamaged names known m leaf x f in_place grounded stands is sound)
       (strangers_none names known life.begun m m' leaf x f in_place stands own is (where_known known leaf m (RefusalTold x m m' f) stands told))
-      (worn_among names leaf x f in_place is worn)))
+      (worn_among names leaf x f in_place is worn) (name_told x f worn)))
       (noted_none notes notes_are)
       (ap (λ (e : Ending). on life Down (way_refused e life.way) []) (sym ends_are)));
   counts = acting.keeps refl (ap (λ (ns : List Note). durable_with life.durable (noted_all ns)) (sym notes_are));
@@ -263,7 +283,7 @@ up_flushed : (known : Option Known) (tables table : ℕ) (life : Life) (m m' : M
     → life.mode ≡ Up owed → IsOwedAs owed s.owing → FitsNext known life leaf m → IfSome known (λ (k : Known). m'.held.region ≡ m.held.region)
     → ends ≡ ending_of_flush r → leaf' ≡ IsUp s' → flushing.Flushes table s s' notes r
     → Lived known tables (Flush table) life (noted_all notes) ends leaf' m'
-up_flushed known tables table life m m' leaf owed s s' notes r ends leaf' mode owes fits same ends_are now (flushing.done first taking flushed n noted notes_are reply_is none) =
+up_flushed known tables table life m m' leaf owed s s' notes r ends leaf' mode owes fits same ends_are now (flushing.done first taking flushed n noted fresh notes_are reply_is none) =
     let is : ends ≡ ending.Done = ends_are ∙ ap (λ (q : FlushReply). ending_of_flush q) reply_is in record {
       next = on life (Up None) life.way (noted_all notes);
       hands = hands_nothing leaf';
@@ -273,7 +293,7 @@ up_flushed known tables table life m m' leaf owed s s' notes r ends leaf' mode o
       mode = subst (λ (l : Leaf). FitsMode (Up None) l) (sym now) none;
       way = way_stays known life (on life (Up None) life.way (noted_all notes)) leaf m m' refl fits same;
     }
-up_flushed known tables table life m m' leaf owed s s' notes r ends leaf' mode owes fits same ends_are now (flushing.half first taking n noted notes_are reply_is some owner_is count_is) =
+up_flushed known tables table life m m' leaf owed s s' notes r ends leaf' mode owes fits same ends_are now (flushing.half first taking n noted fresh notes_are reply_is some owner_is count_is) =
     let there = record_there s'.owing.log.owed some in
     let left : Mode = Up (Some (record { table = table; count = n })) in record {
       next = failed life left;

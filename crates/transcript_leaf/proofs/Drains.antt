@@ -1,5 +1,5 @@
 -- The life of a leaf behind a drain, by what that does to it.
-use Rattle.std.proofs.Common.{◌≡◌, ℕ, zero, suc, ◌+◌, ◌<◌, ◌≤◌, true, false, List, [], ◌++◌, length, map, refl, sym, ap, subst, ◌∙◌, arith, Option, Some, None}
+use Rattle.std.proofs.Common.{◌≡◌, ℕ, zero, suc, ◌+◌, ◌<◌, ◌≤◌, Bool, true, false, List, [], ◌++◌, length, map, refl, sym, ap, subst, ◌∙◌, arith, Option, Some, None}
 use Rattle.std.specs.Prelude.{IfSome, IsTrue, is_some, option_map, replicate}
 use Rattle.std.specs.List.{AllByRecursion}
 use Rattle.std.proofs.lemmas.List.{append-nil}
@@ -7,7 +7,7 @@ use Rattle.berth_face.specs.Berth.{Meaning, Pair}
 use Rattle.leaf_words.specs.declared.ways.WhyDisk.TheVariants as why
 use Rattle.leaf_words.specs.declared.ways.Way.{Way}
 use Rattle.leaf_words.specs.declared.ways.Way.TheVariants.{Memory, Disk}
-use Rattle.leaf_opening.specs.Starts.{IsWayOf}
+use Rattle.leaf_opening.specs.Starts.{IsWayLeft, IsWayOf}
 use Rattle.printed_lines.specs.declared.line.Said.TheVariants as said
 use Rattle.printed_lines.specs.declared.line.Ending.{Ending}
 use Rattle.printed_lines.specs.declared.line.Ending.TheVariants as ending
@@ -30,7 +30,8 @@ use Rattle.leaf_moves.specs.Steps as moves
 use Rattle.transcript_leaf.specs.Session.{AreGrounded, AreInPlace, FitsMode, FitsNext, IsProgressOf, StandsKnown}
 use Rattle.transcript_leaf.specs.Acting.{FitsWay, Hands, Lived}
 use Rattle.transcript_leaf.specs.Acting as acting
-use Rattle.transcript_leaf.proofs.Modes.{as_many, counts_stay, founded_known, founded_where, resting_mode}
+use Rattle.transcript_leaf.proofs.Modes.{as_many, counts_stay, founded_known, founded_where, resting_mode, way_claim}
+use Rattle.transcript_leaf.proofs.Ways.{left_as}
 use Rattle.transcript_leaf.proofs.NoteLines.{closed_noted, handed_noted, noted_split}
 use Rattle.transcript_leaf.proofs.CountingNotes.{AreStewards}
 use Rattle.transcript_leaf.proofs.Handing.{begun_stewards, begun_tables, handed_columns, hands_nothing, steps_stewards, steps_tables}
@@ -51,41 +52,41 @@ promised P names (Some k) leaf m in_place grounded stands holds =
 
 -- it is as before
 kept_way : (known : Option Known) (old : Life) (leaf : Leaf) (m m' : Meaning) → IfSome known (λ (k : Known). StandsKnown k leaf m) → FitsNext known old leaf m
-    → (IsTrue m.tells → m'.held.region ≡ m.held.region) → (next : Life) → next.way ≡ old.way → FitsWay known next m'
-kept_way None old leaf m m' stands fits same next is = is ∙ fits.0
+    → (IsTrue m.tells → m'.held.region ≡ m.held.region) → (next : Life) → way_claim next ≡ way_claim old → FitsWay known next m'
+kept_way None old leaf m m' stands fits same next is = ap (λ (c : Option Way × Bool). c.0) is ∙ fits.0
 kept_way (Some k) old leaf m m' stands fits same next is =
-    subst (λ (way : Option Way). IfSome way (IsWayOf m'.held.region)) (sym is)
-    (subst (λ (region : List ℕ). IfSome old.way (IsWayOf region)) (sym (same stands.tells)) fits.0)
+    subst (λ (c : Option Way × Bool). IfSome c.0 (IsWayLeft c.1 m'.held.region)) (sym is)
+    (subst (λ (region : List ℕ). IfSome old.way (IsWayLeft old.begun region)) (sym (same stands.tells)) fits.0)
 
 -- it finds memory
-memory_way : (known : Option Known) (m' : Meaning) → IfSome known (λ (k : Known). IsWayOf m'.held.region Memory) → (next : Life) → next.way ≡ claimed (is_some known) Memory → FitsWay known next m'
+memory_way : (known : Option Known) (m' : Meaning) → IfSome known (λ (k : Known). IsWayLeft true m'.held.region Memory) → (next : Life) → next.way ≡ claimed (is_some known) Memory → FitsWay known next m'
 memory_way None m' holds next is = is
-memory_way (Some k) m' holds next is = subst (λ (way : Option Way). IfSome way (IsWayOf m'.held.region)) (sym is) holds
+memory_way (Some k) m' holds next is = subst (λ (way : Option Way). IfSome way (IsWayLeft next.begun m'.held.region)) (sym is) (holds.0, λ up memory. holds.1 refl refl)
 
 -- nothing is claimed of it
 no_way : (known : Option Known) (m' : Meaning) (next : Life) → next.way ≡ None → FitsWay known next m'
 no_way None m' next is = is
-no_way (Some k) m' next is = subst (λ (way : Option Way). IfSome way (IsWayOf m'.held.region)) (sym is) tt
+no_way (Some k) m' next is = subst (λ (way : Option Way). IfSome way (IsWayLeft next.begun m'.held.region)) (sym is) tt
 
-closed_way : (way : Option Way) (region : List ℕ) → IsWayOf region (Disk (why.Closed 0)) → IfSome (option_map (λ (w : Way). Disk (why.Closed 0)) way) (IsWayOf region)
-closed_way None region is = tt
-closed_way (Some w) region is = is
+closed_way : (begun : Bool) (way : Option Way) (region : List ℕ) → IsWayOf region (Disk (why.Closed 0)) → IfSome (option_map (λ (w : Way). Disk (why.Closed 0)) way) (IsWayLeft begun region)
+closed_way begun None region is = tt
+closed_way begun (Some w) region is = left_as begun region (Disk (why.Closed 0)) is (λ e. cc)
 
 -- the way behind a copy that was stopped, where that before is claimed
-claim_stopped : (old : Life) (m m' : Meaning) (made : ℕ) → IfSome old.way (IsWayOf m.held.region) → RegionStopped made m m'
-    → IfSome (way_stopped (life.Copying made) old.way) (IsWayOf m'.held.region)
-claim_stopped old m m' zero was now = subst (λ (region : List ℕ). IfSome old.way (IsWayOf region)) (sym now) was
-claim_stopped old m m' (suc made) was now = closed_way old.way m'.held.region now
+claim_stopped : (old : Life) (m m' : Meaning) (made : ℕ) → IfSome old.way (IsWayLeft old.begun m.held.region) → RegionStopped made m m'
+    → IfSome (way_stopped (life.Copying made) old.way) (IsWayLeft old.begun m'.held.region)
+claim_stopped old m m' zero was now = subst (λ (region : List ℕ). IfSome old.way (IsWayLeft old.begun region)) (sym now) was
+claim_stopped old m m' (suc made) was now = closed_way old.begun old.way m'.held.region now
 
 stopped_none : (made : ℕ) → way_stopped (life.Copying made) None ≡ None
 stopped_none zero = refl
 stopped_none (suc made) = refl
 
 stopped_way : (known : Option Known) (old : Life) (leaf : Leaf) (m m' : Meaning) (made : ℕ) → FitsNext known old leaf m
-    → IfSome known (λ (k : Known). RegionStopped made m m') → (next : Life) → next.way ≡ way_stopped (life.Copying made) old.way → FitsWay known next m'
-stopped_way None old leaf m m' made fits holds next is = is ∙ (ap (λ (way : Option Way). way_stopped (life.Copying made) way) fits.0 ∙ stopped_none made)
+    → IfSome known (λ (k : Known). RegionStopped made m m') → (next : Life) → way_claim next ≡ (way_stopped (life.Copying made) old.way, old.begun) → FitsWay known next m'
+stopped_way None old leaf m m' made fits holds next is = ap (λ (c : Option Way × Bool). c.0) is ∙ (ap (λ (way : Option Way). way_stopped (life.Copying made) way) fits.0 ∙ stopped_none made)
 stopped_way (Some k) old leaf m m' made fits holds next is =
-    subst (λ (way : Option Way). IfSome way (IsWayOf m'.held.region)) (sym is) (claim_stopped old m m' made fits.0 holds)
+    subst (λ (c : Option Way × Bool). IfSome c.0 (IsWayLeft c.1 m'.held.region)) (sym is) (claim_stopped old m m' made fits.0 holds)
 
 -- ---- where it begins
 
@@ -141,7 +142,7 @@ module _ (known : Option Known) (tables : ℕ) (stop : Option ℕ) (old : Life) 
   -- each table is handed over, and the leaf is down
   drained : (y : Shutting) (z : Seated) (treating handing notes : List Note) (n copy made : ℕ)
       → AreStewards x.serving.seated → MakesSteps n (moves.Shuts x) treating (moves.Copies y copy made) → suc made ≡ copy → MayMake stop (suc n) → Part y.serving.seated handing z
-      → EachNoted IsHandedNote 0 (length x.serving.seated.tables) handing → notes ≡ treating ++ handing → IfSome known (λ (k : Known). IsWayOf m'.held.region Memory)
+      → EachNoted IsHandedNote 0 (length x.serving.seated.tables) handing → notes ≡ treating ++ handing → IfSome known (λ (k : Known). IsWayLeft true m'.held.region Memory)
       → Lived known tables (Drain stop) old (noted_all notes) ending.Done (IsDown z) m'
   drained y z treating handing notes n copy made stewards steps last may part noted notes_are memory =
       let split = noted_split notes treating handing notes_are in
@@ -350,7 +351,7 @@ drain_lives names known stop old m m' leaf notes ends leaf' place grounded stewa
     let b = begun old.mode leaf x mode shuts in
     rw (ends_are, leaf_is)
     (drained known (length names) stop old m m' leaf x stands fits b (b.tables ∙ as_many names (seated_of leaf) place) y z treating handing notes n copy made (begun_stewards leaf x shuts stewards) steps last may part noted notes_are
-    (promised (IsWayOf m'.held.region Memory) names known leaf m place grounded stands region))
+    (promised (IsWayLeft true m'.held.region Memory) names known leaf m place grounded stands region))
 drain_lives names known stop old m m' leaf notes ends leaf' place grounded stewards stands mode fits (moves.failed x y n copy made shuts steps may own ends_are leaf_is) =
     let b = begun old.mode leaf x mode shuts in
     rw (ends_are, leaf_is)

@@ -41,7 +41,7 @@ module _ (names : List (List ℕ)) (k : Known) (counts : List ℕ) (m m' : Meani
     )
 
     flushes_durable : (ends : Ending) (r : FlushReply) → Flushes table s s' notes r → ends ≡ ending_of_flush r → is_disk_fault ends ≡ false → Later (IsUp s')
-    flushes_durable ends r (Flushes.done first taking flushing n owes all told none) is calm =
+    flushes_durable ends r (Flushes.done first taking flushing n owes fresh all told none) is calm =
         let takes : Note = record { table = table; number = taking; what = what.Took n } in
         let flushes : Note = record { table = table; number = flushing; what = what.Flushed n } in
         let before : first ≡ [] = none_owed s.owing.log.owed s.owing first g.durable.1 owes in
@@ -50,7 +50,7 @@ module _ (names : List (List ℕ)) (k : Known) (counts : List ℕ) (m m' : Meani
         let two = makes_two m.clock m'.clock s.seated notes s'.seated takes flushes g.carries.made just in
         let now : durable_after counts (noted_all notes) ≡ slice_set counts table n = ap (λ (ns : List Note). durable_after counts (noted_all ns)) just in
         flushed_up (slice_set counts table n) now none (took_flushed k.base s.seated s'.seated table g.known.sound ready counts taking flushing n two g.durable.2)
-    flushes_durable ends r (Flushes.half first taking n owes all told some owner count) is calm = absurd (told_fault ends (is ∙ ap ending_of_flush told) calm)
+    flushes_durable ends r (Flushes.half first taking n owes fresh all told some owner count) is calm = absurd (told_fault ends (is ∙ ap ending_of_flush told) calm)
     flushes_durable ends r (Flushes.worn first owes all told worn none) is calm =
         let nothing : notes ≡ [] = all ∙ none_owed s.owing.log.owed s.owing first g.durable.1 owes in
         let same : s'.seated ≡ s.seated = makes_nothing m.clock m'.clock s.seated notes s'.seated g.carries.made nothing in

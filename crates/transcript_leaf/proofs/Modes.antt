@@ -1,10 +1,10 @@
 -- In which mode a leaf is, and what stays of its life where nothing was done.
-use Rattle.std.proofs.Common.{◌≡◌, ℕ, zero, suc, List, [], ◌∷◌, length, refl, sym, ap, subst, ◌∙◌, arith, true, Option, Some, None}
+use Rattle.std.proofs.Common.{◌≡◌, ℕ, zero, suc, List, [], ◌∷◌, length, refl, sym, ap, subst, ◌∙◌, arith, Bool, true, Option, Some, None}
 use Rattle.std.specs.Prelude.{IfSome, IsTrue, is_some, slice_get}
 use Rattle.std.specs.List.{AllByRecursion}
 use Rattle.berth_face.specs.Berth.{Meaning, Pair}
 use Rattle.leaf_words.specs.declared.ways.Way.{Way}
-use Rattle.leaf_opening.specs.Starts.{IsWayOf}
+use Rattle.leaf_opening.specs.Starts.{IsWayLeft}
 use Rattle.leaf_table.specs.Turns.{Shared, is_founded}
 use Rattle.leaf_table.specs.Calls.{base_seen, name_of}
 use Rattle.leaf_steward.specs.declared.notes.Note.{Note}
@@ -62,12 +62,16 @@ pub where_known : (known : Option Known) (leaf : Leaf) (m : Meaning) (P : Type 0
 where_known None leaf m P stands f = tt
 where_known (Some k) leaf m P stands f = f stands.tells
 
+-- what is claimed of the way, and whether the leaf was up
+abbrev pub way_claim : Life → Option Way × Bool
+way_claim life = (life.way, life.begun)
+
 -- a life with the same way, over the same region
-pub way_stays : (known : Option Known) (life next : Life) (leaf : Leaf) (m m' : Meaning) → next.way ≡ life.way → FitsNext known life leaf m
+pub way_stays : (known : Option Known) (life next : Life) (leaf : Leaf) (m m' : Meaning) → way_claim next ≡ way_claim life → FitsNext known life leaf m
     → IfSome known (λ (k : Known). m'.held.region ≡ m.held.region) → FitsWay known next m'
-way_stays None life next leaf m m' e fits same = e ∙ fits.0
+way_stays None life next leaf m m' e fits same = ap (λ (c : Option Way × Bool). c.0) e ∙ fits.0
 way_stays (Some k) life next leaf m m' e fits same =
-    subst (λ (region : List ℕ). IfSome next.way (IsWayOf region)) (sym same) (subst (λ (w : Option Way). IfSome w (IsWayOf m.held.region)) (sym e) fits.0)
+    subst (λ (region : List ℕ). IfSome next.way (IsWayLeft next.begun region)) (sym same) (subst (λ (c : Option Way × Bool). IfSome c.0 (IsWayLeft c.1 m.held.region)) (sym e) fits.0)
 
 -- nothing was done to the berth
 pub same_held : (known : Option Known) (leaf : Leaf) (m m' : Meaning) → IfSome known (λ (k : Known). StandsKnown k leaf m) → m'.held ≡ m.held

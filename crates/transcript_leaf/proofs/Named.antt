@@ -278,9 +278,9 @@ module _ (number : ℕ) (names : List (List ℕ)) (held : Pair) where
 
   -- a start that life tells as refused
   refused_goes : (tables : ℕ) (life : Life) (m m' : Meaning) (leaf : Leaf) (notes : List Note) (ends : Ending) (leaf' : Leaf) (next : Life) → IsTrue m.tells → IsDownLeaf leaf → (seated_of leaf).names ≡ names
-      → IsRead m → IsStartRefusal true life.begun tables ends → next.mode ≡ Down → next.begun ≡ life.begun → StartMoves m m' leaf notes ends leaf' → Goes life ends next m m'
+      → IsRead m → IsStartRefusal true tables life ends → next.mode ≡ Down → next.begun ≡ life.begun → StartMoves m m' leaf notes ends leaf' → Goes life ends next m m'
   refused_goes tables life m m' leaf notes ends leaf' next tells down same_names read refusal mode begun (StartMoves.opened x s way is owed each told ended now) =
-      absurd (subst (λ (e : Ending). IsStartRefusal true life.begun tables e) ended refusal)
+      absurd (subst (λ (e : Ending). IsStartRefusal true tables life e) ended refusal)
   refused_goes tables life m m' leaf notes ends leaf' next tells down same_names read refusal mode begun (StartMoves.refused x f is worn undamaged told none ended same) =
       let own : x.names ≡ names = sym (ap (λ (l : Leaf). (seated_of l).names) is) ∙ same_names in
       let exact : IsExactRefusal names m.held f = subst (λ (ns : List (List ℕ)). IsExactRefusal ns m.held f) own (told tells).exact in

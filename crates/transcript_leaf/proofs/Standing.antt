@@ -6,7 +6,7 @@ use Rattle.berth_face.specs.Berth.{Meaning}
 use Rattle.berth_face.specs.Moments.{EachNow}
 use Rattle.leaf_history.specs.History.{Entry, HistoryState}
 use Rattle.region_layout.specs.Region.{reads}
-use Rattle.leaf_opening.specs.Starts.{IsWayOf}
+use Rattle.leaf_opening.specs.Starts.{IsWayLeft}
 use Rattle.turnstile.specs.Seats.{unused_seat}
 use Rattle.crash_moments.specs.Left.{NamedStates, Left}
 use Rattle.crash_moments.specs.Told as moments
@@ -32,6 +32,7 @@ use Rattle.transcript.specs.Transcript.{Known, ground_of}
 use Rattle.transcript_leaf.specs.Session.{AreInPlace}
 use Rattle.transcript_leaf.proofs.Lists.{element_at, length_mapped, within}
 use Rattle.transcript_leaf.proofs.TableMeets.{HasLearned}
+use Rattle.transcript_leaf.proofs.Ways.{drained_way, found_way}
 
 -- ---- the tables of a leaf, place by place
 
@@ -194,7 +195,7 @@ pub leaves_met : (names : List (List ℕ)) (base : NamedStates) (life : Life) (l
     → LeavesBegin m → IsTrue m.tells → AreHandedNothing base → AreInPlace names (seated_of leaf) → AreFoundedWith base (seated_of leaf)
     → AtEach (λ place t v. seen_of v ≡ histories place) (seated_of leaf)
     → Stands base leaf m → moments.Told base (watched_with names base unseen) (watched_by (seated_of leaf)) old m
-    → IfSome life.way (IsWayOf m.held.region)
+    → IfSome life.way (IsWayLeft life.begun m.held.region)
     → LeavesBerth names base life histories old m
 leaves_met names base life leaf histories old m law tells sound in_place founded seen stands so_far way =
     let last : watched_by (seated_of leaf) ≡ watched_with names base histories = watched_as names base histories (seated_of leaf) in_place founded seen in
@@ -202,5 +203,6 @@ leaves_met names base life leaf histories old m law tells sound in_place founded
       crash = subst (λ (ws : List Watched). moments.Told base (watched_with names base unseen) ws old m) last so_far;
       left = subst (λ (ws : List Watched). EachNow (λ p. Left reads (tables_of base ws m) p) m) last (stands_whole base leaf m stands);
       begins = subst (λ (ws : List Watched). BeginsAgain (tables_of base ws m) m) last (stands_begin base leaf m law tells sound stands);
-      way = way;
+      way = found_way life.begun m.held.region life.way way;
+      layout = drained_way life.begun m.held.region life.way way;
     }

@@ -21,7 +21,7 @@ pub data Starts (told : Bool) (tables : ℕ) (life : Life) (notes : List Noted) 
       → next ≡ record { mode = Up None; way = claimed told (way_after way); durable = claimed told counts; begun = true }
       → Starts told tables life notes ends next
   refuses : life.mode ≡ Down
-      → IsStartRefusal told life.begun tables ends
+      → IsStartRefusal told tables life ends
       → notes ≡ []
       → next ≡ on life Down (way_refused ends life.way) []
       → Starts told tables life notes ends next
@@ -32,7 +32,7 @@ pub data Starts (told : Bool) (tables : ℕ) (life : Life) (notes : List Noted) 
       → Starts told tables life notes ends next
 
 module _ (told : Bool) (tables : ℕ) (life : Life) (notes : List Noted) where
-  refused : (ends : Ending) (next : Life) → (life.mode ≡ Down) × IsStartRefusal told life.begun tables ends × (notes ≡ []) × (next ≡ on life Down (way_refused ends life.way) [])
+  refused : (ends : Ending) (next : Life) → (life.mode ≡ Down) × IsStartRefusal told tables life ends × (notes ≡ []) × (next ≡ on life Down (way_refused ends life.way) [])
       → Starts told tables life notes ends next
   refused ends next h = Starts.refuses h.0 h.1 h.2 h.3
 
@@ -51,7 +51,7 @@ module _ (told : Bool) (tables : ℕ) (life : Life) (notes : List Noted) where
   starts (ending.FaultStranger name) next h = refused (ending.FaultStranger name) next h
   starts (ending.FaultWorn table) next h = refused (ending.FaultWorn table) next h
 
-  told_refused : (ends : Ending) (next : Life) → life.mode ≡ Down → IsStartRefusal told life.begun tables ends → notes ≡ [] → next ≡ on life Down (way_refused ends life.way) []
+  told_refused : (ends : Ending) (next : Life) → life.mode ≡ Down → IsStartRefusal told tables life ends → notes ≡ [] → next ≡ on life Down (way_refused ends life.way) []
       → OfStart told tables life notes ends next
   told_refused (ending.Started way) next down refusal none now = absurd refusal
   told_refused ending.NotDown next down refusal none now = absurd refusal

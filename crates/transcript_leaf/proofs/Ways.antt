@@ -1,21 +1,22 @@
 -- The one way of a region, and that of what a start leaves of it.
-use Rattle.std.proofs.Common.{◌≡◌, inl, ℕ, Bool, true, false, cond, ltb, eqb, List, length, refl, sym, ap, ◌∙◌}
-use Rattle.std.specs.Prelude.{slice_index}
+use Rattle.std.proofs.Common.{◌≡◌, inl, ℕ, Bool, true, false, cond, ltb, eqb, List, length, Option, Some, None, refl, sym, ap, subst, ◌∙◌}
+use Rattle.std.specs.Prelude.{◌≢◌, IfSome, slice_index}
 use Rattle.std.proofs.lemmas.Bool.{ltb-true}
 use Rattle.berth_face.specs.Berth.{Meaning, Pair, IsClosed}
 use Rattle.region_head.specs.declared.head.Head.{Head}
 use Rattle.region_head.specs.declared.head.Head.TheVariants as head
+use Rattle.region_head.specs.declared.head.Head.TheVariants.{Version}
 use Rattle.region_layout.specs.Images.{TableImage}
 use Rattle.region_head.specs.Head.{head_of, version_of}
 use Rattle.region_head.proofs.Heads.{closed_head, shut_head}
-use Rattle.region_layout.specs.Region.{IsAdoptable, reads}
+use Rattle.region_layout.specs.Region.{IsAdoptable, layout, reads}
 use Rattle.leaf_words.specs.declared.ways.WhyDisk.{WhyDisk}
 use Rattle.leaf_words.specs.declared.ways.WhyDisk.TheVariants as why
 use Rattle.adopt.specs.Adopting.{HasNoStranger, IsLeftBehind, IsNoImage, IsStranger, IsWhy}
 use Rattle.leaf_words.specs.declared.ways.Way.{Way}
 use Rattle.leaf_words.specs.declared.ways.Way.TheVariants.{Memory, Disk}
 use Rattle.leaf_opening.specs.Answers.{GoesToLog}
-use Rattle.leaf_opening.specs.Starts.{IsWayOf, way_after}
+use Rattle.leaf_opening.specs.Starts.{IsWayLeft, IsWayOf, way_after}
 use Rattle.leaf_opening.proofs.Exact.{why_alone}
 use Rattle.crash_moments.specs.Left.{NamedStates, RegionLeft}
 use Rattle.leaf_steward.specs.Seated.{Seated}
@@ -119,6 +120,25 @@ way_left region now (Disk (why.Closed flag)) left h = ap (λ (r : List ℕ). hea
 way_left region now (Disk (why.OtherVersion v)) left h = left.opened v h.0
 way_left region now (Disk why.NoImage) left h = left.opened h.0 h.1
 
+-- ---- ways that are left
+
+pub found_way : (begun : Bool) (region : List ℕ) (way : Option Way) → IfSome way (IsWayLeft begun region) → IfSome way (IsWayOf region)
+found_way begun region None h = tt
+found_way begun region (Some w) h = h.0
+
+pub drained_way : (begun : Bool) (region : List ℕ) (way : Option Way) → IfSome way (IsWayLeft begun region) → begun ≡ true → way ≡ Some Memory → head_of region ≡ Version layout
+drained_way begun region way h up is = (subst (λ (w : Option Way). IfSome w (IsWayLeft begun region)) is h).1 up refl
+
+pub left_as : (begun : Bool) (region : List ℕ) (way : Way) → IsWayOf region way → way ≢ Memory → IsWayLeft begun region way
+left_as begun region way is other = (is, λ up memory. absurd (other memory))
+
+pub after_start : (way : Way) → way_after way ≢ Memory
+after_start Memory = λ e. cc
+after_start (Disk why.NoHead) = λ e. cc
+after_start (Disk (why.Closed flag)) = λ e. cc
+after_start (Disk (why.OtherVersion version)) = λ e. cc
+after_start (Disk why.NoImage) = λ e. cc
+
 -- ---- what a leaf left is never bytes that are no image
 
 left_why : (tables : NamedStates) (p : Pair) → RegionLeft reads tables p → IsWhy p.region why.NoImage → ⊥
@@ -153,6 +173,9 @@ goes_own names region (why.Closed flag, w) name s = no_read region name names (h
 goes_own names region (why.OtherVersion v, w) name s = read_not (head_of region) s.0 v s.3.head w.0 s.2 w.1
 goes_own names region (why.NoImage, w) name s = w.1 name s
 
--- and no image
+-- and no image, so no start comes from memory
 pub goes_none : (names : List (List ℕ)) (region : List ℕ) → GoesToLog names region → IsNoImage region
 goes_none names region goes = λ images log_end is. no_why region images log_end is goes.0 (why_alone names region goes.0 goes.1)
+
+pub not_memory : (names : List (List ℕ)) (region : List ℕ) (way : Option Way) → GoesToLog names region → IfSome way (IsWayOf region) → way ≢ Some Memory
+not_memory names region way goes is e = let image = subst (λ (w : Option Way). IfSome w (IsWayOf region)) e is in goes_none names region goes image.0 image.1 image.2

@@ -25,7 +25,7 @@ use Rattle.transcript.specs.Pieces.{Acted, Noted, Piece}
 use Rattle.transcript.specs.Answers.{WornIsLong}
 use Rattle.leaf_moves.specs.Holds.{Hold, caller_in, seen_by, seen_in, steward_in, with_callers}
 use Rattle.leaf_moves.specs.Stage.{Leaf, IsUp, seated_of}
-use Rattle.leaf_moves.specs.Steps.{CallStep, DrainMoves, FlushMoves, IsReplyPiece, IsWornFor, KillMoves, Moves, StartMoves, ending_of, ending_of_flush, noted_all}
+use Rattle.leaf_moves.specs.Steps.{CallStep, DrainMoves, FlushMoves, IsReplyPiece, IsTrueOf, KillMoves, Moves, StartMoves, ending_of, ending_of_flush, noted_all}
 use Rattle.transcript_leaf.proofs.Terms.{TellsOn}
 use Rattle.transcript_leaf.proofs.Places.{caller_set}
 
@@ -76,7 +76,7 @@ reached number histories leaf x place is reach worn =
 abbrev DeedIsLong : ℕ → (ℕ → ℕ → List Entry) → Deed → List Noted → Ending → Type 0
 DeedIsLong number histories deed notes ends = WornIsLong histories (Acted number deed notes ends)
 
-refused_worn : (number : ℕ) (histories : ℕ → ℕ → List Entry) (notes : List Noted) (leaf : Leaf) (x : Seated) (f : StartFault) → seated_of leaf ≡ x → IsWornFor x f → Reach number leaf histories
+refused_worn : (number : ℕ) (histories : ℕ → ℕ → List Entry) (notes : List Noted) (leaf : Leaf) (x : Seated) (f : StartFault) → seated_of leaf ≡ x → IsTrueOf x f → Reach number leaf histories
     → DeedIsLong number histories Start notes (ending_of f)
 refused_worn number histories notes leaf x (fault.Worn table) is worn reach = reached number histories leaf x table is reach worn
 refused_worn number histories notes leaf x f is worn reach = tt
@@ -94,9 +94,9 @@ start_worn number histories m m' leaf notes ends leaf' (StartMoves.not_down up n
 -- how a flush ends
 flush_ends : (number : ℕ) (table : ℕ) (histories : ℕ → ℕ → List Entry) (heard : List Noted) (s s' : Serving) (notes : List Note) (r : FlushReply) (leaf' : Leaf)
     → leaf' ≡ IsUp s' → Flushing table s s' notes r → Reach number leaf' histories → DeedIsLong number histories (Flush table) heard (ending_of_flush r)
-flush_ends number table histories heard s s' notes r leaf' now (Flushing.done first taking flushing n owed notes_are reply_is none) reach =
+flush_ends number table histories heard s s' notes r leaf' now (Flushing.done first taking flushing n owed fresh notes_are reply_is none) reach =
     subst (λ (x : FlushReply). DeedIsLong number histories (Flush table) heard (ending_of_flush x)) (sym reply_is) tt
-flush_ends number table histories heard s s' notes r leaf' now (Flushing.half first taking n owed notes_are reply_is some owner count) reach =
+flush_ends number table histories heard s s' notes r leaf' now (Flushing.half first taking n owed fresh notes_are reply_is some owner count) reach =
     subst (λ (x : FlushReply). DeedIsLong number histories (Flush table) heard (ending_of_flush x)) (sym reply_is) tt
 flush_ends number table histories heard s s' notes r leaf' now (Flushing.worn first owed notes_are reply_is worn none) reach =
     subst (λ (x : FlushReply). DeedIsLong number histories (Flush table) heard (ending_of_flush x)) (sym reply_is) (reached number histories leaf' s'.seated table (ap seated_of now) reach worn)

@@ -2,7 +2,7 @@
 use Rattle.std.specs.Prelude.{◌≡◌, ℕ, ◌≤◌, Bool, true, false, List, Option, Some, None, IfSome, is_some, length, map}
 use Rattle.berth_face.specs.Berth.{Meaning}
 use Rattle.leaf_words.specs.declared.ways.Way.{Way}
-use Rattle.leaf_opening.specs.Starts.{IsWayOf}
+use Rattle.leaf_opening.specs.Starts.{IsWayLeft}
 use Rattle.printed_lines.specs.declared.line.Ending.{Ending}
 use Rattle.printed_lines.specs.declared.line.Ending.TheVariants as ends
 use Rattle.printed_lines.specs.declared.line.Said.TheVariants.{Opened}
@@ -33,7 +33,7 @@ pub data CountsGo (told : Bool) (deed : Deed) (life : Life) (notes : List Noted)
 -- the way of the next start, where it is claimed
 abbrev pub FitsWay : Option Known → Life → Meaning → Type 0
 FitsWay None life m = life.way ≡ None
-FitsWay (Some k) life m = IfSome life.way (IsWayOf m.held.region)
+FitsWay (Some k) life m = IfSome life.way (IsWayLeft life.begun m.held.region)
 
 -- What a deed hands over: tables, in these entries, that had so many columns: at least those that the histories tell. Behind a deed that does not end a copy these are the columns that it has
 -- at most, no more than the histories tell behind the leaf's entries; and behind one whose copy has no room these are the rows, cells and writes of its tables.

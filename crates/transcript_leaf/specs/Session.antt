@@ -8,7 +8,7 @@ use Rattle.leaf_history.specs.History.{Entry, LegalFrom, after}
 use Rattle.leaf_model.specs.Names.{AreDistinct}
 use Rattle.adopt.specs.Adopting.{HasNoStranger}
 use Rattle.disk_backup.specs.Scanning.{BeginsScan}
-use Rattle.leaf_opening.specs.Starts.{IsWayOf}
+use Rattle.leaf_opening.specs.Starts.{IsWayLeft}
 use Rattle.crash_moments.specs.Left.{NamedStates}
 use Rattle.crash_moments.specs.Told as moments
 use Rattle.crash_moments.specs.Watched.{was_opened}
@@ -121,7 +121,7 @@ IsDurable base counts (IsPreparing x) m = (length counts ≡ length x.serving.se
 -- so will its next start be, where that is claimed; nothing is of a berth of which nothing is known
 abbrev pub FitsNext : Option Known → Life → Leaf → Meaning → Type 0
 FitsNext None life leaf m = (life.way ≡ None) × (life.durable ≡ None)
-FitsNext (Some k) life leaf m = IfSome life.way (IsWayOf m.held.region) × IfSome life.durable (λ counts. IsDurable k.base counts leaf m)
+FitsNext (Some k) life leaf m = IfSome life.way (IsWayLeft life.begun m.held.region) × IfSome life.durable (λ counts. IsDurable k.base counts leaf m)
 
 -- the tables begin from this ground
 abbrev pub AreGrounded : Option Known → Seated → Type 0

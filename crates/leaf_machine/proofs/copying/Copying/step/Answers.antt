@@ -1,6 +1,6 @@
 use Rattle.std.specs.Prelude.{◌⊎◌, ◌≢◌, IsTrue}
 use Rattle.berth_face.specs.Berth.{IsClosed}
-use Rattle.std.proofs.Common.{rules, ◌≡◌, ◌∙◌, suc, [], refl, sym, ap, subst}
+use Rattle.std.proofs.Common.{rules, ◌≡◌, ◌∙◌, suc, true, [], refl, sym, ap, subst}
 use Rattle.drain_copy.specs.declared.step.DrainStep.{DrainStep}
 use Rattle.drain_copy.specs.declared.step.DrainStep.TheVariants.{Finished}
 use Rattle.drain_copy.specs.declared.step.Next.TheVariants as next
@@ -8,7 +8,7 @@ use Rattle.drain_copy.specs.Draining.{IsInRoom, IsStep, left}
 use Rattle.drain_copy.specs.Regions.{IsCutOrBegun}
 use Rattle.berth_face.specs.Moments.{Meanwhile}
 use Rattle.leaf_words.specs.declared.ways.Way.TheVariants.{Memory}
-use Rattle.leaf_opening.specs.Starts.{IsWayOf}
+use Rattle.leaf_opening.specs.Starts.{IsWayLeft}
 use Rattle.crash_states.specs.Standing.{Copies}
 use Rattle.leaf_steward.specs.Seated.{AreFounded, watched_by}
 use Rattle.leaf_steward.specs.Making.{Makes}
@@ -41,7 +41,7 @@ invariant_of-result g c =
     copied_down x inside.drain m n y c.self.invariant step.time (makes_tables n.clock n.clock x c.hand_over.new.notes y c.hand_over.ensures.made) c.hand_over.ensures.shut
     (λ told founded writes copies.
     (copy_last x inside.drain m n y c.hand_over.new.notes c.sits.ensures founded c.hand_over.ensures.made c.hand_over.ensures.each (made told)
-    (λ draining. last_region inside.drain c.step.new.self n.held.region last (step.told told draining) step.image) writes copies).0)
+    (λ draining. last_region inside.drain c.step.new.self n.held.region last (step.told told draining) step.image) step.layout writes copies).0)
 
 pub returns-in-Ok-Finished-clause-step : goal.returns-in-Ok-Finished-clause-step
 returns-in-Ok-Finished-clause-step g c =
@@ -77,9 +77,9 @@ returns-in-Ok-Finished-clause-crash g c =
       stands = record { reads = law.stands c.step.new.berth tells; regions = λ p left. law.keeps_region c.step.new.berth p tells left };
       moments = step.moments told;
     } in
-    subst (λ v. RestsOn v.0.seated y (g.B.Berth.meaning v.1) n × IsWayOf n.held.region Memory) c.self.view_is
+    subst (λ v. RestsOn v.0.seated y (g.B.Berth.meaning v.1) n × IsWayLeft true n.held.region Memory) c.self.view_is
     (copy_last x inside.drain m n y c.hand_over.new.notes c.sits.ensures founded c.hand_over.ensures.made c.hand_over.ensures.each made
-    (λ draining. last_region inside.drain c.step.new.self n.held.region last (step.told told draining) step.image) writes copies)
+    (λ draining. last_region inside.drain c.step.new.self n.held.region last (step.told told draining) step.image) step.layout writes copies)
 
 -- ---- a step that is not the last
 

@@ -196,7 +196,7 @@ pub returns-in-Err-clause-start : goal.returns-in-Err-clause-start
 returns-in-Err-clause-start g c =
     let x = c.self.inside.seats in
     subst (λ l. IsStart l.0 l.1 c.clear.new.self (Err ((x, c.open_tables.new.berth), c.told.result))) c.self.view_is
-    (start_as c.in-Err.fault c.told.result c.told.ensures x c.self.inside.berth c.open_tables.new.berth c.clear.new.self c.in_default.ensures.none c.clear.ensures)
+    (start_as c.in-Err.fault c.told.result c.told.ensures x c.self.inside.berth c.open_tables.new.berth c.clear.new.self c.in_default.ensures.none c.clear.ensures c.in-Err.ensures.named)
 
 pub returns-in-Err-clause-made : goal.returns-in-Err-clause-made
 returns-in-Err-clause-made g c =
