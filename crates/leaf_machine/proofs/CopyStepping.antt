@@ -158,9 +158,13 @@ module _ (x : Seated) (drain : DrainState) (a b : Meaning) where
         → RestsOn x y a b × IsWayLeft true b.held.region Memory
     copy_last made whole laid writes copies =
         let region : b.held.region ≡ drain.image = whole copies.draining in
-        let holds : Holds ws drain.image writes b = step_last ws drain writes a b copies (stepped writes copies made) region in
-        (handed_rests writes copies made holds, ((copies.images, copies.log_end, subst (λ (bytes : List ℕ). IsAdoptable bytes copies.images copies.log_end) (sym region) copies.image),
-          λ up memory. ap (λ (bytes : List ℕ). head_of bytes) region ∙ laid))
+        let holds : Holds ws drain.image writes b = step_last ws drain writes a b copies (stepped writes copies made) region in (
+          handed_rests writes copies made holds,
+          (
+            (copies.images, copies.log_end, subst (λ (bytes : List ℕ). IsAdoptable bytes copies.images copies.log_end) (sym region) copies.image),
+            λ up memory. ap (λ (bytes : List ℕ). head_of bytes) region ∙ laid,
+          ),
+        )
 
 -- the copy is given up
 pub copy_left : (x : Seated) (drain : DrainState) (m : Meaning) (writes : List ℕ → List Write) → Copies (watched_by x) drain writes m → RestsOn x x m m
