@@ -1,8 +1,8 @@
--- What leaves in order, cut by the share, are a plan of.
+-- What leaves in order, cut by the share, are a plan, do.
 use Rattle.std.proofs.Common.{◌≡◌, ℕ, ◌*◌, ◌<◌, ◌≤◌, List, length, map, ap, ◌∙◌, subst, arith}
 use Rattle.std.specs.List.{range_with_len}
 use Rattle.std.proofs.lemmas.List.FromFn.{length-map-range_with_len}
-use Rattle.rollover_plan.specs.Plan.{share, by_place, times, IsCutInWaves, IsPlan, IsFewest}
+use Rattle.rollover_plan.specs.Plan.{share, by_place, times, IsCutInWaves, IsFewest, RollsEachOnce}
 use Rattle.rollover_plan.proofs.Turns.{leaf_at, by_turns}
 use Rattle.rollover_plan.proofs.Cuts.{cut_joined, cut_few, cut_all, cut_count}
 use Rattle.rollover_plan.proofs.Apart.{leaves_known, cut_apart}
@@ -22,9 +22,8 @@ module _ (m p percent : ℕ) (machines : 0 < m) (places : 0 < p) (waves : List (
   cut_turns : IsCutInWaves (share m p percent) (map (leaf_at m p) (range_with_len 0 (m * p))) waves
   cut_turns = subst (λ leaves. IsCutInWaves (share m p percent) leaves waves) (by_turns m p machines) cut
 
-  pub planned : IsPlan m p percent waves
+  pub planned : RollsEachOnce m p percent waves
   planned = record {
-    cut = cut;
     once = λ leaf below. ap (times leaf) (cut_joined (share m p percent) (by_place m p) waves cut) ∙ leaf_once m p leaf machines places below;
     known = cut_all (λ leaf. leaf < m * p) (share m p percent) (map (leaf_at m p) (range_with_len 0 (m * p))) waves cut_turns (leaves_known m p machines);
     few = cut_few (share m p percent) (by_place m p) waves cut;

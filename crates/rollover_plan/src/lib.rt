@@ -5,6 +5,6 @@ mod laws;
 mod plan;
 mod wave;
 
-pub use laws::one_plan;
+pub use laws::{one_plan, plan_rolls_each_once};
 pub use plan::waves;
 pub use wave::{Wave, Waves};

@@ -1,6 +1,6 @@
 // The waves of a rollover.
 ghost use Rattle.std.specs.Prelude.{◌≡◌, ◌+◌, ◌*◌, ◌/◌, ◌%◌, ◌<◌, ◌≤◌, length, IfOk};
-ghost use Rattle.rollover_plan.specs.Plan.{share, by_place, IsCutInWaves, IsPlan, IsFewest};
+ghost use Rattle.rollover_plan.specs.Plan.{share, by_place, IsCutInWaves, IsPlan, IsFewest, RollsEachOnce};
 
 use crate::wave::{Wave, Waves};
 use std::alloc::{AllocError, Global};
@@ -66,6 +66,7 @@ pub fn waves(
     requires low { 0 < percent }
     requires high { percent ≤ 100 }
     ensures plan { IfOk result (λ waves. IsPlan machines per_machine percent waves) }
+    ensures each_once { IfOk result (λ waves. RollsEachOnce machines per_machine percent waves) }
     ensures fewest { IfOk result (λ waves. IsFewest (machines * per_machine) (share machines per_machine percent) waves) }
     ensures count { IfOk result (λ waves. length waves ≤ machines * per_machine) }
 {
