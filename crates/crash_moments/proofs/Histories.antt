@@ -13,7 +13,7 @@ use Rattle.leaf_history.specs.Calls.{Call}
 use Rattle.leaf_history.specs.Calls as call
 use Rattle.leaf_history.specs.Replies.{Reply}
 use Rattle.leaf_history.specs.Replies as reply
-use Rattle.leaf_history.specs.History.{Entry, HistoryState, LegalFrom, Allowed, AddReply, HasRoom, after, after_entry, changed, is_refusal}
+use Rattle.leaf_history.specs.History.{Entry, HistoryState, LegalFrom, Allowed, AddReply, after, after_entry, changed, held, is_refusal}
 use Rattle.leaf_history.specs.Laws.{CallersKeep, AreCallers, HasSoundCounts}
 use Rattle.leaf_history.proofs.Histories.{LegalFrom-back, after-append, others_keep, counts_stay}
 use Rattle.crash_moments.specs.Watched.{Between, IsFoundation, is_made, cut, state_then, now_of}
@@ -60,7 +60,7 @@ written_within most writes w within fits k = elim (cases_lt (length writes) k) [
 -- ---- one accepted call
 
 -- an add that was accepted had room
-had_room : (s : HistoryState) (rows : List Row) (r : Reply) → AddReply s rows r → is_refusal r ≡ false → HasRoom s rows
+had_room : (s : HistoryState) (rows : List Row) (r : Reply) → AddReply s rows r → is_refusal r ≡ false → length (held s).rows + kept_count (held s) rows ≤ 2 ^ 40
 had_room s rows (reply.Added kept late) a accepted = a.1
 had_room s rows reply.Shut a accepted = absurd (true≢false accepted)
 had_room s rows reply.Full a accepted = absurd (true≢false accepted)

@@ -43,15 +43,7 @@ held s = content_from s.before s.writes
 
 -- a shut table of these writes; the disk is known to hold the first n of them
 abbrev pub base_of : List Write → ℕ → HistoryState
-base_of writes flushed = record {
-  before = nothing;
-  handed_in = 0;
-  writes = writes;
-  live = false;
-  taken = length writes;
-  flushed = flushed;
-  handed = false;
-}
+base_of writes flushed = record { before = nothing; handed_in = 0; writes = writes; live = false; taken = length writes; flushed = flushed; handed = false }
 
 -- a table without a known base begins shut and with no writes
 abbrev pub no_base : HistoryState
@@ -68,34 +60,21 @@ first_writes s n = take (n - s.handed_in) s.writes
 -- the state once the table is opened again: a table with a known base (`founded`) has the first n of its writes, any
 -- other has what is handed in
 abbrev pub opened : Bool → HistoryState → ℕ → Contents → HistoryState
-opened true s n contents = record s {
-  writes = first_writes s n;
-  live = true;
-  taken = n;
-  flushed = n;
-  handed = false;
-}
-opened false s n contents = record {
-  before = contents;
-  handed_in = n;
-  writes = [];
-  live = true;
-  taken = n;
-  flushed = n;
-  handed = false;
-}
+opened true s n contents = record s { writes = first_writes s n; live = true; taken = n; flushed = n; handed = false }
+opened false s n contents = record { before = contents; handed_in = n; writes = []; live = true; taken = n; flushed = n; handed = false }
 
--- the state after a call that was accepted
-abbrev pub changed : Bool → HistoryState → Call → HistoryState
-changed founded s (call.Add rows) = written s (write.Add rows)
-changed founded s (call.Expire horizon) = written s (write.Expire horizon)
-changed founded s (call.Keep n) = written s (write.Keep n)
-changed founded s (call.Ask q) = s
-changed founded s call.Take = record s { taken = write_count s }
-changed founded s (call.Flushed n) = record s { flushed = max s.flushed n }
-changed founded s call.Shut = record s { live = false; taken = write_count s }
-changed founded s call.Done = record s { handed = true }
-changed founded s (call.Open n contents) = opened founded s n contents
+module _ (founded : Bool) (s : HistoryState) where
+  -- the state after a call that was accepted
+  abbrev pub changed : Call → HistoryState
+  changed (call.Add rows) = written s (write.Add rows)
+  changed (call.Expire horizon) = written s (write.Expire horizon)
+  changed (call.Keep n) = written s (write.Keep n)
+  changed (call.Ask q) = s
+  changed call.Take = record s { taken = write_count s }
+  changed (call.Flushed n) = record s { flushed = max s.flushed n }
+  changed call.Shut = record s { live = false; taken = write_count s }
+  changed call.Done = record s { handed = true }
+  changed (call.Open n contents) = opened founded s n contents
 
 abbrev pub is_refusal : Reply → Bool
 is_refusal reply.Shut = true
@@ -111,39 +90,33 @@ after_entry founded s e = if is_refusal e.reply then s else changed founded s e.
 abbrev pub after : Bool → HistoryState → List Entry → HistoryState
 after founded s entries = fold (after_entry founded) s entries
 
--- the table would pass 2^40 rows
-abbrev pub IsFull : HistoryState → List Row → Type 0
-IsFull s rows = 2 ^ 40 < length (held s).rows + kept_count (held s) rows
+module _ (s : HistoryState) where
+  -- the replies that an add may have: a table is full where it would pass 2^40 rows
+  abbrev pub AddReply : List Row → Reply → Type 0
+  AddReply rows reply.Shut = s.live ≡ false
+  AddReply rows reply.NoMemory = s.live ≡ true
+  AddReply rows reply.Full = (s.live ≡ true) × (2 ^ 40 < length (held s).rows + kept_count (held s) rows)
+  AddReply rows (reply.Added kept late) = (s.live ≡ true) × (length (held s).rows + kept_count (held s) rows ≤ 2 ^ 40) × (kept ≡ kept_count (held s) rows) × (late ≡ late_count (held s) rows)
+  AddReply rows _ = ⊥
 
-abbrev pub HasRoom : HistoryState → List Row → Type 0
-HasRoom s rows = length (held s).rows + kept_count (held s) rows ≤ 2 ^ 40
+  -- the replies that an expiry or a keep may have
+  abbrev pub RemoveReply : Write → Reply → Type 0
+  RemoveReply w reply.Shut = s.live ≡ false
+  RemoveReply w reply.NoMemory = s.live ≡ true
+  RemoveReply w (reply.Removed n) = (s.live ≡ true) × (n ≡ removed_count (held s) w)
+  RemoveReply w _ = ⊥
 
--- the replies that an add may have
-abbrev pub AddReply : HistoryState → List Row → Reply → Type 0
-AddReply s rows reply.Shut = s.live ≡ false
-AddReply s rows reply.NoMemory = s.live ≡ true
-AddReply s rows reply.Full = (s.live ≡ true) × IsFull s rows
-AddReply s rows (reply.Added kept late) = (s.live ≡ true) × HasRoom s rows × (kept ≡ kept_count (held s) rows) × (late ≡ late_count (held s) rows)
-AddReply s rows _ = ⊥
+  -- the replies that a query may have
+  abbrev pub AskReply : Query → Reply → Type 0
+  AskReply q reply.Shut = s.live ≡ false
+  AskReply q reply.NoMemory = s.live ≡ true
+  AskReply q (reply.Groups gs) = (s.live ≡ true) × (gs ≡ groups q (held s).rows)
+  AskReply q _ = ⊥
 
--- the replies that an expiry or a keep may have
-abbrev pub RemoveReply : HistoryState → Write → Reply → Type 0
-RemoveReply s w reply.Shut = s.live ≡ false
-RemoveReply s w reply.NoMemory = s.live ≡ true
-RemoveReply s w (reply.Removed n) = (s.live ≡ true) × (n ≡ removed_count (held s) w)
-RemoveReply s w _ = ⊥
-
--- the replies that a query may have
-abbrev pub AskReply : HistoryState → Query → Reply → Type 0
-AskReply s q reply.Shut = s.live ≡ false
-AskReply s q reply.NoMemory = s.live ≡ true
-AskReply s q (reply.Groups gs) = (s.live ≡ true) × (gs ≡ groups q (held s).rows)
-AskReply s q _ = ⊥
-
--- the reply tells the length of W
-abbrev pub CountReply : HistoryState → Reply → Type 0
-CountReply s (reply.Counted n) = n ≡ write_count s
-CountReply s _ = ⊥
+  -- the reply tells the length of W
+  abbrev pub CountReply : Reply → Type 0
+  CountReply (reply.Counted n) = n ≡ write_count s
+  CountReply _ = ⊥
 
 -- a table with a known base is opened with a prefix, of n writes, of its writes, which has each flushed one; after a
 -- drain with all of them
@@ -157,17 +130,18 @@ abbrev pub OpenAllowed : Bool → HistoryState → ℕ → Contents → Type 0
 OpenAllowed true s n contents = MayOpen s n contents
 OpenAllowed false s n contents = ⊤
 
--- the entries that may come next: who may call, and the replies that agree with the state
-abbrev pub Allowed : Bool → HistoryState → ℕ → Call → Reply → Type 0
-Allowed founded s caller (call.Add rows) r = (0 < caller) × AddReply s rows r
-Allowed founded s caller (call.Expire horizon) r = (0 < caller) × RemoveReply s (write.Expire horizon) r
-Allowed founded s caller (call.Keep n) r = (0 < caller) × RemoveReply s (write.Keep n) r
-Allowed founded s caller (call.Ask q) r = (0 < caller) × AskReply s q r
-Allowed founded s caller call.Take r = (caller ≡ 0) × (s.live ≡ true) × CountReply s r
-Allowed founded s caller (call.Flushed n) r = (caller ≡ 0) × (n ≤ s.taken) × (r ≡ reply.Noted)
-Allowed founded s caller call.Shut r = (caller ≡ 0) × (s.live ≡ true) × CountReply s r
-Allowed founded s caller call.Done r = (caller ≡ 0) × (s.live ≡ false) × (r ≡ reply.Noted)
-Allowed founded s caller (call.Open n contents) r = (caller ≡ 0) × (s.live ≡ false) × OpenAllowed founded s n contents × (r ≡ reply.Noted)
+module _ (founded : Bool) (s : HistoryState) (caller : ℕ) where
+  -- the entries that may come next: who may call, and the replies that agree with the state
+  abbrev pub Allowed : Call → Reply → Type 0
+  Allowed (call.Add rows) r = (0 < caller) × AddReply s rows r
+  Allowed (call.Expire horizon) r = (0 < caller) × RemoveReply s (write.Expire horizon) r
+  Allowed (call.Keep n) r = (0 < caller) × RemoveReply s (write.Keep n) r
+  Allowed (call.Ask q) r = (0 < caller) × AskReply s q r
+  Allowed call.Take r = (caller ≡ 0) × (s.live ≡ true) × CountReply s r
+  Allowed (call.Flushed n) r = (caller ≡ 0) × (n ≤ s.taken) × (r ≡ reply.Noted)
+  Allowed call.Shut r = (caller ≡ 0) × (s.live ≡ true) × CountReply s r
+  Allowed call.Done r = (caller ≡ 0) × (s.live ≡ false) × (r ≡ reply.Noted)
+  Allowed (call.Open n contents) r = (caller ≡ 0) × (s.live ≡ false) × OpenAllowed founded s n contents × (r ≡ reply.Noted)
 
 -- each entry agrees with the state that the entries before it give
 abbrev pub LegalFrom : Bool → HistoryState → List Entry → Type 0
