@@ -1,5 +1,5 @@
 -- The text of each printed line.
-use Rattle.std.specs.Prelude.{ℕ, zero, suc, ◌<◌, Bool, true, false, List, [], ◌∷◌, ◌++◌, length, ⊤, decimal, codes, Option, Some, None}
+use Rattle.std.specs.Prelude.{ℕ, zero, suc, ◌<◌, if◌then◌else◌, List, [], ◌∷◌, ◌++◌, length, ⊤, decimal, codes, Option, Some, None}
 use Rattle.std.specs.List.{flat_map}
 use Rattle.leaf_words.specs.declared.ways.Way.{Way}
 use Rattle.leaf_words.specs.declared.ways.Way.TheVariants.{Memory, Disk}
@@ -50,114 +50,61 @@ name_at [] place = []
 name_at (name ∷ names) zero = name
 name_at (name ∷ names) (suc place) = name_at names place
 
--- how a command ended; the fleet's tables have these names
-abbrev pub ending_text : List (List ℕ) → Ending → List ℕ
-ending_text names Done = codes "done"
-ending_text names Stopped = codes "stopped"
-ending_text names NotUp = codes "not up"
-ending_text names NotDown = codes "not down"
-ending_text names ends.Worn = codes "worn"
-ending_text names (Started way) = way_text way
-ending_text names FaultRegion = codes "fault region"
-ending_text names FaultRoom = codes "fault room"
-ending_text names FaultDisk = codes "fault disk"
-ending_text names FaultDamaged = codes "fault damaged"
-ending_text names FaultMemory = codes "fault memory"
-ending_text names (FaultStranger name) = codes "fault stranger " ++ name
-ending_text names (FaultWorn table) = codes "fault worn " ++ name_at names table
-
--- the line of an entry, of the table of this name
-abbrev pub entry_text : ℕ → List ℕ → ℕ → Said → List ℕ
-entry_text leaf name number said = decimal leaf ++ (32 ∷ (name ++ (codes " #" ++ (decimal number ++ (32 ∷ (said_text said ++ 10 ∷ []))))))
-
--- the line of a call of a worn seat, of the table of this name
-abbrev pub worn_text : ℕ → List ℕ → List ℕ
-worn_text leaf name = decimal leaf ++ (32 ∷ (name ++ (codes " refused worn" ++ 10 ∷ [])))
-
 -- a line of an answer
 abbrev pub row_line : List ℕ → List ℕ
 row_line row = row ++ 10 ∷ []
 
--- the first line of an answer
-abbrev pub answer_head : ℕ → ℕ → ℕ → List ℕ
-answer_head named leaves count =
-    codes "answer named " ++ (decimal named ++ (codes " of " ++ (decimal leaves ++ (codes " lines " ++ (decimal count ++ 10 ∷ [])))))
-
--- an answer: its first line, and its own lines after it
-abbrev pub answer_text : ℕ → ℕ → List (List ℕ) → List ℕ
-answer_text named leaves rows = answer_head named leaves (length rows) ++ flat_map row_line rows
-
--- the line of a tail, whose rows were added to this leaf, or to none
+-- to which leaf the rows of a tail were added
 abbrev pub tailed_text : Option ℕ → List ℕ
 tailed_text (Some leaf) = codes "tail sent " ++ (decimal leaf ++ 10 ∷ [])
 tailed_text None = codes "tail refused" ++ 10 ∷ []
-
--- the line of a standing query that was declared
-abbrev pub declared_text : ℕ → List ℕ
-declared_text standing = codes "standing " ++ (decimal standing ++ 10 ∷ [])
-
--- the first line of what a standing query tells up to that entry
-abbrev pub told_head : ℕ → ℕ → ℕ → List ℕ
-told_head standing number count = codes "standing " ++ (decimal standing ++ (codes " at #" ++ (decimal number ++ (codes " lines " ++ (decimal count ++ 10 ∷ [])))))
-
--- what a standing query tells: its first line, and its own lines after it
-abbrev pub told_text : ℕ → ℕ → List (List ℕ) → List ℕ
-told_text standing number rows = told_head standing number (length rows) ++ flat_map row_line rows
 
 abbrev pub untold_word : WhyUntold → List ℕ
 untold_word untold.Shut = codes "shut"
 untold_word untold.Worn = codes "worn"
 untold_word untold.Memory = codes "memory"
 
--- the line of a standing query that told nothing
-abbrev pub untold_text : ℕ → WhyUntold → List ℕ
-untold_text standing why = codes "standing " ++ (decimal standing ++ (32 ∷ (untold_word why ++ 10 ∷ [])))
+-- ---- the lines of a fleet whose tables have these names
 
--- the line of a command of a leaf's steward
-abbrev pub ended_text : List (List ℕ) → Deed → ℕ → Ending → List ℕ
-ended_text names deed leaf ending = deed_text deed ++ (32 ∷ (decimal leaf ++ (32 ∷ (ending_text names ending ++ 10 ∷ []))))
+module _ (names : List (List ℕ)) where
+  -- how a command ended
+  abbrev pub ending_text : Ending → List ℕ
+  ending_text Done = codes "done"
+  ending_text Stopped = codes "stopped"
+  ending_text NotUp = codes "not up"
+  ending_text NotDown = codes "not down"
+  ending_text ends.Worn = codes "worn"
+  ending_text (Started way) = way_text way
+  ending_text FaultRegion = codes "fault region"
+  ending_text FaultRoom = codes "fault room"
+  ending_text FaultDisk = codes "fault disk"
+  ending_text FaultDamaged = codes "fault damaged"
+  ending_text FaultMemory = codes "fault memory"
+  ending_text (FaultStranger name) = codes "fault stranger " ++ name
+  ending_text (FaultWorn table) = codes "fault worn " ++ name_at names table
 
--- the line before those of a lane
-abbrev pub lane_text : ℕ → List ℕ
-lane_text number = codes "lane " ++ (decimal number ++ 10 ∷ [])
+  -- The text of a line. An answer, and what a standing query tells up to an entry, have their own lines after the first. A wave has its leaves, and a
+  -- rollover ended after so many waves of all.
+  abbrev pub line_text : Line → List ℕ
+  line_text (Entry leaf table number said) = decimal leaf ++ (32 ∷ (name_at names table ++ (codes " #" ++ (decimal number ++ (32 ∷ (said_text said ++ 10 ∷ []))))))
+  line_text (Worn leaf table) = decimal leaf ++ (32 ∷ (name_at names table ++ (codes " refused worn" ++ 10 ∷ [])))
+  line_text (Answer named leaves rows) =
+      (codes "answer named " ++ (decimal named ++ (codes " of " ++ (decimal leaves ++ (codes " lines " ++ (decimal (length rows) ++ 10 ∷ [])))))) ++ flat_map row_line rows
+  line_text (Tailed leaf) = tailed_text leaf
+  line_text (Declared standing) = codes "standing " ++ (decimal standing ++ 10 ∷ [])
+  line_text (Told standing number rows) =
+      (codes "standing " ++ (decimal standing ++ (codes " at #" ++ (decimal number ++ (codes " lines " ++ (decimal (length rows) ++ 10 ∷ [])))))) ++ flat_map row_line rows
+  line_text (Untold standing why) = codes "standing " ++ (decimal standing ++ (32 ∷ (untold_word why ++ 10 ∷ [])))
+  line_text (Ended deed leaf ending) = deed_text deed ++ (32 ∷ (decimal leaf ++ (32 ∷ (ending_text ending ++ 10 ∷ []))))
+  line_text (Lane number) = codes "lane " ++ (decimal number ++ 10 ∷ [])
+  line_text (Wave number total leaves) =
+      codes "wave " ++ (decimal number ++ (codes " of " ++ (decimal total ++ (codes " leaves" ++ (flat_map (λ leaf. 32 ∷ decimal leaf) leaves ++ 10 ∷ [])))))
+  line_text (Rolled halted waves total) =
+      codes "rollover " ++ ((if halted then codes "halted " else codes "done ") ++ (decimal waves ++ (codes " of " ++ (decimal total ++ 10 ∷ []))))
+  line_text (Watch text) = codes "watch " ++ (text ++ 10 ∷ [])
 
--- a leaf, after those of the same wave
-abbrev pub leaf_text : ℕ → List ℕ
-leaf_text leaf = 32 ∷ decimal leaf
-
--- the line of a wave: its number, the number of waves, and its leaves
-abbrev pub wave_text : ℕ → ℕ → List ℕ → List ℕ
-wave_text number total leaves = codes "wave " ++ (decimal number ++ (codes " of " ++ (decimal total ++ (codes " leaves" ++ (flat_map leaf_text leaves ++ 10 ∷ [])))))
-
--- how a rollover ended
-abbrev pub rolled_word : Bool → List ℕ
-rolled_word true = codes "halted "
-rolled_word false = codes "done "
-
-abbrev pub rolled_text : Bool → ℕ → ℕ → List ℕ
-rolled_text halted waves total = codes "rollover " ++ (rolled_word halted ++ (decimal waves ++ (codes " of " ++ (decimal total ++ 10 ∷ []))))
-
--- the line of a watch
-abbrev pub watch_text : List ℕ → List ℕ
-watch_text text = codes "watch " ++ (text ++ 10 ∷ [])
-
--- the text of a line; the fleet's tables have these names
-abbrev pub line_text : List (List ℕ) → Line → List ℕ
-line_text names (Entry leaf table number said) = entry_text leaf (name_at names table) number said
-line_text names (Worn leaf table) = worn_text leaf (name_at names table)
-line_text names (Answer named leaves rows) = answer_text named leaves rows
-line_text names (Tailed leaf) = tailed_text leaf
-line_text names (Declared standing) = declared_text standing
-line_text names (Told standing number rows) = told_text standing number rows
-line_text names (Untold standing why) = untold_text standing why
-line_text names (Ended deed leaf ending) = ended_text names deed leaf ending
-line_text names (Lane number) = lane_text number
-line_text names (Wave number total leaves) = wave_text number total leaves
-line_text names (Rolled halted waves total) = rolled_text halted waves total
-line_text names (Watch text) = watch_text text
-
-abbrev pub lines_text : List (List ℕ) → List Line → List ℕ
-lines_text names lines = flat_map (line_text names) lines
+  abbrev pub lines_text : List Line → List ℕ
+  lines_text lines = flat_map line_text lines
 
 -- the table that an ending names by its place is one of the fleet's
 abbrev pub EndsOf : List (List ℕ) → Ending → Type 0

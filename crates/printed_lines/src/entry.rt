@@ -1,7 +1,7 @@
 // The line of an entry. Entries are most of what a script prints. So each is written into a buffer, from its end to its
 // beginning, and appended at once.
 ghost use Rattle.std.specs.Prelude.{◌≡◌, ◌+◌, ◌≤◌, ◌∷◌, ◌++◌, [], codes, decimal, length, drop, OnOk, OnErr};
-ghost use Rattle.printed_lines.specs.Lines.{entry_text, said_text};
+ghost use Rattle.printed_lines.specs.Lines.{said_text};
 
 use crate::line::Said;
 use itoa::write_digits;
@@ -21,7 +21,8 @@ pub fn append_entry(
     number: u64,
     said: Said,
 ) -> Result<(), AllocError>
-    ensures put { OnOk result (out.new.items ≡ out.old.items ++ entry_text leaf name.now number said) }
+    ensures put { OnOk result (out.new.items ≡ out.old.items
+        ++ (decimal leaf ++ (32 ∷ (name.now ++ (codes " #" ++ (decimal number ++ (32 ∷ (said_text said ++ 10 ∷ [])))))))) }
     ensures unchanged { OnErr result (out.new.items ≡ out.old.items) }
 {
     let mut buffer = [0u8; ROOM];

@@ -1,7 +1,7 @@
 // Appends lines to what was printed before.
-ghost use Rattle.std.specs.Prelude.{◌≡◌, ◌<◌, ◌∷◌, ◌++◌, [], codes, decimal, length, take, IfOk, OnOk, OnErr, string_bytes};
+ghost use Rattle.std.specs.Prelude.{◌≡◌, ◌<◌, ◌∷◌, ◌++◌, [], codes, decimal, if◌then◌else◌, length, take, IfOk, OnOk, OnErr, string_bytes};
 ghost use Rattle.std.specs.List.{flat_map, AllByRecursion};
-ghost use Rattle.printed_lines.specs.Lines.{EndsOf, IsOf, row_line, worn_text, answer_head, answer_text, ended_text, lane_text, leaf_text, line_text, lines_text, rolled_text, rolled_word, declared_text, tailed_text, told_head, told_text, untold_text, untold_word, watch_text, wave_text};
+ghost use Rattle.printed_lines.specs.Lines.{EndsOf, IsOf, row_line, deed_text, ending_text, line_text, lines_text, tailed_text, untold_word};
 
 use crate::entry::append_entry;
 use crate::line::{Deed, Ending, Line, WhyUntold};
@@ -72,7 +72,7 @@ fn put_some(out: &mut Vec<u8>, names: &Names, lines: &[Line]) -> Result<(), Allo
 }
 
 fn append_worn(out: &mut Vec<u8>, leaf: u32, name: &str) -> Result<(), AllocError>
-    ensures put { OnOk result (out.new.items ≡ out.old.items ++ worn_text leaf name.now) }
+    ensures put { OnOk result (out.new.items ≡ out.old.items ++ (decimal leaf ++ (32 ∷ (name.now ++ (codes " refused worn" ++ 10 ∷ []))))) }
     ensures unchanged { OnErr result (out.new.items ≡ out.old.items) }
 {
     let text = format!(in *out.allocator(); "{leaf} {name} refused worn\n")?;
@@ -85,7 +85,8 @@ fn append_answer(
     leaves: u32,
     rows: &[Text],
 ) -> Result<(), AllocError>
-    ensures put { OnOk result (out.new.items ≡ out.old.items ++ answer_text named leaves rows.now) }
+    ensures put { OnOk result (out.new.items ≡ out.old.items
+        ++ ((codes "answer named " ++ (decimal named ++ (codes " of " ++ (decimal leaves ++ (codes " lines " ++ (decimal (length rows.now) ++ 10 ∷ [])))))) ++ flat_map row_line rows.now)) }
     ensures unchanged { OnErr result (out.new.items ≡ out.old.items) }
 {
     let mut answer = head_bytes(*out.allocator(), named, leaves, rows.len())?;
@@ -94,7 +95,7 @@ fn append_answer(
 }
 
 fn head_bytes(alloc: Global, named: u64, leaves: u32, count: usize) -> Result<Vec<u8>, AllocError>
-    ensures { IfOk result (λ bytes. bytes.items ≡ answer_head named leaves count) }
+    ensures { IfOk result (λ bytes. bytes.items ≡ codes "answer named " ++ (decimal named ++ (codes " of " ++ (decimal leaves ++ (codes " lines " ++ (decimal count ++ 10 ∷ [])))))) }
 {
     let text = format!(in alloc; "answer named {named} of {leaves} lines {count}\n")?;
     Ok(text.into_bytes())
@@ -119,7 +120,7 @@ fn append_sent(out: &mut Vec<u8>, leaf: u32) -> Result<(), AllocError>
 }
 
 fn append_declared(out: &mut Vec<u8>, standing: u32) -> Result<(), AllocError>
-    ensures put { OnOk result (out.new.items ≡ out.old.items ++ declared_text standing) }
+    ensures put { OnOk result (out.new.items ≡ out.old.items ++ (codes "standing " ++ (decimal standing ++ 10 ∷ []))) }
     ensures unchanged { OnErr result (out.new.items ≡ out.old.items) }
 {
     let text = format!(in *out.allocator(); "standing {standing}\n")?;
@@ -132,7 +133,8 @@ fn append_told(
     number: u64,
     rows: &[Text],
 ) -> Result<(), AllocError>
-    ensures put { OnOk result (out.new.items ≡ out.old.items ++ told_text standing number rows.now) }
+    ensures put { OnOk result (out.new.items ≡ out.old.items
+        ++ ((codes "standing " ++ (decimal standing ++ (codes " at #" ++ (decimal number ++ (codes " lines " ++ (decimal (length rows.now) ++ 10 ∷ [])))))) ++ flat_map row_line rows.now)) }
     ensures unchanged { OnErr result (out.new.items ≡ out.old.items) }
 {
     let mut told = told_bytes(*out.allocator(), standing, number, rows.len())?;
@@ -146,14 +148,14 @@ fn told_bytes(
     number: u64,
     count: usize,
 ) -> Result<Vec<u8>, AllocError>
-    ensures { IfOk result (λ bytes. bytes.items ≡ told_head standing number count) }
+    ensures { IfOk result (λ bytes. bytes.items ≡ codes "standing " ++ (decimal standing ++ (codes " at #" ++ (decimal number ++ (codes " lines " ++ (decimal count ++ 10 ∷ [])))))) }
 {
     let text = format!(in alloc; "standing {standing} at #{number} lines {count}\n")?;
     Ok(text.into_bytes())
 }
 
 fn append_untold(out: &mut Vec<u8>, standing: u32, why: WhyUntold) -> Result<(), AllocError>
-    ensures put { OnOk result (out.new.items ≡ out.old.items ++ untold_text standing why) }
+    ensures put { OnOk result (out.new.items ≡ out.old.items ++ (codes "standing " ++ (decimal standing ++ (32 ∷ (untold_word why ++ 10 ∷ []))))) }
     ensures unchanged { OnErr result (out.new.items ≡ out.old.items) }
 {
     let why = untold_str(why);
@@ -169,7 +171,7 @@ fn append_ended(
     ending: &Ending,
 ) -> Result<(), AllocError>
     requires { EndsOf names.now ending.now }
-    ensures put { OnOk result (out.new.items ≡ out.old.items ++ ended_text names.now deed leaf ending.now) }
+    ensures put { OnOk result (out.new.items ≡ out.old.items ++ (deed_text deed ++ (32 ∷ (decimal leaf ++ (32 ∷ (ending_text names.now ending.now ++ 10 ∷ [])))))) }
     ensures unchanged { OnErr result (out.new.items ≡ out.old.items) }
 {
     let alloc = *out.allocator();
@@ -180,7 +182,7 @@ fn append_ended(
 }
 
 fn append_lane(out: &mut Vec<u8>, number: u32) -> Result<(), AllocError>
-    ensures put { OnOk result (out.new.items ≡ out.old.items ++ lane_text number) }
+    ensures put { OnOk result (out.new.items ≡ out.old.items ++ (codes "lane " ++ (decimal number ++ 10 ∷ []))) }
     ensures unchanged { OnErr result (out.new.items ≡ out.old.items) }
 {
     let text = format!(in *out.allocator(); "lane {number}\n")?;
@@ -188,7 +190,8 @@ fn append_lane(out: &mut Vec<u8>, number: u32) -> Result<(), AllocError>
 }
 
 fn append_wave(out: &mut Vec<u8>, number: u32, of: u32, leaves: &[u32]) -> Result<(), AllocError>
-    ensures put { OnOk result (out.new.items ≡ out.old.items ++ wave_text number of leaves.now) }
+    ensures put { OnOk result (out.new.items ≡ out.old.items ++ (codes "wave " ++ (decimal number ++ (codes " of "
+        ++ (decimal of ++ (codes " leaves" ++ (flat_map (λ leaf. 32 ∷ decimal leaf) leaves.now ++ 10 ∷ []))))))) }
     ensures unchanged { OnErr result (out.new.items ≡ out.old.items) }
 {
     let text = format!(in *out.allocator(); "wave {number} of {of} leaves")?;
@@ -199,7 +202,7 @@ fn append_wave(out: &mut Vec<u8>, number: u32, of: u32, leaves: &[u32]) -> Resul
 }
 
 fn put_leaves(out: &mut Vec<u8>, leaves: &[u32]) -> Result<(), AllocError>
-    ensures { OnOk result (out.new.items ≡ out.old.items ++ flat_map leaf_text leaves.now) }
+    ensures { OnOk result (out.new.items ≡ out.old.items ++ flat_map (λ leaf. 32 ∷ decimal leaf) leaves.now) }
 {
     for leaf in leaves {
         put_leaf(out, *leaf)?;
@@ -208,14 +211,15 @@ fn put_leaves(out: &mut Vec<u8>, leaves: &[u32]) -> Result<(), AllocError>
 }
 
 fn put_leaf(out: &mut Vec<u8>, leaf: u32) -> Result<(), AllocError>
-    ensures { OnOk result (out.new.items ≡ out.old.items ++ leaf_text leaf) }
+    ensures { OnOk result (out.new.items ≡ out.old.items ++ (32 ∷ decimal leaf)) }
 {
     let text = format!(in *out.allocator(); " {leaf}")?;
     out.extend_from_slice(text.as_bytes())
 }
 
 fn append_rolled(out: &mut Vec<u8>, halted: bool, waves: u32, of: u32) -> Result<(), AllocError>
-    ensures put { OnOk result (out.new.items ≡ out.old.items ++ rolled_text halted waves of) }
+    ensures put { OnOk result (out.new.items ≡ out.old.items ++ (codes "rollover " ++ ((if halted then codes "halted " else codes "done ")
+        ++ (decimal waves ++ (codes " of " ++ (decimal of ++ 10 ∷ [])))))) }
     ensures unchanged { OnErr result (out.new.items ≡ out.old.items) }
 {
     let word = rolled_word(halted);
@@ -224,13 +228,13 @@ fn append_rolled(out: &mut Vec<u8>, halted: bool, waves: u32, of: u32) -> Result
 }
 
 fn rolled_word(halted: bool) -> &'static str
-    ensures { result.now ≡ rolled_word halted }
+    ensures { result.now ≡ (if halted then codes "halted " else codes "done ") }
 {
     if halted { "halted " } else { "done " }
 }
 
 fn append_watch(out: &mut Vec<u8>, text: &[u8]) -> Result<(), AllocError>
-    ensures put { OnOk result (out.new.items ≡ out.old.items ++ watch_text text.now) }
+    ensures put { OnOk result (out.new.items ≡ out.old.items ++ (codes "watch " ++ (text.now ++ 10 ∷ []))) }
     ensures unchanged { OnErr result (out.new.items ≡ out.old.items) }
 {
     let line = watch_bytes(*out.allocator(), text)?;
@@ -238,7 +242,7 @@ fn append_watch(out: &mut Vec<u8>, text: &[u8]) -> Result<(), AllocError>
 }
 
 fn watch_bytes(alloc: Global, text: &[u8]) -> Result<Vec<u8>, AllocError>
-    ensures { IfOk result (λ bytes. bytes.items ≡ watch_text text.now) }
+    ensures { IfOk result (λ bytes. bytes.items ≡ codes "watch " ++ (text.now ++ 10 ∷ [])) }
 {
     let mut bytes = Vec::new(alloc);
     bytes.extend_from_slice(b"watch ")?;
