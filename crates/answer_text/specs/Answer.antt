@@ -2,7 +2,7 @@
 use Rattle.std.specs.Prelude.{ℕ, List, [], ◌∷◌, ◌++◌, map, take, zip, ℤ, pos, Option, Some, None, option_and_then, if◌then◌else◌, decimal, codes, slice_get}
 use Rattle.std.specs.Fmt.{signed_decimal}
 use Rattle.std.specs.List.{join_by}
-use Rattle.std.specs.Option.{option_cmp}
+use Rattle.std.specs.Option.{option_cmp, option_map_or}
 use Rattle.std.specs.declared.cmp.Ordering.{Ordering}
 use Rattle.std.specs.Ordering.{int_cmp, is_lt, ordering_then}
 use Rattle.serde_json.specs.Data.{string, array, Items, no_items, item}
@@ -25,13 +25,9 @@ measure (Min name) count f = f.min
 measure (Max name) count f = f.max
 measure (Avg name) count f = None
 
--- the measure of a group by the aggregate at a place
-abbrev pub measure_at : Query → Group → ℕ → Option ℤ
-measure_at q g place = option_and_then (λ agg. option_and_then (measure agg g.count) (slice_get g.folds place)) (slice_get q.aggs place)
-
 -- the measure of a group by the aggregate that orders the query
 abbrev pub measure_of : Query → Group → Option ℤ
-measure_of q g = option_and_then (measure_at q g) q.order
+measure_of q g = option_and_then (λ place. option_and_then (λ agg. option_and_then (measure agg g.count) (slice_get g.folds place)) (slice_get q.aggs place)) q.order
 
 -- by the measure, the greatest first and a missing one last, and then by key
 abbrev pub group_cmp : Query → Group → Group → Ordering
@@ -47,11 +43,6 @@ abbrev pub in_order : {X : Type 0} → (X → X → Ordering) → List X → Lis
 in_order cmp [] = []
 in_order cmp (x ∷ xs) = placed cmp x (in_order cmp xs)
 
--- an integer is decimal, and a missing one is `-`
-abbrev pub int_text : Option ℤ → List ℕ
-int_text None = codes "-"
-int_text (Some n) = signed_decimal n
-
 -- texts as items of a JSON array
 abbrev pub strings : List (List ℕ) → Items
 strings [] = no_items
@@ -64,12 +55,12 @@ key_text (key.Int n) = signed_decimal n
 key_text (key.Text t) = compact_text (string t)
 key_text (key.Set members) = compact_text (array (strings members))
 
--- an average is the sum and the number of the integers
+-- an integer is decimal, a least or greatest that is missing is `-`, and an average is the sum and the number of the integers
 abbrev pub agg_text : ℕ → Agg → Fold → List ℕ
 agg_text count Count f = decimal count
 agg_text count (Sum name) f = signed_decimal f.sum
-agg_text count (Min name) f = int_text f.min
-agg_text count (Max name) f = int_text f.max
+agg_text count (Min name) f = option_map_or signed_decimal f.min (codes "-")
+agg_text count (Max name) f = option_map_or signed_decimal f.max (codes "-")
 agg_text count (Avg name) f = signed_decimal f.sum ++ (codes "/" ++ decimal f.seen)
 
 -- the keys, and then the aggregates in the order of SELECT

@@ -1,16 +1,18 @@
 // A group as one line of text.
-ghost use Rattle.std.specs.Prelude.{◌≡◌, IfOk, map, string_bytes};
+ghost use Rattle.std.specs.Prelude.{◌≡◌, IfOk, codes, map, string_bytes};
+ghost use Rattle.std.specs.Fmt.{signed_decimal};
+ghost use Rattle.std.specs.Option.{option_map_or};
 ghost use Rattle.serde_json.specs.Data.{array};
 ghost use Rattle.serde_json.specs.View.{items_view};
 ghost use Rattle.serde_json.specs.Written.{compact_text};
-ghost use Rattle.answer_text.specs.Answer.{agg_text, group_line, group_parts, int_text, key_text, strings};
+ghost use Rattle.answer_text.specs.Answer.{agg_text, group_line, group_parts, key_text, strings};
 
 use leaf_model::{Agg, Fold, Group, Key, Query, Text, Texts};
 use serde_json::Value;
 use std::alloc::{AllocError, Global};
 
 fn int_text(alloc: Global, number: Option<i64>) -> Result<String, AllocError>
-    ensures { IfOk result (λ text. string_bytes text ≡ int_text number) }
+    ensures { IfOk result (λ text. string_bytes text ≡ option_map_or signed_decimal number (codes "-")) }
 {
     match number {
         None => String::from_str(alloc, "-"),
