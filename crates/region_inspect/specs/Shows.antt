@@ -16,31 +16,32 @@ use Rattle.region_inspect.specs.declared.seen.TableLine.{TableLine}
 use Rattle.region_inspect.specs.declared.seen.Seen.{Seen}
 use Rattle.region_inspect.specs.declared.seen.Seen.TheVariants as seen
 
--- a block's numbers of rows, columns and bytes, by the directory, and the least and the greatest time of all its rows
-pub record ShowsBlock (region : List ℕ) (b : BlockPlaces) (line : BlockLine) : Type 0 where
-  pub rows : line.rows ≡ b.rows
-  pub times : IsRange (times_of (rows_in (block_in region b))) line.from line.to
-  pub columns : line.columns ≡ length b.columns
-  pub bytes : line.bytes ≡ sum (map (λ (p : Place). p.length) b.columns)
+module _ (region : List ℕ) where
+  -- a block's numbers of rows, columns and bytes, by the directory, and the least and the greatest time of all its rows
+  pub record ShowsBlock (b : BlockPlaces) (line : BlockLine) : Type 0 where
+    pub rows : line.rows ≡ b.rows
+    pub times : IsRange (times_of (rows_in (block_in region b))) line.from line.to
+    pub columns : line.columns ≡ length b.columns
+    pub bytes : line.bytes ≡ sum (map (λ (p : Place). p.length) b.columns)
 
--- a table's number of rows, and each of its blocks
-pub record ShowsTable (region : List ℕ) (t : TablePlaces) (line : TableLine) : Type 0 where
-  pub name : line.name ≡ t.name
-  pub rows : line.rows ≡ length (rows_held (parts_in region t).blocks [] t.skip t.horizon)
-  pub writes : line.writes ≡ t.writes
-  pub horizon : line.horizon ≡ t.horizon
-  pub blocks : AllZip (ShowsBlock region) t.blocks line.blocks
+  -- a table's number of rows, and each of its blocks
+  pub record ShowsTable (t : TablePlaces) (line : TableLine) : Type 0 where
+    pub name : line.name ≡ t.name
+    pub rows : line.rows ≡ length (rows_held (parts_in region t).blocks [] t.skip t.horizon)
+    pub writes : line.writes ≡ t.writes
+    pub horizon : line.horizon ≡ t.horizon
+    pub blocks : AllZip ShowsBlock t.blocks line.blocks
 
--- the region is an image that a start adopts, of these tables
-pub record ShowsImage (region : List ℕ) (version log_end : ℕ) (lines : List TableLine) : Type 0 where
-  pub images : List TableImage
-  pub reads_it : reads version ≡ true
-  pub image : IsImage version region images log_end
-  pub tables : AllZip (ShowsTable region) image.directory.tables lines
+  -- the region is an image that a start adopts, of these tables
+  pub record ShowsImage (version log_end : ℕ) (lines : List TableLine) : Type 0 where
+    pub images : List TableImage
+    pub reads_it : reads version ≡ true
+    pub image : IsImage version region images log_end
+    pub tables : AllZip ShowsTable image.directory.tables lines
 
-abbrev pub Shows : List ℕ → Seen → Type 0
-Shows region seen.NoHead = IsWhy region why.NoHead
-Shows region (seen.Closed flag) = IsWhy region (why.Closed flag)
-Shows region (seen.OtherVersion version) = IsWhy region (why.OtherVersion version)
-Shows region seen.NoImage = IsWhy region why.NoImage
-Shows region (seen.Image version log_end tables) = ShowsImage region version log_end tables
+  abbrev pub Shows : Seen → Type 0
+  Shows seen.NoHead = IsWhy region why.NoHead
+  Shows (seen.Closed flag) = IsWhy region (why.Closed flag)
+  Shows (seen.OtherVersion version) = IsWhy region (why.OtherVersion version)
+  Shows seen.NoImage = IsWhy region why.NoImage
+  Shows (seen.Image version log_end tables) = ShowsImage version log_end tables

@@ -1,7 +1,8 @@
 // The text that shows a region.
 ghost use Rattle.std.specs.Prelude.{◌≡◌, ◌++◌, ◌∷◌, [], codes, decimal, length, option_map, IfOk, OnOk, string_bytes};
+ghost use Rattle.std.specs.Fmt.{signed_decimal};
 ghost use Rattle.std.specs.List.{flat_map};
-ghost use Rattle.region_inspect.specs.Lines.{block_head, block_rest, block_text, blocks_text, image_head, region_text, seen_text, table_head, table_text, told_text};
+ghost use Rattle.region_inspect.specs.Lines.{block_text, blocks_text, region_text, seen_text, table_text};
 
 use crate::seen::{BlockLine, Seen, TableLine};
 use std::alloc::{AllocError, Global};
@@ -12,7 +13,7 @@ fn put_block_head(
     number: u64,
     block: &BlockLine,
 ) -> Result<(), AllocError>
-    ensures { OnOk result (out.new.items ≡ out.old.items ++ block_head name.now number block.now) }
+    ensures { OnOk result (out.new.items ≡ out.old.items ++ (name.now ++ (codes " block " ++ (decimal number ++ (codes " rows " ++ decimal block.now.rows))))) }
 {
     let rows = block.rows;
     let text = format!(in *out.allocator(); "{name} block {number} rows {rows}")?;
@@ -20,7 +21,9 @@ fn put_block_head(
 }
 
 fn put_block_rest(out: &mut Vec<u8>, block: &BlockLine) -> Result<(), AllocError>
-    ensures { OnOk result (out.new.items ≡ out.old.items ++ block_rest block.now) }
+    ensures { OnOk result (out.new.items ≡ out.old.items
+        ++ (codes " from " ++ (signed_decimal block.now.from ++ (codes " to " ++ (signed_decimal block.now.to ++ (codes " columns " ++ (decimal block.now.columns
+        ++ (codes " bytes " ++ (decimal block.now.bytes ++ 10 ∷ []))))))))) }
 {
     let BlockLine {
         rows: _,
@@ -59,7 +62,8 @@ fn put_blocks(out: &mut Vec<u8>, name: &str, blocks: &[BlockLine]) -> Result<(),
 }
 
 fn put_head(out: &mut Vec<u8>, table: &TableLine) -> Result<(), AllocError>
-    ensures { OnOk result (out.new.items ≡ out.old.items ++ table_head table.now) }
+    ensures { OnOk result (out.new.items ≡ out.old.items ++ (table.now.name ++ (codes " rows " ++ (decimal table.now.rows ++ (codes " writes "
+        ++ (decimal table.now.writes ++ (codes " horizon " ++ (signed_decimal table.now.horizon ++ (codes " blocks " ++ (decimal (length table.now.blocks) ++ 10 ∷ [])))))))))) }
 {
     let name = table.name.as_str();
     let rows = table.rows;
@@ -89,7 +93,8 @@ fn put_tables(out: &mut Vec<u8>, tables: &[TableLine]) -> Result<(), AllocError>
 }
 
 fn put_image(out: &mut Vec<u8>, version: u32, log_end: u64, count: usize) -> Result<(), AllocError>
-    ensures { OnOk result (out.new.items ≡ out.old.items ++ image_head version count log_end) }
+    ensures { OnOk result (out.new.items ≡ out.old.items
+        ++ (codes " image " ++ (decimal version ++ (codes " tables " ++ (decimal count ++ (codes " log " ++ (decimal log_end ++ 10 ∷ []))))))) }
 {
     let text = format!(in *out.allocator(); " image {version} tables {count} log {log_end}\n")?;
     out.extend_from_slice(text.as_bytes())
