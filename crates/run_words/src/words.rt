@@ -1,9 +1,9 @@
 // The words of the command line.
-ghost use Rattle.std.specs.Prelude.{◌≡◌, IfSome, map, string_bytes};
+ghost use Rattle.std.specs.Prelude.{◌≡◌, None, IfSome, bytes_eq, codes, if◌then◌else◌, map, string_bytes};
 ghost use Rattle.std.specs.Char.{is_ascii_digit};
 ghost use Rattle.std.specs.List.{list_all};
 ghost use Rattle.text_lines.specs.Numbers.{count_of, is_number, time_of};
-ghost use Rattle.run_words.specs.Words.{IsInRange, counts_of, inspects_of, request_of, soaks_of, with_one, with_two};
+ghost use Rattle.run_words.specs.Words.{IsInRange, counts_of, inspects_of, request_of, soaks_of};
 
 use row_count::Range;
 
@@ -50,7 +50,7 @@ pub fn request_of(words: &[String]) -> Option<Request>
 
 /// What a command with one word after it asks for.
 fn with_one(command: &str, first: &str) -> Option<Request>
-    ensures is { result ≡ with_one command.now first.now }
+    ensures is { result ≡ (if bytes_eq command.now (codes "inspect") then inspects_of first.now else None) }
     ensures in_range { IfSome result IsInRange }
 {
     if command == "inspect" {
@@ -62,7 +62,8 @@ fn with_one(command: &str, first: &str) -> Option<Request>
 
 /// What a command with two words after it asks for.
 fn with_two(command: &str, first: &str, second: &str) -> Option<Request>
-    ensures is { result ≡ with_two command.now first.now second.now }
+    ensures is { result ≡ (if bytes_eq command.now (codes "count") then counts_of first.now second.now
+        else (if bytes_eq command.now (codes "soak") then soaks_of first.now second.now else None)) }
     ensures in_range { IfSome result IsInRange }
 {
     if command == "count" {
