@@ -21,11 +21,11 @@ use Rattle.script_text.specs.Commands.{Fault, ◌>>=◌, command_of, one_number,
 
 -- the items of a script, and one more
 abbrev pub with_item : Script → Item → Script
-with_item script one = record { fleet_line = script.fleet_line; items = script.items ++ one ∷ []; standings = script.standings }
+with_item script one = record script { items = script.items ++ one ∷ [] }
 
 -- one standing query more
 abbrev pub with_standing : Script → Command → Script
-with_standing script c = record { fleet_line = script.fleet_line; items = script.items ++ item.One c ∷ []; standings = script.standings + 1 }
+with_standing script c = record (with_item script (item.One c)) { standings = script.standings + 1 }
 
 -- what was read, with the place of the next line, after so many lines of rows
 abbrev pub stepped : Script → Position → ℕ → Step
@@ -49,35 +49,38 @@ one_more script read = read >>= λ c. Ok (stepped (with_item script (item.One c)
 abbrev pub standing_more : Script → Result Command Fault → Result Step Fault
 standing_more script read = read >>= λ c. Ok (stepped (with_standing script c) position.Outside 0)
 
--- `burst`
-abbrev pub next_burst : ℕ → Script → List ℕ → Result Step Fault
-next_burst n script words = if is_blank words then Ok (stepped script position.Opened 0) else Err (n, why.Words)
+-- on line n, after these items
+module _ (n : ℕ) (script : Script) where
+  -- `burst`
+  abbrev pub next_burst : List ℕ → Result Step Fault
+  next_burst words = if is_blank words then Ok (stepped script position.Opened 0) else Err (n, why.Words)
 
--- `lane`, after these lanes
-abbrev pub next_lane : ℕ → Script → List (List Command) → List ℕ → Result Step Fault
-next_lane n script lanes words = if is_blank words then (if nat_lt (length lanes) 16 then Ok (stepped script (position.Lane lanes []) 0) else Err (n, why.Lanes))
-    else Err (n, why.Words)
+  -- `lane`, after these lanes
+  abbrev pub next_lane : List (List Command) → List ℕ → Result Step Fault
+  next_lane lanes words = if is_blank words then (if nat_lt (length lanes) 16 then Ok (stepped script (position.Lane lanes []) 0) else Err (n, why.Lanes))
+      else Err (n, why.Words)
 
--- `end`, after these lanes
-abbrev pub end_burst : ℕ → Script → List (List Command) → List ℕ → Result Step Fault
-end_burst n script lanes words = if is_blank words then Ok (stepped (with_item script (item.Burst lanes)) position.Outside 0) else Err (n, why.Words)
+  -- `end`, after these lanes
+  abbrev pub end_burst : List (List Command) → List ℕ → Result Step Fault
+  end_burst lanes words = if is_blank words then Ok (stepped (with_item script (item.Burst lanes)) position.Outside 0) else Err (n, why.Words)
 
--- a command of a lane, after other lanes
-abbrev pub lane_more : ℕ → Script → List (List Command) → List Command → Result Command Fault → Result Step Fault
-lane_more n script earlier lane read = read >>= λ c. if is_second earlier c then Err (n, why.TwoStewards) else Ok (stepped script (position.Lane earlier (lane ++ c ∷ [])) (row_count c))
+  -- a command of a lane, after other lanes
+  abbrev pub lane_more : List (List Command) → List Command → Result Command Fault → Result Step Fault
+  lane_more earlier lane read = read >>= λ c. if is_second earlier c then Err (n, why.TwoStewards) else Ok (stepped script (position.Lane earlier (lane ++ c ∷ [])) (row_count c))
 
--- What a line does, by its place and its first word; any other line is out of its place. A burst that begins on the
--- last line is left open.
-abbrev pub line_at : ℕ → ℕ → Fleet → Script → Position → List ℕ → List (List ℕ) → LineWord → Result Step Fault
-line_at last n fleet script position.Outside words more line_word.Burst = inside last (next_burst n script words)
-line_at last n fleet script position.Outside words more (line_word.Command word) = one_more script (command_of n fleet word words more)
-line_at last n fleet script position.Outside words more line_word.Standing = standing_more script (standing_of n fleet script.standings words)
-line_at last n fleet script position.Outside words more line_word.Tell = one_more script (tell_of n script.standings (one_number (words_of words)))
-line_at last n fleet script position.Opened words more line_word.Lane = inside last (next_lane n script [] words)
-line_at last n fleet script (position.Lane earlier lane) words more line_word.Lane = inside last (next_lane n script (earlier ++ lane ∷ []) words)
-line_at last n fleet script (position.Lane earlier lane) words more line_word.End = end_burst n script (earlier ++ lane ∷ []) words
-line_at last n fleet script (position.Lane earlier lane) words more (line_word.Command word) = inside last (lane_more n script earlier lane (command_of n fleet word words more))
-line_at last n fleet script _ words more _ = Err (n, why.Place)
+module _ (last n : ℕ) (fleet : Fleet) (script : Script) where
+  -- What a line does, by its place and its first word; any other line is out of its place. A burst that begins on the
+  -- last line is left open.
+  abbrev pub line_at : Position → List ℕ → List (List ℕ) → LineWord → Result Step Fault
+  line_at position.Outside words more line_word.Burst = inside last (next_burst n script words)
+  line_at position.Outside words more (line_word.Command word) = one_more script (command_of n fleet word words more)
+  line_at position.Outside words more line_word.Standing = standing_more script (standing_of n fleet script.standings words)
+  line_at position.Outside words more line_word.Tell = one_more script (tell_of n script.standings (one_number (words_of words)))
+  line_at position.Opened words more line_word.Lane = inside last (next_lane n script [] words)
+  line_at (position.Lane earlier lane) words more line_word.Lane = inside last (next_lane n script (earlier ++ lane ∷ []) words)
+  line_at (position.Lane earlier lane) words more line_word.End = end_burst n script (earlier ++ lane ∷ []) words
+  line_at (position.Lane earlier lane) words more (line_word.Command word) = inside last (lane_more n script earlier lane (command_of n fleet word words more))
+  line_at _ words more _ = Err (n, why.Place)
 
 -- what line n does after this fleet and what was read; the last line has the number `last`, and these lines follow line
 -- n

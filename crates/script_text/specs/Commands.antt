@@ -1,6 +1,7 @@
 -- The commands of a script. Each line gives a command, or its first fault.
 use Rattle.std.specs.Prelude.{ℕ, ◌+◌, ◌*◌, ◌&&◌, List, [], ◌∷◌, length, take, nat_lt, nat_le, Bool, if◌then◌else◌, Option, Some, None, option_map, option_and_then, ok_or, Result, Ok, Err, codes}
 use Rattle.std.specs.Str.{bytes_eq}
+use Rattle.std.specs.Option.{option_or}
 use Rattle.leaf_model.specs.declared.queries.Query.{Query}
 use Rattle.leaf_model.specs.declared.rows.Row.{Row}
 use Rattle.row_json.specs.Row.{row_of}
@@ -19,7 +20,7 @@ use Rattle.script_text.specs.declared.line_word.LineWord.{LineWord}
 use Rattle.script_text.specs.declared.line_word.LineWord.TheVariants as line_word
 use Rattle.leaf_model.specs.Names.{is_table_name}
 use Rattle.script_text.specs.Fits.{AreLeaves, AreTables}
-use Rattle.script_text.specs.Words.{words_of, first_word, behind_word, trimmed, are_tables, place_of}
+use Rattle.script_text.specs.Words.{words_of, first_word, behind_word, trimmed, are_tables, listed, place_of}
 use Rattle.text_lines.specs.Numbers.{number_of, capped, count_of, time_of}
 
 -- a line's number, and its first fault
@@ -43,26 +44,13 @@ or_words n found = ok_or found (n, why.Words)
 
 -- the command whose first word a word is
 abbrev pub command_word_of : List ℕ → Option CommandWord
-command_word_of word = if bytes_eq word (codes "add") then Some command_word.Add
-    else (if bytes_eq word (codes "expire") then Some command_word.Expire
-    else (if bytes_eq word (codes "keep") then Some command_word.Keep
-    else (if bytes_eq word (codes "query") then Some command_word.Query
-    else (if bytes_eq word (codes "tail") then Some command_word.Tail
-    else (if bytes_eq word (codes "flush") then Some command_word.Flush
-    else (if bytes_eq word (codes "drain") then Some command_word.Drain
-    else (if bytes_eq word (codes "kill") then Some command_word.Kill
-    else (if bytes_eq word (codes "start") then Some command_word.Start
-    else (if bytes_eq word (codes "rollover") then Some command_word.Rollover else None)))))))))
+command_word_of = listed ((codes "add", command_word.Add) ∷ (codes "expire", command_word.Expire) ∷ (codes "keep", command_word.Keep) ∷ (codes "query", command_word.Query) ∷ (codes "tail", command_word.Tail) ∷ (codes "flush", command_word.Flush)
+    ∷ (codes "drain", command_word.Drain) ∷ (codes "kill", command_word.Kill) ∷ (codes "start", command_word.Start) ∷ (codes "rollover", command_word.Rollover) ∷ [])
 
 -- the line whose first word a word is
 abbrev pub line_word_of : List ℕ → Option LineWord
-line_word_of word = if bytes_eq word (codes "fleet") then Some line_word.Fleet
-    else (if bytes_eq word (codes "burst") then Some line_word.Burst
-    else (if bytes_eq word (codes "lane") then Some line_word.Lane
-    else (if bytes_eq word (codes "end") then Some line_word.End
-    else (if bytes_eq word (codes "standing") then Some line_word.Standing
-    else (if bytes_eq word (codes "tell") then Some line_word.Tell
-    else option_map line_word.Command (command_word_of word))))))
+line_word_of word = option_or (listed ((codes "fleet", line_word.Fleet) ∷ (codes "burst", line_word.Burst) ∷ (codes "lane", line_word.Lane) ∷ (codes "end", line_word.End) ∷ (codes "standing", line_word.Standing)
+    ∷ (codes "tell", line_word.Tell) ∷ []) word) (option_map line_word.Command (command_word_of word))
 
 -- the number of leaves of a fleet's machines
 abbrev pub leaf_count : Fleet → ℕ

@@ -20,13 +20,14 @@ abbrev pub closed : ℕ → Script → Position → Result Script Fault
 closed last script position.Outside = Ok script
 closed last script _ = Err (last, why.Place)
 
--- the reading of the lines that are left, numbered from n on, after what was read; the first `rows` of them are rows of
--- the command before; `last` is the number of the text's last line
-abbrev pub read_from : ℕ → Fleet → ℕ → ℕ → Reading → List (List ℕ) → Result Script Fault
-read_from last fleet rows n reading [] = closed last reading.script reading.position
-read_from last fleet (suc rows) n reading (line ∷ more) = read_from last fleet rows (n + 1) reading more
-read_from last fleet zero n reading (line ∷ more) = if is_skipped line then read_from last fleet 0 (n + 1) reading more
-    else (step_of last n fleet reading line more >>= λ step. read_from last fleet step.rows (n + 1) step.reading more)
+module _ (last : ℕ) (fleet : Fleet) where
+  -- the reading of the lines that are left, numbered from n on, after what was read; the first `rows` of them are rows of
+  -- the command before; `last` is the number of the text's last line
+  abbrev pub read_from : ℕ → ℕ → Reading → List (List ℕ) → Result Script Fault
+  read_from rows n reading [] = closed last reading.script reading.position
+  read_from (suc rows) n reading (line ∷ more) = read_from rows (n + 1) reading more
+  read_from zero n reading (line ∷ more) = if is_skipped line then read_from 0 (n + 1) reading more
+      else (step_of last n fleet reading line more >>= λ step. read_from step.rows (n + 1) step.reading more)
 
 -- a line that may be a command: its number, its bytes, and the lines after it
 pub record NumberedLine : Type 0 where

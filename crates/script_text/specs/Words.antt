@@ -29,6 +29,11 @@ abbrev pub trimmed : List ℕ → List ℕ
 trimmed [] = []
 trimmed (b ∷ bs) = if is_blank (b ∷ bs) then [] else b ∷ trimmed bs
 
+-- what a word stands for, where a list has it
+abbrev pub listed : {A : Type 0} → List (List ℕ × A) → List ℕ → Option A
+listed [] word = None
+listed (entry ∷ more) word = if bytes_eq word entry.0 then Some entry.1 else listed more word
+
 -- the place of a name among the names, from 0
 abbrev pub place_of : List (List ℕ) → List ℕ → Option ℕ
 place_of names name = position_from (λ other. bytes_eq other name) 0 names
