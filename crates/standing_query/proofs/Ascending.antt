@@ -14,8 +14,8 @@ use Rattle.std.proofs.lemmas.Slice.Eq.{bytes_eq-Decides}
 use Rattle.leaf_model.specs.Values.{time_name}
 use Rattle.leaf_model.specs.Groups.{text_cmp}
 use Rattle.standing_query.specs.Names.{has, is_cell}
-use Rattle.standing_query.specs.Spread.{names_before, with_name, with_name_at}
-use Rattle.standing_query.proofs.Names.{has_with, names_kept, self}
+use Rattle.standing_query.specs.Spread.{names_before}
+use Rattle.standing_query.proofs.Names.{has_with, names_kept, self, with_name, with_name_at}
 
 abbrev Ascends : List (List ℕ) → Type 0
 Ascends names = IsStrictlySortedBy text_cmp names

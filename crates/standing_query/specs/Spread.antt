@@ -1,8 +1,7 @@
 -- A query that is told from the groups of another, which keeps the time and each cell that the first one reads.
 use Rattle.std.specs.Prelude.{◌≡◌, ℕ, ◌-◌, ◌^◌, List, [], ◌∷◌, ◌++◌, map, replicate, ℤ, pos, Option, Some, None, bytes_eq, if◌then◌else◌}
 use Rattle.std.specs.List.{AllByRecursion, flat_map}
-use Rattle.std.specs.declared.cmp.Ordering.{Ordering}
-use Rattle.std.specs.declared.cmp.Ordering.TheVariants.{Less, Equal, Greater}
+use Rattle.std.specs.BTreeSet.{insert_key}
 use Rattle.leaf_model.specs.declared.rows.Value.{Value}
 use Rattle.leaf_model.specs.declared.rows.Value.TheVariants as value
 use Rattle.leaf_model.specs.declared.rows.Cell.{Cell}
@@ -30,20 +29,10 @@ agg_names (Avg name) = name ∷ []
 abbrev pub names_read : Query → List (List ℕ)
 names_read q = map (λ (c : Cond). c.name) q.conds ++ (q.keys ++ flat_map agg_names q.aggs)
 
--- an ascending list of distinct names, with one more in its place
-abbrev pub with_name_at : Ordering → List ℕ → List ℕ → List (List ℕ) → List (List ℕ) → List (List ℕ)
-with_name_at Less n m ms further = n ∷ m ∷ ms
-with_name_at Equal n m ms further = m ∷ ms
-with_name_at Greater n m ms further = m ∷ further
-
-abbrev pub with_name : List ℕ → List (List ℕ) → List (List ℕ)
-with_name n [] = n ∷ []
-with_name n (m ∷ ms) = with_name_at (text_cmp n m) n m ms (with_name n ms)
-
 -- names before others that ascend: without `time`, each once in its place
 abbrev pub names_before : List (List ℕ) → List (List ℕ) → List (List ℕ)
 names_before [] others = others
-names_before (n ∷ ns) others = if bytes_eq n time_name then names_before ns others else with_name n (names_before ns others)
+names_before (n ∷ ns) others = if bytes_eq n time_name then names_before ns others else insert_key text_cmp (names_before ns others) n
 
 -- the names of the cells that a query reads
 abbrev pub cells_read : Query → List (List ℕ)
