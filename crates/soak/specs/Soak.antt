@@ -76,8 +76,5 @@ fleet = One (command.Fleet 2 4 (events ∷ []))
 -- Each leaf gets its share of the rows, both queries are asked, every leaf is restarted in waves of at most half of them, and both are asked again.
 -- The last row's time is the greatest.
 unfoldable pub soak_script : ℕ → ℕ → Script
-soak_script seed rows = record {
-  fleet_line = 0;
-  items = fleet ∷ map (add_of seed rows) (range_with_len 0 8) ++ both_queries (rows - 1) ++ One (command.Rollover 50) ∷ both_queries (rows - 1);
-  standings = 0;
-}
+soak_script seed rows =
+    record { fleet_line = 0; items = fleet ∷ map (add_of seed rows) (range_with_len 0 8) ++ both_queries (rows - 1) ++ One (command.Rollover 50) ∷ both_queries (rows - 1); standings = 0 }
