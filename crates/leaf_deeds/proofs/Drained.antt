@@ -24,7 +24,7 @@ use Rattle.printed_lines.specs.declared.line.Ending.TheVariants as ending
 use Rattle.transcript.specs.Pieces.{Noted}
 use Rattle.transcript.specs.Life.{MayMake, Steps, Treats}
 use Rattle.transcript.specs.Life as life
-use Rattle.leaf_moves.specs.Stage.{IsPreparing, Carries}
+use Rattle.leaf_moves.specs.Stage.{IsPreparing}
 use Rattle.leaf_moves.specs.Modes.{HasShut, mode_of, progress_of}
 use Rattle.leaf_moves.specs.Steps.{AreShut, DrainMoves, Reaches, noted_all}
 use Rattle.leaf_moves.proofs.NoteLines.{noted_append}

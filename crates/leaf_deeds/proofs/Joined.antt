@@ -18,7 +18,7 @@ use Rattle.leaf_machine.proofs.UpMaking.{makes_join}
 use Rattle.printed_lines.specs.declared.line.Ending.{Ending}
 use Rattle.printed_lines.specs.declared.line.Ending.TheVariants as ending
 use Rattle.transcript.specs.Pieces.{Noted}
-use Rattle.transcript.specs.Life.{MayMake, Stage, Steps, first_open}
+use Rattle.transcript.specs.Life.{MayMake, Stage, Steps}
 use Rattle.transcript.specs.Life as life
 use Rattle.leaf_moves.specs.Stage.{Leaf, IsDown, IsUp, IsPreparing, Stands, Carries, seated_of}
 use Rattle.leaf_moves.specs.Modes.{progress_of}

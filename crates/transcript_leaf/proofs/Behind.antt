@@ -3,14 +3,13 @@ use Rattle.std.proofs.Common.{◌≡◌, ℕ, List, [], ◌++◌, length, Option
 use Rattle.std.specs.Prelude.{IfSome, is_some}
 use Rattle.std.proofs.lemmas.List.{append-nil}
 use Rattle.berth_face.specs.Berth.{Meaning}
-use Rattle.leaf_table.specs.Calls.{SeatView}
 use Rattle.leaf_steward.specs.Seated.{AtEach, Seated}
 use Rattle.transcript.specs.Pieces.{Did, Noted, Piece}
 use Rattle.transcript.specs.Strangers.{StrangersIn}
 use Rattle.transcript.specs.Life.{Life, Lives}
 use Rattle.transcript.specs.Answers.{columns_of}
 use Rattle.transcript.specs.Transcript.{Known, first_life}
-use Rattle.leaf_moves.specs.Stage.{Leaf, IsDown, IsUp, IsPreparing, seated_of, seated_with, with_seats}
+use Rattle.leaf_moves.specs.Stage.{Leaf, seated_of, seated_with}
 use Rattle.leaf_moves.specs.Modes.{mode_of}
 use Rattle.transcript.specs.Moments.{MomentsRise, notes_told}
 use Rattle.transcript_leaf.proofs.Rising.{notes_between}

@@ -1,5 +1,5 @@
 -- The life behind a deed, by what it does to a leaf: starts, flushes and kills.
-use Rattle.std.proofs.Common.{◌≡◌, ℕ, suc, ◌+◌, ◌<◌, Bool, true, false, ◌&&◌, List, [], ◌∷◌, length, map, refl, sym, ap, subst, ◌∙◌, arith, Option, Some, None, inl, inr}
+use Rattle.std.proofs.Common.{◌≡◌, ℕ, ◌+◌, ◌<◌, Bool, true, false, ◌&&◌, List, [], ◌∷◌, length, map, refl, sym, ap, subst, ◌∙◌, arith, Option, Some, None, inl, inr}
 use Rattle.std.specs.Prelude.{◌≢◌, IfSome, IsSome, IsTrue, is_some, option_map, ⊤}
 use Rattle.row_records.specs.Records.{LogRecord}
 use Rattle.berth_face.specs.Berth.{Meaning}
@@ -13,7 +13,6 @@ use Rattle.printed_lines.specs.declared.line.Ending.{Ending}
 use Rattle.printed_lines.specs.declared.line.Ending.TheVariants as ending
 use Rattle.crash_moments.specs.Left.{NamedStates}
 use Rattle.leaf_steward.specs.declared.notes.Note.{Note}
-use Rattle.leaf_steward.specs.declared.notes.What.{What}
 use Rattle.leaf_steward.specs.declared.notes.What.TheVariants as what
 use Rattle.leaf_steward.specs.Seated.{Seated, AreFounded}
 use Rattle.leaf_steward.specs.Making.{EachNoted, IsClosedNote}
@@ -26,11 +25,11 @@ use Rattle.leaf_machine.specs.Flushes.{OwedNotes}
 use Rattle.leaf_machine.specs.Flushes as flushing
 use Rattle.printed_lines.specs.declared.line.Deed.{Deed}
 use Rattle.printed_lines.specs.declared.line.Deed.TheVariants.{Start, Flush, Drain, Kill}
-use Rattle.transcript.specs.Life.{Life, Mode, Down, Up, MayCome, Notes, Owed, Progress, BeginsAt, IsStartRefusal, OfFlush, OfKill, claimed, durable_after, durable_by, durable_with, failed, first_open, on, way_refused}
+use Rattle.transcript.specs.Life.{Life, Mode, Down, Up, MayCome, Notes, Owed, Progress, BeginsAt, IsStartRefusal, OfFlush, OfKill, claimed, durable_with, failed, first_open, on, way_refused}
 use Rattle.transcript.specs.Counts.{is_disk_fault}
 use Rattle.transcript.specs.Transcript.{Known}
 use Rattle.leaf_moves.specs.Stage.{Leaf, IsDown, IsUp, Stands, seated_of}
-use Rattle.leaf_moves.specs.Steps.{FlushMoves, IsTrueOf, KillMoves, Moves, RefusalTold, RegionRefused, StartMoves, StartsTold, ending_of, ending_of_flush, noted_all, said_of_note}
+use Rattle.leaf_moves.specs.Steps.{FlushMoves, IsTrueOf, KillMoves, Moves, RefusalTold, RegionRefused, StartMoves, StartsTold, ending_of, ending_of_flush, noted_all}
 use Rattle.leaf_moves.specs.Steps as steps
 use Rattle.leaf_moves.specs.Modes.{mode_of, owed_of, progress_of}
 use Rattle.leaf_moves.proofs.Modes.{owed_none, owed_some}

@@ -1,6 +1,6 @@
 -- The life of a leaf behind a drain, by what that does to it.
-use Rattle.std.proofs.Common.{◌≡◌, ℕ, zero, suc, ◌+◌, ◌<◌, ◌≤◌, Bool, true, false, List, [], ◌++◌, length, map, refl, sym, ap, subst, ◌∙◌, arith, Option, Some, None}
-use Rattle.std.specs.Prelude.{IfSome, IsTrue, is_some, option_map, replicate}
+use Rattle.std.proofs.Common.{◌≡◌, ℕ, zero, suc, ◌+◌, ◌≤◌, Bool, true, List, [], ◌++◌, length, refl, sym, ap, subst, ◌∙◌, arith, Option, Some, None}
+use Rattle.std.specs.Prelude.{IfSome, is_some, option_map, replicate}
 use Rattle.std.specs.List.{AllByRecursion}
 use Rattle.std.proofs.lemmas.List.{append-nil}
 use Rattle.berth_face.specs.Berth.{Meaning}
@@ -18,7 +18,6 @@ use Rattle.leaf_steward.specs.Seated.{Seated, AreFounded}
 use Rattle.leaf_steward.proofs.WatchMakes.{makes_tables}
 use Rattle.leaf_machine.specs.States.{bulk_added, columns_added, columns_seen}
 use Rattle.printed_lines.specs.declared.line.Deed.TheVariants.{Drain}
-use Rattle.transcript.specs.Pieces.{Noted}
 use Rattle.transcript.specs.Transcript.{Known}
 use Rattle.transcript.specs.Life.{Columns, Life, Mode, Down, Preparing, OfDrain, ClosesRest, Comes, IsCopyWithin, Stage, Starves, claimed, durable_after, durable_with, failed, on, way_stopped}
 use Rattle.transcript.specs.Life as life

@@ -1,5 +1,5 @@
 -- What a drain makes of how many writes of each table the next start opens, where the disk never failed.
-use Rattle.std.proofs.Common.{◌≡◌, ℕ, zero, suc, ◌<◌, ◌≤◌, Bool, true, false, List, [], ◌∷◌, ◌++◌, length, map, refl, sym, ap, ap₂, subst, ◌∙◌, le_refl, arith, inl, inr, Option, Some, None}
+use Rattle.std.proofs.Common.{◌≡◌, ℕ, zero, suc, ◌≤◌, Bool, true, false, List, [], ◌∷◌, ◌++◌, length, refl, sym, ap, ap₂, subst, ◌∙◌, le_refl, arith, inl, inr, Option, Some, None}
 use Rattle.std.specs.Prelude.{if◌then◌else◌, slice_get, slice_set}
 use Rattle.std.proofs.lemmas.List.{append-nil}
 use Rattle.std.proofs.lemmas.Option.{slice_get_within}
@@ -23,8 +23,8 @@ use Rattle.transcript.specs.Counts.{is_disk_fault}
 use Rattle.transcript.specs.Pieces.{Noted}
 use Rattle.transcript.specs.Life.{BeginsAt, Copying, Down, NotesOf, Owed, Preparing, Progress, Shutting, Stage, Starves, Step, Steps, Treats, durable_after, first_open}
 use Rattle.transcript.specs.Transcript.{Known}
-use Rattle.leaf_moves.specs.Stage.{Leaf, IsDown, IsUp, IsPreparing, AreHandedNothing, Carries, ServingStands, Stands, seated_of}
-use Rattle.leaf_moves.specs.Modes.{mode_of, owed_of, progress_of}
+use Rattle.leaf_moves.specs.Stage.{Leaf, IsDown, IsUp, IsPreparing, AreHandedNothing, Carries, Stands, seated_of}
+use Rattle.leaf_moves.specs.Modes.{mode_of, progress_of}
 use Rattle.leaf_moves.specs.Steps.{DrainMoves, Part, Reaches, Stops, noted_all, said_of_note}
 use Rattle.leaf_moves.proofs.Modes.{none_owed, owed_none}
 use Rattle.leaf_moves.proofs.NoteLines.{words_in}

@@ -24,7 +24,7 @@ use Rattle.transcript.specs.Pieces.{Piece, Acted, Did, Noted, deeds}
 use Rattle.transcript.specs.Life.{Columns, Life, Mode, Down, Up, Owed, Does, OfFlush, OfDrain, OfKill, BeginsAt, IsStartRefusal, Progress, Stage}
 use Rattle.transcript.specs.Strangers.{Behind, FitsStrangers, StrangersIn}
 use Rattle.transcript.specs.Transcript.{Known, first_life}
-use Rattle.leaf_moves.specs.Stage.{Leaf, IsDown, IsUp, IsPreparing, seated_of}
+use Rattle.leaf_moves.specs.Stage.{Leaf, IsUp, seated_of}
 use Rattle.leaf_moves.specs.Steps.{Moves, StartMoves, FlushMoves, DrainMoves, KillMoves, IsDownLeaf, Reaches, RegionRefused, ending_of, noted_all}
 use Rattle.leaf_moves.specs.Modes as moves
 use Rattle.transcript_leaf.specs.Session.{AreNamed}
