@@ -31,12 +31,12 @@ use Rattle.leaf_machine.specs.Copies.{CopyGoesOn, IsCopyStep, LeavesRegion, bert
 use Rattle.leaf_machine.proofs.UpMaking.{makes_since}
 use Rattle.printed_lines.specs.declared.line.Ending.TheVariants as ending
 use Rattle.transcript.specs.Life.{MayMake}
-use Rattle.leaf_moves.specs.Steps as step
-use Rattle.leaf_moves.specs.Steps.{AreShut, HasCopyLength, MakesStep, RegionStopped}
+use Rattle.transcript.specs.Life as life
+use Rattle.leaf_moves.specs.Steps.{AreShut, HasCopyLength, RegionStopped}
 use Rattle.leaf_deeds.specs.Steps.{AreLeft, Spends, copy_left}
 use Rattle.leaf_deeds.specs.Moves as move
 use Rattle.leaf_deeds.specs.Moves.{CopyEnds, CopyRests, CopyStands, MakesCopies}
-use Rattle.leaf_deeds.proofs.Counted.{makes_none, makes_more, none_made, spent, may_make, all_made}
+use Rattle.leaf_deeds.proofs.Counted.{none_made, spent, may_make, all_made}
 
 -- ---- the copy so far
 
@@ -70,7 +70,7 @@ pub copied_none : (c : Copying) (m : Meaning) (stop : Option ℕ) (notes : List 
 copied_none c m stop notes empty = record {
   seated = refl;
   made = 0;
-  steps = λ x. makes_none (step.Copies x (copy_left c) 0);
+  steps = λ more. more;
   count = omega arith;
   left_are = none_made stop;
   none = empty;
@@ -102,7 +102,7 @@ failed_copy leaf fault = Err (leaf, fault)
 -- ---- how many steps it takes
 
 -- a copy that begins takes three steps and one for each column; of founded tables there are no more than rows and cells that were added
-pub copy_long : (x : Shutting) (c : Copying) → IsCopyOf x c → AreShut x.serving.seated → HasCopyLength x (copy_left c)
+pub copy_long : (x : Shutting) (c : Copying) → IsCopyOf x c → AreShut x.serving.seated → HasCopyLength x.serving.seated (copy_left c)
 copy_long x c is shut = (
   subst (λ (n : Next). 3 + columns_seen x.serving.seated.tables x.serving.seated.seats ≤ left_from n c.drain.heap) (sym is.next) (let columns = is.columns in omega (arith, columns)),
   λ founded. subst (λ (n : Next). left_from n c.drain.heap ≤ 3 + columns_added x.serving.seated.tables x.serving.seated.seats) (sym is.next) (let few = is.few founded in omega (arith, few)),
@@ -121,12 +121,6 @@ more_left next.Nothing heap is = absurd is
 -- and one step fewer is left
 pub copy_fewer : {B : Type 0} (d : Copying) (notes : List Note) (later : Copying × B) → IsCopyStep d notes (more_copy later) → copy_left later.0 < copy_left d
 copy_fewer d notes later is = omega (arith, is.0)
-
--- one step more that is not the last
-copies_more : (copy made : ℕ) → suc made < copy → MakesCopies copy made → MakesCopies copy (suc made)
-copies_more copy made few copies = λ x.
-    makes_more made (step.Copies x copy 0) [] (step.Copies x copy made) [] (step.Copies x copy (suc made)) (copies x)
-    (MakesStep.copies x copy made refl few refl refl)
 
 -- ---- the region of a copy that is stopped
 
@@ -158,7 +152,7 @@ closed_now next.Nothing image heap region is long stands = absurd is
 
 -- it is as it was before the first step, and closed behind that
 region_stopped : (made : ℕ) (d : DrainState) (m n : Meaning) (images : List TableImage) (log_end : ℕ)
-    → IsReached made m n d.next → IsAdoptable d.image images log_end → Draining d n.held.region → RegionStopped made m n
+    → IsReached made m n d.next → IsAdoptable d.image images log_end → Draining d n.held.region → RegionStopped (life.Copying made) m n
 region_stopped zero d m n images log_end reached is stands = reached
 region_stopped (suc made) d m n images log_end reached is stands =
     closed_now d.next d.image d.heap n.held.region reached (long_image d.image images log_end is) stands
@@ -219,7 +213,7 @@ module _ (c : Copying) (m : Meaning) (stop left left' : Option ℕ) (d : Copying
     copied_more later steps = record {
       seated = steps.one.1 ∙ so_far.seated;
       made = suc so_far.made;
-      steps = copies_more (copy_left c) so_far.made (omega (arith, so_far.count, steps.one.0, more_left later.0.drain.next later.0.drain.heap way)) so_far.steps;
+      steps = λ more. omega (arith, so_far.count, steps.one.0, more_left later.0.drain.next later.0.drain.heap way);
       count = omega (arith, so_far.count, steps.one.0);
       left_are = left_now;
       none = steps.one.3;
@@ -239,7 +233,7 @@ module _ (c : Copying) (m : Meaning) (stop left left' : Option ℕ) (d : Copying
     -- the last step
     pub copied_done : (down : Seated × B) → CopySteps meaning d n notes (last_copy down) → CopyEnds c stop m (meaning down.1) notes ending.Done down.0
     copied_done down steps =
-        move.done so_far.made so_far.steps (omega (arith, so_far.count, last_left d steps.one.0)) may_now
+        move.done so_far.made (omega (arith, so_far.count, last_left d steps.one.0)) may_now
         (subst (λ (s : Seated). EachNoted IsHandedNote 0 (length s.tables) notes) so_far.seated steps.one.1)
         (λ tells founded stands.
         let now : CopyTold c d m n = so_far.copies tells founded stands in

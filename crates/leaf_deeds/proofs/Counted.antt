@@ -1,45 +1,30 @@
 -- Steps of a drain, one behind another, and how many may be made.
-use Rattle.std.proofs.Common.{◌≡◌, ℕ, suc, ◌+◌, ◌≤◌, ◌∙◌, true, List, [], ◌++◌, Option, Some, None, append_assoc, append-nil, refl, sym, ap, subst, arith}
-use Rattle.leaf_steward.specs.declared.notes.Note.{Note}
-use Rattle.leaf_machine.specs.States.{Shutting}
-use Rattle.transcript.specs.Life.{MayMake}
-use Rattle.leaf_moves.specs.Steps.{At, Copies, MakesStep, MakesSteps}
-use Rattle.leaf_deeds.specs.Moves.{MakesCopies}
+use Rattle.std.proofs.Common.{◌≡◌, ℕ, zero, suc, ◌+◌, ◌<◌, ◌≤◌, ◌∙◌, true, List, [], ◌++◌, Option, Some, None, append_assoc, append-nil, refl, sym, ap, subst, arith}
+use Rattle.transcript.specs.Pieces.{Noted}
+use Rattle.transcript.specs.Life.{Copying, MayMake, Stage, Step, Steps}
 use Rattle.leaf_deeds.specs.Steps.{AreLeft, Spends}
 
 -- ---- the steps that are made
 
-pub makes_none : (s : At) → MakesSteps 0 s [] s
-makes_none s = MakesSteps.none 0 s [] s refl refl refl
+module _ (tables copy : ℕ) where
+  -- one step more
+  pub steps_more : (n : ℕ) (s : Stage) (a : List Noted) (t : Stage) (b : List Noted) (u : Stage) → Steps tables copy n s a t → Step tables copy t b u → Steps tables copy (suc n) s (a ++ b) u
+  steps_more zero s a t b u steps step =
+      (b, [], u, subst (λ (v : Stage). Step tables copy v b u) steps.1 step, (refl, refl), ap (λ (ns : List Noted). ns ++ b) steps.0 ∙ sym (append-nil b))
+  steps_more (suc n) s a t b u steps step =
+      (steps.0, steps.1 ++ b, steps.2, steps.3, steps_more n steps.2 steps.1 t b u steps.4 step, ap (λ (ns : List Noted). ns ++ b) steps.5 ∙ append_assoc steps.0 steps.1 b)
 
--- one step more
-pub makes_more : (n : ℕ) (s : At) (a : List Note) (t : At) (b : List Note) (u : At) → MakesSteps n s a t → MakesStep t b u → MakesSteps (suc n) s (a ++ b) u
-makes_more n s a t b u (MakesSteps.none k v ns w n_is none same) step =
-    MakesSteps.more (suc n) s (a ++ b) u 0 b [] u (ap suc n_is) (subst (λ (x : At). MakesStep x b u) same step) (makes_none u)
-    (ap (λ (ns : List Note). ns ++ b) none ∙ sym (append-nil b))
-makes_more n s a t b u (MakesSteps.more k v ns w fewer first others between n_is one rest all) step =
-    MakesSteps.more (suc n) s (a ++ b) u (suc fewer) first (others ++ b) between (ap suc n_is) one (makes_more fewer between others t b u rest step)
-    (ap (λ (ns : List Note). ns ++ b) all ∙ append_assoc first others b)
-
--- more of them
-makes_join : (n k : ℕ) (s : At) (a : List Note) (t : At) (b : List Note) (u : At) → MakesSteps n s a t → MakesSteps k t b u → MakesSteps (n + k) s (a ++ b) u
-makes_join n k s a t b u (MakesSteps.none i v ns w n_is none same) on =
-    let size : k ≡ n + k = omega (arith, n_is) in
-    subst (λ (j : ℕ). MakesSteps j s (a ++ b) u) size
-    (subst (λ (ns : List Note). MakesSteps k s (ns ++ b) u) (sym none) (subst (λ (x : At). MakesSteps k x b u) same on))
-makes_join n k s a t b u (MakesSteps.more i v ns w fewer first others between n_is one rest all) on =
-    let size : n + k ≡ suc (fewer + k) = omega (arith, n_is) in
-    MakesSteps.more (n + k) s (a ++ b) u (fewer + k) first (others ++ b) between size one (makes_join fewer k between others t b u rest on)
-    (ap (λ (ns : List Note). ns ++ b) all ∙ append_assoc first others b)
-
--- notes of which there are none
-pub makes_still : (n : ℕ) (s : At) (a b : List Note) (t : At) → b ≡ [] → MakesSteps n s a t → MakesSteps n s (a ++ b) t
-makes_still n s a b t none steps = subst (λ (ns : List Note). MakesSteps n s ns t) (sym (append-nil a) ∙ ap (λ (ns : List Note). a ++ ns) (sym none)) steps
-
--- those of the copy, behind its plan
-pub makes_copies : (n k copy : ℕ) (s : At) (a : List Note) (x : Shutting) → MakesSteps n s a (Copies x copy 0) → MakesCopies copy k → MakesSteps (n + k) s a (Copies x copy k)
-makes_copies n k copy s a x steps copies =
-    subst (λ (ns : List Note). MakesSteps (n + k) s ns (Copies x copy k)) (append-nil a) (makes_join n k s a (Copies x copy 0) [] (Copies x copy k) steps (copies x))
+  -- those of the copy, behind its plan
+  pub copies_on : (n k : ℕ) (s : Stage) (a : List Noted) → k < copy → Steps tables copy n s a (Copying 0) → Steps tables copy (n + k) s a (Copying k)
+  copies_on n zero s a below steps =
+      let size : n ≡ n + 0 = omega arith in
+      subst (λ (i : ℕ). Steps tables copy i s a (Copying 0)) size steps
+  copies_on n (suc k) s a below steps =
+      let before = copies_on n k s a (omega (arith, below)) steps in
+      let size : suc (n + k) ≡ n + suc k = omega arith in
+      subst (λ (i : ℕ). Steps tables copy i s a (Copying (suc k))) size
+      (subst (λ (ns : List Noted). Steps tables copy (suc (n + k)) s ns (Copying (suc k))) (append-nil a)
+      (steps_more (n + k) s a (Copying k) [] (Copying (suc k)) before (below, refl, refl)))
 
 -- ---- how many may be made
 

@@ -2,7 +2,7 @@
 use Rattle.std.proofs.Common.{◌≡◌, ℕ, suc, ◌+◌, ◌*◌, ◌-◌, ◌<◌, ◌≤◌, Bool, true, false, List, [], ◌++◌, length, Option, Result, Ok, Err, refl, sym, ap, subst, ◌∙◌, arith}
 use Rattle.std.specs.Prelude.{IsTrue, if◌then◌else◌}
 use Rattle.std.proofs.lemmas.Option.{slice_get_within}
-use Rattle.std.proofs.lemmas.List.{length-append}
+use Rattle.std.proofs.lemmas.List.{append-nil, length-append}
 use Rattle.berth_face.specs.Berth.{Meaning, Passes}
 use Rattle.leaf_model.specs.declared.writes.Write.{Write}
 use Rattle.crash_moments.proofs.Telling.{told_join}
@@ -19,24 +19,31 @@ use Rattle.leaf_machine.specs.declared.preparing.PrepareFault.TheVariants as fau
 use Rattle.leaf_machine.specs.States.{Shutting, Copying, GoesOnCopying, IsShutAndTaken, RestsOn, GoesOnServing, treated}
 use Rattle.leaf_machine.specs.Prepares.{AllTreated, CrowdsStep, IsCrowded, IsTreatingStep, StepGoesOn, berth_of_step, seats_of_step}
 use Rattle.leaf_machine.proofs.UpMaking.{makes_join}
-use Rattle.leaf_moves.specs.Stage.{IsPreparing, Carries}
-use Rattle.leaf_moves.specs.Steps as step
-use Rattle.leaf_moves.specs.Steps.{AreShut, MakesStep, MakesSteps}
+use Rattle.printed_lines.specs.declared.line.Ending.{Ending}
+use Rattle.printed_lines.specs.declared.line.Ending.TheVariants as ending
+use Rattle.transcript.specs.Pieces.{Noted}
+use Rattle.transcript.specs.Life.{MayMake, Steps, Treats}
+use Rattle.transcript.specs.Life as life
+use Rattle.leaf_moves.specs.Stage.{IsPreparing}
+use Rattle.leaf_moves.specs.Modes.{HasShut, mode_of, progress_of}
+use Rattle.leaf_moves.specs.Steps.{AreShut, DrainMoves, Reaches, noted_all}
+use Rattle.leaf_moves.proofs.NoteLines.{noted_append}
 use Rattle.leaf_deeds.specs.declared.drain.Shut.TheVariants as how
-use Rattle.leaf_deeds.specs.Steps.{AreLeft, Spends, copy_left}
+use Rattle.leaf_deeds.specs.Steps.{AreLeft, Spends}
 use Rattle.leaf_deeds.specs.Moves as move
-use Rattle.leaf_deeds.specs.Moves.{CarriesCopy, IsKilled}
-use Rattle.leaf_deeds.proofs.Counted.{makes_none, makes_more, makes_still, none_made, spent, may_make, all_made}
+use Rattle.leaf_deeds.specs.Moves.{CarriesCopy, Drains, IsKilled, Treated}
+use Rattle.leaf_deeds.proofs.Counted.{steps_more, none_made, spent, may_make, all_made}
 use Rattle.leaf_deeds.proofs.Copied.{copy_long}
 use Rattle.leaf_deeds.proofs.Fewer.{treats_few}
-use Rattle.leaf_deeds.proofs.Treated.{GoesFar, one_treated, far_none, far_on, far_founded, far_tells, far_carries}
+use Rattle.leaf_deeds.proofs.Lives.{halts, one_treated, starves, treats}
+use Rattle.leaf_deeds.proofs.Treated.{GoesFar, far_none, far_on, far_founded, far_tells, far_carries}
 
 -- ---- the shutting so far
 
 -- Tables were treated up to this, with a step each, by these notes.
 pub record SoFar (x : Shutting) (m : Meaning) (stop : Option ℕ) (y : Shutting) (n : Meaning) (left : Option ℕ) (notes : List Note) : Type 0 where
   pub made : ℕ
-  pub steps : MakesSteps made (step.Shuts x) notes (step.Shuts y)
+  pub treated_so : Treated x made notes y
   pub left_are : AreLeft stop made left
   pub few : length notes ≤ 3 * treated y
   pub far : GoesFar x y notes m n
@@ -54,7 +61,7 @@ failed_step leaf f = Err (leaf, f)
 pub so_far_none : (x : Shutting) (m : Meaning) (stop : Option ℕ) → SoFar x m stop x m stop []
 so_far_none x m stop = record {
   made = 0;
-  steps = makes_none (step.Shuts x);
+  treated_so = record { steps = λ copy. (refl, refl); part = record { from = m.clock; to = m.clock; made = (far_none x m).made } };
   left_are = none_made stop;
   few = omega arith;
   far = far_none x m;
@@ -71,25 +78,23 @@ pub record Stepped {B : Type 0} (meaning : B → Meaning) (y : Shutting) (n : Me
   pub time : Passes n (meaning (berth_of_step r))
 
 -- one table fewer is left behind a step
-pub fewer_left : {B : Type 0} (meaning : B → Meaning) (leaf more : Shutting × B) (notes : List Note) → (IsTrue leaf.0.waits → 0 < length leaf.0.closed)
-    → Stepped meaning leaf.0 (meaning leaf.1) notes (more_step more)
+pub fewer_left : {B : Type 0} (meaning : B → Meaning) (leaf more : Shutting × B) (notes : List Note) → HasShut leaf.0 → Stepped meaning leaf.0 (meaning leaf.1) notes (more_step more)
     → length more.0.serving.seated.tables - treated more.0 < length leaf.0.serving.seated.tables - treated leaf.0
-fewer_left meaning leaf more notes some stepped =
+fewer_left meaning leaf more notes shut stepped =
     let same = ap (λ ts. length ts) (makes_tables (meaning leaf.1).clock (meaning more.1).clock leaf.0.serving.seated notes more.0.serving.seated stepped.made) in
-    omega (arith, same, one_treated leaf.0 more.0 notes some stepped.one.1, stepped.one.0)
+    omega (arith, same, one_treated leaf.0 more.0 (noted_all notes) (treats leaf.0 more.0 notes shut stepped.one.1), stepped.one.0)
 
 module _ {B : Type 0} (meaning : B → Meaning) (x : Shutting) (m : Meaning) (stop left left' : Option ℕ) (leaf : Shutting × B)
-    (before : List Note) (so_far : SoFar x m stop leaf.0 (meaning leaf.1) left before) where
+    (before : List Note) (so_far : SoFar x m stop leaf.0 (meaning leaf.1) left before) (shut : HasShut leaf.0) where
   -- no step is left
   pub shut_stopped : Spends left false left' → move.ShutsTables meaning x m stop before (how.Stopped leaf) left'
   shut_stopped spends = record {
-    ends = record {
-      made = so_far.made;
-      all = all_made stop left so_far.made 0 so_far.made so_far.left_are spends (omega arith);
-      steps = so_far.steps;
-      carries = far_carries x leaf.0 before m (meaning leaf.1) so_far.far;
-      region = so_far.far.region;
-    };
+    made = so_far.made;
+    all = all_made stop left so_far.made 0 so_far.made so_far.left_are spends (omega arith);
+    so_far = so_far.treated_so;
+    shut = shut;
+    carries = far_carries x leaf.0 before m (meaning leaf.1) so_far.far;
+    region = so_far.far.region;
     reads = so_far.far.reads;
   }
 
@@ -97,34 +102,51 @@ module _ {B : Type 0} (meaning : B → Meaning) (x : Shutting) (m : Meaning) (st
     left_now : AreLeft stop (suc so_far.made) left'
     left_now = spent stop left left' so_far.made so_far.left_are spends
 
+    may_now : MayMake stop (suc so_far.made)
+    may_now = may_make stop left' (suc so_far.made) left_now
+
+    abbrev tables : ℕ
+    tables = length x.serving.seated.tables
+
+    same_tables : length leaf.0.serving.seated.tables ≡ tables
+    same_tables = ap (λ ts. length ts) (makes_tables m.clock (meaning leaf.1).clock x.serving.seated before leaf.0.serving.seated so_far.far.made)
+
     far_then : (z : Shutting) (o : Meaning) → GoesFar leaf.0 z notes (meaning leaf.1) o → GoesFar x z (before ++ notes) m o
     far_then z o goes = far_on x leaf.0 before m (meaning leaf.1) so_far.far z notes o goes
 
     -- one table more
-    pub shut_more : (more : Shutting × B) → (IsTrue leaf.0.waits → 0 < length leaf.0.closed) → Stepped meaning leaf.0 (meaning leaf.1) notes (more_step more)
-        → SoFar x m stop more.0 (meaning more.1) left' (before ++ notes)
-    shut_more more some stepped = record {
+    pub shut_more : (more : Shutting × B) → Stepped meaning leaf.0 (meaning leaf.1) notes (more_step more) → SoFar x m stop more.0 (meaning more.1) left' (before ++ notes)
+    shut_more more stepped = record {
       made = suc so_far.made;
-      steps = makes_more so_far.made (step.Shuts x) before (step.Shuts leaf.0) notes (step.Shuts more.0) so_far.steps
-          (MakesStep.treats leaf.0 more.0 refl stepped.one.0 stepped.one.1 (record { from = (meaning leaf.1).clock; to = (meaning more.1).clock; made = stepped.made }) refl);
+      treated_so = record {
+        steps = λ copy. subst (λ (ns : List Noted). Steps tables copy (suc so_far.made) (life.Shutting (progress_of x)) ns (life.Shutting (progress_of more.0))) (sym (noted_append before notes))
+            (steps_more tables copy so_far.made (life.Shutting (progress_of x)) (noted_all before) (life.Shutting (progress_of leaf.0)) (noted_all notes) (life.Shutting (progress_of more.0))
+            (so_far.treated_so.steps copy) (omega (arith, stepped.one.0, same_tables), step));
+        part = record { from = m.clock; to = (meaning more.1).clock; made = far.made };
+      };
       left_are = left_now;
-      few = omega (arith, length-append before notes, so_far.few, treats_few leaf.0 more.0 notes stepped.one.1, one_treated leaf.0 more.0 notes some stepped.one.1);
-      far = far_then more.0 (meaning more.1) (record { made = stepped.made; goes = stepped.crash; region = stepped.region; reads = stepped.reads; passes = stepped.time });
+      few = omega (arith, length-append before notes, so_far.few, treats_few (progress_of leaf.0) (progress_of more.0) notes step, one_treated leaf.0 more.0 (noted_all notes) step);
+      far = far;
     }
+      where
+        step : Treats (progress_of leaf.0) (noted_all notes) (progress_of more.0)
+        step = treats leaf.0 more.0 notes shut stepped.one.1
+
+        far : GoesFar x more.0 (before ++ notes) m (meaning more.1)
+        far = far_then more.0 (meaning more.1) (record { made = stepped.made; goes = stepped.crash; region = stepped.region; reads = stepped.reads; passes = stepped.time })
 
     -- all are treated, and the copy is planned
     pub shut_ready : (copy : Copying × B) → (AllTreated leaf.0 → AreShut leaf.0.serving.seated) → Stepped meaning leaf.0 (meaning leaf.1) notes (ready_step copy) → move.ShutsTables meaning x m stop (before ++ notes) (how.Ready copy) left'
-    shut_ready copy shut stepped = record {
-      ends = record {
-        whole = leaf.0;
-        made = suc so_far.made;
-        steps = makes_more so_far.made (step.Shuts x) before (step.Shuts leaf.0) notes (step.Copies leaf.0 (copy_left copy.0) 0) so_far.steps
-            (MakesStep.plans leaf.0 (copy_left copy.0) refl stepped.one.0 (copy_long leaf.0 copy.0 stepped.one.2 (shut stepped.one.0)) stepped.one.1 refl);
-        left_are = left_now;
-        copy = stepped.one.2;
-        carries = copy_carries;
-        region = λ tells. stepped.region (tells_then tells) ∙ so_far.far.region tells;
-      };
+    shut_ready copy are_shut stepped = record {
+      whole = leaf.0;
+      made = so_far.made;
+      so_far = subst (λ (ns : List Note). Treated x so_far.made ns leaf.0) (sym (append-nil before) ∙ ap (λ (ns : List Note). before ++ ns) (sym stepped.one.1)) so_far.treated_so;
+      left_are = left_now;
+      all = stepped.one.0;
+      long = copy_long leaf.0 copy.0 stepped.one.2 (are_shut stepped.one.0);
+      copy = stepped.one.2;
+      carries = copy_carries;
+      region = λ tells. stepped.region (tells_then tells) ∙ so_far.far.region tells;
       reads = stepped.reads ∙ so_far.far.reads;
     }
       where
@@ -142,73 +164,57 @@ module _ {B : Type 0} (meaning : B → Meaning) (x : Shutting) (m : Meaning) (st
               );
         }
 
-    -- the step failed
+    -- the step failed, and with it the drain
     module _ (half : Shutting × B) (f : PrepareFault) (stepped : Stepped meaning leaf.0 (meaning leaf.1) notes (failed_step half f)) where
       half_far : GoesFar x half.0 (before ++ notes) m (meaning half.1)
       half_far = far_then half.0 (meaning half.1) (record { made = stepped.made; goes = stepped.crash; region = stepped.region; reads = stepped.reads; passes = stepped.time })
 
-      half_carries : Carries (IsPreparing x) (IsPreparing half.0) (before ++ notes) m (meaning half.1)
-      half_carries = far_carries x half.0 (before ++ notes) m (meaning half.1) half_far
+      abbrev reached : Reaches (IsPreparing x) (IsPreparing half.0) (before ++ notes) 0 (life.Shutting (progress_of leaf.0))
+      reached = record {
+        made = so_far.made;
+        treating = before;
+        last = notes;
+        notes_are = refl;
+        comes = (progress_of x, refl, so_far.treated_so.steps 0);
+        between = leaf.0.serving.seated;
+        treats = so_far.treated_so.part;
+        ends = record { from = (meaning leaf.1).clock; to = (meaning half.1).clock; made = stepped.made };
+      }
+
+      failed_as : (g : PrepareFault) → f ≡ g → IsTreatingStep leaf.0 notes (failed_step half g)
+      failed_as g e = subst (λ (h : PrepareFault). IsTreatingStep leaf.0 notes (failed_step half h)) e stepped.one
+
+      drained : (ends : Ending) → DrainMoves m (meaning half.1) (IsPreparing x) stop (before ++ notes) ends (IsPreparing half.0)
+          → Drains m (meaning half.1) (IsPreparing x) stop (before ++ notes) ends (IsPreparing half.0)
+      drained ends moves = record { moves = moves; carries = far_carries x half.0 (before ++ notes) m (meaning half.1) half_far; reads = half_far.reads }
 
       pub shut_halted : f ≡ fault.DiskFault → move.ShutsTables meaning x m stop (before ++ notes) (how.Halted half) left'
       shut_halted e =
-          let one : IsTreatingStep leaf.0 notes (failed_step half fault.DiskFault) = subst (λ (g : PrepareFault). IsTreatingStep leaf.0 notes (failed_step half g)) e stepped.one in
-          record {
-            ends = record {
-              half = leaf.0;
-              made = so_far.made;
-              treating = before;
-              halting = notes;
-              steps = so_far.steps;
-              may = may_make stop left' (suc so_far.made) left_now;
-              more = one.0;
-              halts = one.1;
-              notes_are = refl;
-              carries = half_carries;
-              region = half_far.region;
-            };
-            reads = half_far.reads;
-          }
+          let one = failed_as fault.DiskFault e in
+          drained ending.FaultDisk
+          (progress_of leaf.0, progress_of half.0, reached, may_now, omega (arith, one.0, same_tables), halts leaf.0 half.0 notes one.1, refl, half_far.region)
 
       pub shut_starved : f ≡ fault.NoMemory → move.ShutsTables meaning x m stop (before ++ notes) (how.Starved half) left'
       shut_starved e =
-          let one : IsTreatingStep leaf.0 notes (failed_step half fault.NoMemory) = subst (λ (g : PrepareFault). IsTreatingStep leaf.0 notes (failed_step half g)) e stepped.one in
-          record {
-            ends = record {
-              half = leaf.0;
-              made = so_far.made;
-              treating = before;
-              starving = notes;
-              steps = so_far.steps;
-              may = may_make stop left' (suc so_far.made) left_now;
-              starves = one;
-              part = record { from = (meaning leaf.1).clock; to = (meaning half.1).clock; made = stepped.made };
-              notes_are = refl;
-              carries = half_carries;
-              region = half_far.region;
-            };
-            reads = half_far.reads;
-          }
+          drained ending.FaultMemory
+          (progress_of leaf.0, progress_of half.0, reached, may_now, starves tables leaf.0 half.0 notes same_tables (failed_as fault.NoMemory e), refl, half_far.region)
 
       pub shut_roomless : (AllTreated leaf.0 → AreShut leaf.0.serving.seated) → f ≡ fault.NoRoom → move.ShutsTables meaning x m stop (before ++ notes) (how.Roomless half) left'
-      shut_roomless shut e =
-          let one : IsTreatingStep leaf.0 notes (failed_step half fault.NoRoom) = subst (λ (g : PrepareFault). IsTreatingStep leaf.0 notes (failed_step half g)) e stepped.one in
+      shut_roomless are_shut e =
+          let one = failed_as fault.NoRoom e in
           let crowded : CrowdsStep leaf.0 (failed_step half fault.NoRoom) = subst (λ (g : PrepareFault). CrowdsStep leaf.0 (failed_step half g)) e stepped.crowds in
-          let stays : leaf.0 ≡ half.0 = sym one.3 in
-          record {
-            ends = record {
-              made = so_far.made;
-              steps = subst (λ (z : Shutting). MakesSteps so_far.made (step.Shuts x) (before ++ notes) (step.Shuts z)) stays
-                  (makes_still so_far.made (step.Shuts x) before notes (step.Shuts leaf.0) one.2 so_far.steps);
-              all = subst AllTreated stays one.0;
-              shut = subst (λ (z : Shutting). AreShut z.serving.seated) stays (shut one.0);
-              crowded = subst (λ (z : Shutting). IsCrowded z.serving.seated) stays crowded;
-              may = may_make stop left' (suc so_far.made) left_now;
-              carries = half_carries;
-              region = half_far.region;
-            };
-            reads = half_far.reads;
-          }
+          let same : leaf.0 ≡ half.0 = sym one.3 in
+          drained ending.FaultRoom (
+            progress_of leaf.0,
+            reached,
+            may_now,
+            one.0 ∙ same_tables,
+            subst (λ (z : Shutting). AreShut z.serving.seated) same (are_shut one.0),
+            subst (λ (z : Shutting). IsCrowded z.serving.seated) same crowded,
+            one.2,
+            ap (λ (z : Shutting). mode_of (IsPreparing z)) one.3,
+            half_far.region,
+          )
 
 -- ---- all are treated
 

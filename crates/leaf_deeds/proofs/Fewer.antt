@@ -1,73 +1,69 @@
 -- How many notes a drain makes at most.
-use Rattle.std.proofs.Common.{◌≡◌, ℕ, suc, ◌+◌, ◌-◌, ◌≤◌, Bool, true, false, List, [], ◌∷◌, ◌++◌, length, map, Option, Some, None, Result, Ok, Err, refl, sym, ap, ◌∙◌, arith}
+use Rattle.std.proofs.Common.{◌≡◌, ℕ, suc, ◌+◌, ◌-◌, ◌≤◌, Bool, true, false, List, [], ◌∷◌, ◌++◌, length, map, Option, Some, None, Result, Ok, Err, refl, sym, ap, ◌∙◌, arith, inl, inr}
 use Rattle.std.specs.Prelude.{if◌then◌else◌}
 use Rattle.std.proofs.lemmas.List.{length-append, length-map}
-use Rattle.row_records.specs.Records.{LogRecord}
 use Rattle.leaf_table.specs.Calls.{name_of}
 use Rattle.leaf_steward.specs.declared.notes.Note.{Note}
 use Rattle.leaf_steward.specs.declared.notes.What.{What}
-use Rattle.leaf_steward.specs.Owing.{Owing}
 use Rattle.leaf_steward.specs.Seated.{Seated, AreSeated}
 use Rattle.leaf_steward.specs.Making.{EachNoted}
 use Rattle.leaf_machine.specs.declared.preparing.Prepared.{Prepared}
 use Rattle.leaf_machine.specs.declared.preparing.Prepared.TheVariants as prepared
 use Rattle.leaf_machine.specs.declared.preparing.PrepareFault.{PrepareFault}
 use Rattle.leaf_machine.specs.declared.preparing.PrepareFault.TheVariants as fault
-use Rattle.leaf_machine.specs.Flushes.{OwedNotes}
 use Rattle.leaf_machine.specs.States.{Shutting, treated}
-use Rattle.leaf_machine.specs.Prepares as prepare
-use Rattle.leaf_machine.specs.Prepares.{Treats, Halts, Starves, IsTreatingStep}
+use Rattle.leaf_machine.specs.Prepares.{IsTreatingStep}
+use Rattle.printed_lines.specs.declared.line.Said.{Said}
+use Rattle.printed_lines.specs.declared.line.Said.TheVariants as said
+use Rattle.transcript.specs.Pieces.{Noted}
+use Rattle.transcript.specs.Life.{Halts, NotesOf, Owed, Progress, Starves, Treats, owed_words}
+use Rattle.leaf_moves.specs.Modes.{HasShut, progress_of}
+use Rattle.leaf_moves.specs.Steps.{noted, noted_all}
+use Rattle.leaf_moves.proofs.NoteLines.{words_in}
+use Rattle.leaf_deeds.proofs.Lives.{halts, starves, treats}
 
 -- ---- of a step
 
-owed_few : (r : Option LogRecord) (o : Owing) (notes : List Note) → OwedNotes r o notes → length notes ≤ 1
-owed_few None o notes none =
-    let size : length notes ≡ 0 = ap (λ (ns : List Note). length ns) none in
-    omega (arith, size)
-owed_few (Some r) o notes one =
-    let size : length notes ≡ 1 = ap (λ (ns : List Note). length ns) one.1 in
-    omega (arith, size)
+owed_few : (owed : Option Owed) → length (owed_words owed) ≤ 1
+owed_few None = omega arith
+owed_few (Some o) = omega arith
 
-two_behind : (first notes : List Note) (a b : Note) → length first ≤ 1 → notes ≡ first ++ a ∷ b ∷ [] → length notes ≤ 3
-two_behind first notes a b few all =
-    let size : length notes ≡ length first + 2 = ap (λ (ns : List Note). length ns) all ∙ length-append first (a ∷ b ∷ []) in
-    omega (arith, size, few)
+-- as many as words, and one of what was owed
+words_few : (owed : Option Owed) (table : ℕ) (saids : List Said) (notes : List Note) → NotesOf owed table saids (noted_all notes) → length notes ≤ 1 + length saids
+words_few owed table saids notes words =
+    let word : Noted → ℕ × Said = λ n. (n.table, n.said) in
+    let of_it : Said → ℕ × Said = λ s. (table, s) in
+    let told : List (ℕ × Said) = map of_it saids in
+    let count : length (words_in notes) ≡ length notes = length-map (noted_all notes) word ∙ length-map notes noted in
+    let sum : length (owed_words owed ++ told) ≡ length (owed_words owed) + length told = length-append (owed_words owed) told in
+    let own : length told ≡ length saids = length-map saids of_it in
+    let all : length (words_in notes) ≡ length (owed_words owed ++ told) = ap (λ (ws : List (ℕ × Said)). length ws) words in
+    omega (arith, count, all, sum, own, owed_few owed)
 
-one_behind : (first notes : List Note) (a : Note) → length first ≤ 1 → notes ≡ first ++ a ∷ [] → length notes ≤ 3
-one_behind first notes a few all =
-    let size : length notes ≡ length first + 1 = ap (λ (ns : List Note). length ns) all ∙ length-append first (a ∷ []) in
-    omega (arith, size, few)
+none_few : (notes : List Note) → noted_all notes ≡ [] → length notes ≤ 3
+none_few notes none = omega (arith, length-map notes noted, ap (λ (ns : List Noted). length ns) none)
 
-none_few : (notes : List Note) → notes ≡ [] → length notes ≤ 3
-none_few notes none =
-    let size : length notes ≡ 0 = ap (λ (ns : List Note). length ns) none in
-    omega (arith, size)
+two_few : (b : Bool) (x y : Said) → length (if b then [] else x ∷ y ∷ []) ≤ 2
+two_few true x y = omega arith
+two_few false x y = omega arith
 
-up_to_three : (notes : List Note) → length notes ≤ 1 → length notes ≤ 3
-up_to_three notes few = omega (arith, few)
+pub treats_few : (p q : Progress) (notes : List Note) → Treats p (noted_all notes) q → length notes ≤ 3
+treats_few p q notes step = omega (arith, words_few p.owed p.treated (if p.waits then [] else said.Closed step.0.0 ∷ said.Flushed step.0.0 ∷ []) notes step.0.1, two_few p.waits (said.Closed step.0.0) (said.Flushed step.0.0))
 
-pub treats_few : (x y : Shutting) (notes : List Note) → Treats x y notes → length notes ≤ 3
-treats_few x y notes (prepare.Treats.whole first closing flushing n content open_ noted all closed shut none) =
-    two_behind first notes _ _ (owed_few x.serving.owing.log.owed x.serving.owing first noted) all
-treats_few x y notes (prepare.Treats.rest half noted closed shut none) = up_to_three notes (owed_few x.serving.owing.log.owed x.serving.owing notes noted)
+halts_few : (p q : Progress) (notes : List Note) → Halts p (noted_all notes) q → length notes ≤ 3
+halts_few p q notes (inl h) = omega (arith, words_few p.owed p.treated (said.Closed h.0 ∷ []) notes h.2)
+halts_few p q notes (inr h) = none_few notes h.2
 
-halts_few : (x y : Shutting) (notes : List Note) → Halts x y notes → length notes ≤ 3
-halts_few x y notes (prepare.Halts.half first closing n content open_ noted all closed shut some owner count) =
-    one_behind first notes _ (owed_few x.serving.owing.log.owed x.serving.owing first noted) all
-halts_few x y notes (prepare.Halts.stuck none some seated owed owner count closed shut) = none_few notes none
+starves_few : (tables : ℕ) (p q : Progress) (notes : List Note) → Starves tables p (noted_all notes) q → length notes ≤ 3
+starves_few tables p q notes (inl h) = omega (arith, words_few p.owed p.treated [] notes h.0)
+starves_few tables p q notes (inr h) = omega (arith, words_few p.owed p.treated (said.Closed h.0 ∷ said.Flushed h.0 ∷ []) notes h.3)
 
-starves_few : (x y : Shutting) (notes : List Note) → Starves x y notes → length notes ≤ 3
-starves_few x y notes (prepare.Starves.before open_ noted closed shut none) = up_to_three notes (owed_few x.serving.owing.log.owed x.serving.owing notes noted)
-starves_few x y notes (prepare.Starves.behind first closing flushing n content open_ more noted all closed shut none) =
-    two_behind first notes _ _ (owed_few x.serving.owing.log.owed x.serving.owing first noted) all
-starves_few x y notes (prepare.Starves.still half noted closed shut none) = up_to_three notes (owed_few x.serving.owing.log.owed x.serving.owing notes noted)
-
-pub step_few : {B : Type 0} (x : Shutting) (notes : List Note) (r : Result (Prepared B) ((Shutting × B) × PrepareFault)) → IsTreatingStep x notes r → length notes ≤ 3
-step_few x notes (Ok (prepared.More leaf)) one = treats_few x leaf.0 notes one.1
-step_few x notes (Ok (prepared.Ready leaf)) one = none_few notes one.1
-step_few x notes (Err ((y, b), fault.DiskFault)) one = halts_few x y notes one.1
-step_few x notes (Err ((y, b), fault.NoRoom)) one = none_few notes one.2
-step_few x notes (Err ((y, b), fault.NoMemory)) one = starves_few x y notes one
+pub step_few : {B : Type 0} (x : Shutting) (notes : List Note) (r : Result (Prepared B) ((Shutting × B) × PrepareFault)) → HasShut x → IsTreatingStep x notes r → length notes ≤ 3
+step_few x notes (Ok (prepared.More leaf)) shut one = treats_few (progress_of x) (progress_of leaf.0) notes (treats x leaf.0 notes shut one.1)
+step_few x notes (Ok (prepared.Ready leaf)) shut one = none_few notes (ap (λ (ns : List Note). noted_all ns) one.1)
+step_few x notes (Err ((y, b), fault.DiskFault)) shut one = halts_few (progress_of x) (progress_of y) notes (halts x y notes one.1)
+step_few x notes (Err ((y, b), fault.NoRoom)) shut one = none_few notes (ap (λ (ns : List Note). noted_all ns) one.2)
+step_few x notes (Err ((y, b), fault.NoMemory)) shut one = starves_few (length x.serving.seated.tables) (progress_of x) (progress_of y) notes (starves _ x y notes refl one)
 
 -- ---- of the tables
 

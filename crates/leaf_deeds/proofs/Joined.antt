@@ -1,6 +1,7 @@
 -- A drain, of its two parts.
-use Rattle.std.proofs.Common.{◌≡◌, ℕ, zero, suc, ◌+◌, ◌≤◌, List, [], ◌++◌, length, Option, refl, sym, ap, subst, ◌∙◌, arith}
+use Rattle.std.proofs.Common.{◌≡◌, ℕ, zero, suc, ◌+◌, ◌<◌, ◌≤◌, List, [], ◌++◌, length, Option, refl, sym, ap, subst, ◌∙◌, arith}
 use Rattle.std.specs.Prelude.{IsTrue}
+use Rattle.std.proofs.lemmas.List.{append-nil}
 use Rattle.berth_face.specs.Berth.{Meaning, Passes}
 use Rattle.adopt.specs.Adopting.{HasNoStranger}
 use Rattle.crash_moments.specs.Left.{NamedStates}
@@ -10,202 +11,231 @@ use Rattle.leaf_table.specs.Turns.{Shared}
 use Rattle.leaf_steward.specs.Seated.{Seated, AreFounded, AreSeated, watched_by}
 use Rattle.leaf_steward.specs.Making.{Makes, EachNoted, IsClosedNote, IsHandedNote}
 use Rattle.leaf_steward.proofs.WatchMakes.{makes_tables}
-use Rattle.leaf_machine.specs.States.{Shutting, Copying}
+use Rattle.leaf_machine.specs.States.{Serving, Shutting, Copying}
 use Rattle.leaf_machine.specs.Prepares.{begins}
 use Rattle.leaf_machine.proofs.StartMakes.{makes_names}
 use Rattle.leaf_machine.proofs.UpMaking.{makes_join}
 use Rattle.printed_lines.specs.declared.line.Ending.{Ending}
 use Rattle.printed_lines.specs.declared.line.Ending.TheVariants as ending
+use Rattle.transcript.specs.Pieces.{Noted}
+use Rattle.transcript.specs.Life.{MayMake, Stage, Steps}
+use Rattle.transcript.specs.Life as life
 use Rattle.leaf_moves.specs.Stage.{Leaf, IsDown, IsUp, IsPreparing, Stands, Carries, seated_of}
-use Rattle.leaf_moves.specs.Steps as step
-use Rattle.transcript.specs.Life.{MayMake}
-use Rattle.leaf_moves.specs.Steps.{BeginsShutting, MakesSteps, DrainMoves, RegionStopped}
-use Rattle.leaf_deeds.specs.declared.drain.Shut.TheVariants as how
+use Rattle.leaf_moves.specs.Modes.{progress_of}
+use Rattle.leaf_moves.specs.Steps.{DrainMoves, HasCopyLength, Reaches, RegionStopped, Stops, noted_all}
+use Rattle.leaf_moves.proofs.Drains.{by_endings}
 use Rattle.leaf_deeds.specs.Held.{KeepsSeats}
 use Rattle.leaf_deeds.specs.Steps.{copy_left}
 use Rattle.leaf_deeds.specs.Moves as move
-use Rattle.leaf_deeds.specs.Moves.{CarriesCopy, CopyEnds, CopyRests, CopyStands, Drains, IsCopied, IsKilled, IsCopyReady, MakesCopies}
+use Rattle.leaf_deeds.specs.Moves.{CopyEnds, CopyRests, CopyStands, Drains, IsCopied, IsCopyReady, IsKilled, IsStopped}
 use Rattle.leaf_deeds.proofs.Carrying.{carries_on, founded_on, makes_keeps}
-use Rattle.leaf_deeds.proofs.Counted.{makes_copies, makes_still, may_make_more, all_made}
+use Rattle.leaf_deeds.proofs.Counted.{all_made, copies_on, may_make_more, steps_more}
 use Rattle.leaf_deeds.proofs.Fewer.{each_few, tables_few}
 use Rattle.leaf_deeds.proofs.OwnImages.{copied_own}
-
--- ---- a leaf that begins to shut its tables is one that shuts them
-
-pub begins_seated : (leaf : Leaf) (x : Shutting) → BeginsShutting leaf x → x.serving.seated ≡ seated_of leaf
-begins_seated (IsDown y) x shuts = absurd shuts
-begins_seated (IsUp s) x shuts = ap (λ (z : Shutting). z.serving.seated) shuts
-begins_seated (IsPreparing y) x shuts = ap (λ (z : Shutting). z.serving.seated) shuts
-
-pub begins_stands : (leaf : Leaf) (x : Shutting) (base : NamedStates) (m : Meaning) → BeginsShutting leaf x → Stands base leaf m → Stands base (IsPreparing x) m
-begins_stands (IsDown y) x base m shuts stands = absurd shuts
-begins_stands (IsUp s) x base m shuts stands = subst (λ (z : Shutting). Stands base (IsPreparing z) m) (sym shuts) stands
-begins_stands (IsPreparing y) x base m shuts stands = subst (λ (z : Shutting). Stands base (IsPreparing z) m) (sym shuts) stands
-
-begins_founded : (leaf : Leaf) (x : Shutting) → BeginsShutting leaf x → AreFounded (seated_of leaf) → AreFounded x.serving.seated
-begins_founded leaf x shuts founded = subst AreFounded (sym (begins_seated leaf x shuts)) founded
-
-begins_carries : (leaf : Leaf) (x : Shutting) (leaf' : Leaf) (notes : List Note) (m m' : Meaning) → BeginsShutting leaf x → Carries (IsPreparing x) leaf' notes m m' → Carries leaf leaf' notes m m'
-begins_carries (IsDown y) x leaf' notes m m' shuts carries = absurd shuts
-begins_carries (IsUp s) x leaf' notes m m' shuts carries =
-    let here : Carries (IsPreparing (begins s)) leaf' notes m m' = subst (λ (z : Shutting). Carries (IsPreparing z) leaf' notes m m') shuts carries in
-    record { made = here.made; stands = λ base tells founded sound stands. let on = here.stands base tells founded sound stands in record { stands = on.stands; told = on.told } }
-begins_carries (IsPreparing y) x leaf' notes m m' shuts carries = subst (λ (z : Shutting). Carries (IsPreparing z) leaf' notes m m') shuts carries
 
 -- ---- all tables are treated, and then they are copied
 
 -- the region was as it had been when the copy began
-stopped_since : (made : ℕ) (m n o : Meaning) → n.held.region ≡ m.held.region → RegionStopped made n o → RegionStopped made m o
+stopped_since : (made : ℕ) (m n o : Meaning) → n.held.region ≡ m.held.region → RegionStopped (life.Copying made) n o → RegionStopped (life.Copying made) m o
 stopped_since zero m n o same stopped = stopped ∙ same
 stopped_since (suc made) m n o same stopped = stopped
 
-module _ (x : Shutting) (m n o : Meaning) (leaf : Leaf) (stop left : Option ℕ) (treating notes : List Note) (c : Copying) (z : Seated) (ends : Ending)
-    (shuts : BeginsShutting leaf x) (ready : IsCopyReady x m stop treating c n left) (passes : Passes m n) where
+-- how many notes there are where there are none
+nothing : (notes : List Note) → notes ≡ [] → length notes ≤ 16
+nothing notes none =
+    let size : length notes ≡ 0 = ap (λ (ns : List Note). length ns) none in
+    omega (arith, size)
+
+module _ (x : Shutting) (m n o : Meaning) (stop left : Option ℕ) (before notes : List Note) (c : Copying) (z : Seated) (ends : Ending)
+    (ready : IsCopyReady x m stop before c n left) (passes : Passes m n) (rests : CopyRests c z notes n o) where
   copy_tables : c.seated.tables ≡ x.serving.seated.tables
-  copy_tables = makes_tables m.clock n.clock x.serving.seated treating c.seated ready.carries.made
+  copy_tables = makes_tables m.clock n.clock x.serving.seated before c.seated ready.carries.made
+
+  same_count : length c.seated.tables ≡ length x.serving.seated.tables
+  same_count = ap (λ (ts : List Shared). length ts) copy_tables
 
   -- the copy stands, of a leaf that stood
-  copy_stands : (base : NamedStates) → IsTrue m.tells → AreFounded (seated_of leaf) → Stands base leaf m → IsTrue n.tells × AreFounded c.seated × CopyStands c n
-  copy_stands base tells founded stands =
-      let was : AreFounded x.serving.seated = begins_founded leaf x shuts founded in
-      (passes.tells ∙ tells, founded_on x.serving.seated c.seated copy_tables was, (ready.carries.stands base tells was (begins_stands leaf x base m shuts stands)).0)
+  copy_stands : (base : NamedStates) → IsTrue m.tells → AreFounded x.serving.seated → Stands base (IsPreparing x) m → IsTrue n.tells × AreFounded c.seated × CopyStands c n
+  copy_stands base tells founded stands = (passes.tells ∙ tells, founded_on x.serving.seated c.seated copy_tables founded, (ready.carries.stands base tells founded stands).0)
 
-  copy_carries : CopyRests c z notes n o → Carries (IsPreparing x) (IsDown z) (treating ++ notes) m o
-  copy_carries rests = record {
-    made = makes_join m.clock n.clock o.clock x.serving.seated c.seated z treating notes ready.carries.made rests.made;
+  copy_carries : Carries (IsPreparing x) (IsDown z) (before ++ notes) m o
+  copy_carries = record {
+    made = makes_join m.clock n.clock o.clock x.serving.seated c.seated z before notes ready.carries.made rests.made;
     stands = λ base tells founded sound stands.
         let copies = ready.carries.stands base tells founded stands in
         let down = rests.stands base (passes.tells ∙ tells) (founded_on x.serving.seated c.seated copy_tables founded) sound copies.0 in
         record { stands = down.0; told = told_join base (watched_by x.serving.seated) (watched_by c.seated) (watched_by z) m n o copies.1 down.1 };
   }
 
-  whole_down : z ≡ c.seated → IsDown z ≡ IsDown ready.whole.serving.seated
-  whole_down e = ap (λ (s : Seated). IsDown s) (e ∙ ready.copy.seated)
+  -- the plan is a step more
+  planned : (copy : ℕ) → Steps (length x.serving.seated.tables) copy (suc ready.made) (life.Shutting (progress_of x)) (noted_all before) (life.Copying 0)
+  planned copy =
+      let all = ready.all ∙ (ap (λ (y : Seated). length y.tables) (sym ready.copy.seated) ∙ same_count) in
+      subst (λ (ns : List Noted). Steps (length x.serving.seated.tables) copy (suc ready.made) (life.Shutting (progress_of x)) ns (life.Copying 0)) (append-nil (noted_all before))
+      (steps_more (length x.serving.seated.tables) copy ready.made (life.Shutting (progress_of x)) (noted_all before) (life.Shutting (progress_of ready.whole)) [] (life.Copying 0)
+      (ready.so_far.steps copy) (all, refl, refl))
 
-  -- the steps up to here and those of the copy, and whether one more may be made
-  copy_steps : (made : ℕ) → MakesCopies (copy_left c) made → MakesSteps (ready.made + made) (step.Shuts x) treating (step.Copies ready.whole (copy_left c) made)
-  copy_steps made copies = makes_copies ready.made made (copy_left c) (step.Shuts x) treating ready.whole ready.steps copies
+  -- so many steps of a copy
+  abbrev copied_to : (copy made : ℕ) → made < copy → Reaches (IsPreparing x) (IsDown z) (before ++ notes) copy (life.Copying made)
+  copied_to copy made below = record {
+    made = suc ready.made + made;
+    treating = before;
+    last = notes;
+    notes_are = refl;
+    comes = (progress_of x, refl, copies_on (length x.serving.seated.tables) copy (suc ready.made) made (life.Shutting (progress_of x)) (noted_all before) below (planned copy));
+    between = ready.whole.serving.seated;
+    treats = ready.so_far.part;
+    ends = record { from = n.clock; to = o.clock; made = subst (λ (s : Seated). Makes n.clock o.clock s notes z) ready.copy.seated rests.made };
+  }
 
-  copy_still : (made : ℕ) → MakesCopies (copy_left c) made → notes ≡ [] → MakesSteps (ready.made + made) (step.Shuts x) (treating ++ notes) (step.Copies ready.whole (copy_left c) made)
-  copy_still made copies none = makes_still (ready.made + made) (step.Shuts x) treating notes (step.Copies ready.whole (copy_left c) made) none (copy_steps made copies)
+  may_copy : (made : ℕ) → MayMake left (suc made) → MayMake stop (suc (suc ready.made + made))
+  may_copy made may = may_make_more stop left (suc ready.made) (suc made) (suc (suc ready.made + made)) ready.left_are may (omega arith)
 
-  may_copy : (made : ℕ) → MayMake left (suc made) → MayMake stop (suc (ready.made + made))
-  may_copy made may = may_make_more stop left ready.made (suc made) (suc (ready.made + made)) ready.left_are may (omega arith)
-
-  -- what it leaves names tables of the leaf alone
-  whole_names : ready.whole.serving.seated.names ≡ (seated_of leaf).names
-  whole_names =
-      ap (λ (s : Seated). s.names) (sym ready.copy.seated) ∙ (makes_names m.clock n.clock x.serving.seated treating c.seated ready.carries.made ∙ ap (λ (s : Seated). s.names) (begins_seated leaf x shuts))
-
-  copy_own : IsCopied c o → HasNoStranger (seated_of leaf).names o.held.region
+  -- a copy that ended is an image of the leaf's tables, or closed
+  copy_own : IsCopied c o → HasNoStranger x.serving.seated.names o.held.region
   copy_own copied =
-      subst (λ (names : List (List ℕ)). HasNoStranger names o.held.region) whole_names
+      subst (λ (names : List (List ℕ)). HasNoStranger names o.held.region)
+      (makes_names ready.so_far.part.from ready.so_far.part.to x.serving.seated before ready.whole.serving.seated ready.so_far.part.made)
       (copied_own ready.whole.serving.seated.names ready.copy.tables c.drain.image o.held.region ready.whole.serving.owing.log.end ready.copy.are.names_are ready.copy.image copied)
 
-  copy_moves : CopyRests c z notes n o → CopyEnds c left n o notes ends z → DrainMoves m o leaf stop (treating ++ notes) ends (IsDown z)
-  copy_moves rests (move.done made copies last may noted memory copied ended) =
-      step.done x ready.whole z treating notes (ready.made + made) (copy_left c) made shuts (copy_steps made copies) last (may_copy made may)
-      (record { from = n.clock; to = o.clock; made = subst (λ (s : Seated). Makes n.clock o.clock s notes z) ready.copy.seated rests.made })
-      (subst (λ ts. EachNoted IsHandedNote 0 (length ts) notes) copy_tables noted)
-      refl
-      (λ base tells founded stands. let copies = copy_stands base tells founded stands in memory copies.0 copies.1 copies.2)
-      (λ base tells founded stands. let copies = copy_stands base tells founded stands in copy_own (copied copies.0 copies.1 copies.2))
-      ended refl
-  copy_moves rests (move.failed made copies may none same copied ended) =
-      step.failed x ready.whole (ready.made + made) (copy_left c) made shuts (copy_still made copies none) (may_copy made may)
-      (λ base tells founded stands. let copies = copy_stands base tells founded stands in copy_own (copied copies.0 copies.1 copies.2))
-      ended (whole_down same)
-  copy_moves rests (move.stopped made copies all none same stopped ended) =
-      step.stopped_copying x ready.whole (ready.made + made) (copy_left c) made shuts
-      (all_made stop left ready.made made (ready.made + made) ready.left_are all refl)
-      (copy_still made copies none)
-      (λ base tells founded stood.
-      let copies = copy_stands base tells founded stood in
-      stopped_since made m n o (ready.region tells) (stopped copies.0 copies.1 copies.2))
-      ended (whole_down same)
+  -- the copy's seats, where it noted nothing
+  long_as : z ≡ c.seated → HasCopyLength z (copy_left c)
+  long_as same = subst (λ (s : Seated). HasCopyLength s (copy_left c)) (sym (same ∙ ready.copy.seated)) ready.long
 
--- ---- how many notes the last part makes
+  some_left : 0 < copy_left c
+  some_left = let long = ready.long.0 in omega (arith, long)
 
-nothing : (notes : List Note) → notes ≡ [] → length notes ≤ 16
-nothing notes none =
-    let size : length notes ≡ 0 = ap (λ (ns : List Note). length ns) none in
-    omega (arith, size)
+  copy_moves : CopyEnds c left n o notes ends z → DrainMoves m o (IsPreparing x) stop (before ++ notes) ends (IsDown z)
+  copy_moves (move.done made last may noted memory copied ended) =
+      subst (λ (e : Ending). DrainMoves m o (IsPreparing x) stop (before ++ notes) e (IsDown z)) (sym ended) (
+        made,
+        copied_to (suc made) made (omega arith),
+        may_copy made may,
+        subst (λ (k : ℕ). HasCopyLength ready.whole.serving.seated k) (sym last) ready.long,
+        subst (λ (k : ℕ). EachNoted IsHandedNote 0 k notes) same_count noted,
+        refl,
+        λ base tells founded stands. let copies = copy_stands base tells founded stands in memory copies.0 copies.1 copies.2,
+        λ base tells founded stands. let copies = copy_stands base tells founded stands in copy_own (copied copies.0 copies.1 copies.2),
+      )
+  copy_moves (move.failed made below may none same copied ended) =
+      subst (λ (e : Ending). DrainMoves m o (IsPreparing x) stop (before ++ notes) e (IsDown z)) (sym ended) (
+        copy_left c,
+        made,
+        copied_to (copy_left c) made (below some_left),
+        may_copy made may,
+        long_as same,
+        none,
+        refl,
+        λ base tells founded stands. let copies = copy_stands base tells founded stands in copy_own (copied copies.0 copies.1 copies.2),
+      )
+  copy_moves (move.stopped made below all none same stopped ended) =
+      subst (λ (e : Ending). DrainMoves m o (IsPreparing x) stop (before ++ notes) e (IsDown z)) (sym ended) (
+        copy_left c,
+        life.Copying made,
+        copied_to (copy_left c) made (below some_left),
+        all_made stop left (suc ready.made) made (suc ready.made + made) ready.left_are all refl,
+        (
+          long_as same,
+          none,
+          λ base tells founded stood.
+              let copies = copy_stands base tells founded stood in
+              stopped_since made m n o (ready.region tells) (stopped copies.0 copies.1 copies.2),
+        ),
+        refl,
+      )
 
-module _ {B : Type 0} (meaning : B → Meaning) (x : Shutting) (m : Meaning) (stop left : Option ℕ) (before : List Note) where
-  -- the copy: each table is handed over, or nothing is noted
-  pub copy_few : (copy : Copying × B) (z : Seated) (n o : Meaning) (notes : List Note) (ends : Ending) → AreSeated x.serving.seated
-      → move.ShutsTables meaning x m stop before (how.Ready copy) left → CopyEnds copy.0 left n o notes ends z → length notes ≤ 16
-  copy_few copy z n o notes ends seated shut copied =
-      let same : length copy.0.seated.tables ≡ length x.serving.seated.tables =
-      ap (λ (ts : List Shared). length ts) (makes_tables m.clock (meaning copy.1).clock x.serving.seated before copy.0.seated shut.ends.carries.made) in
-      handed copied same (tables_few x.serving.seated seated)
-    where
-      handed : CopyEnds copy.0 left n o notes ends z → length copy.0.seated.tables ≡ length x.serving.seated.tables → length x.serving.seated.tables ≤ 16 → length notes ≤ 16
-      handed (move.CopyEnds.done made copies last may noted memory copied ended) same few = omega (arith, each_few IsHandedNote 0 (length copy.0.seated.tables) notes noted, same, few)
-      handed (move.CopyEnds.failed made copies may none stays copied ended) same few = nothing notes none
-      handed (move.CopyEnds.stopped made copies all none stays stopped ended) same few = nothing notes none
-
-  -- a leaf that is killed: each table that was open is closed
-  pub kill_few : (y : Shutting × B) (z : Seated) (closing : List Note) (n o : Meaning) → AreSeated x.serving.seated
-      → move.ShutsTables meaning x m stop before (how.Stopped y) left → IsKilled y.0 z closing n o → length closing ≤ 16
-  kill_few y z closing n o seated shut killed =
-      let same : length y.0.serving.seated.tables ≡ length x.serving.seated.tables =
-      ap (λ (ts : List Shared). length ts) (makes_tables m.clock (meaning y.1).clock x.serving.seated before y.0.serving.seated shut.ends.carries.made) in
-      omega (arith, each_few IsClosedNote (length y.0.closed) killed.count closing killed.each, killed.all, same, tables_few x.serving.seated seated)
-
--- ---- what a drain does
-
-module _ {B : Type 0} (meaning : B → Meaning) (x : Shutting) (m : Meaning) (leaf : Leaf) (stop left : Option ℕ) (before : List Note) (shuts : BeginsShutting leaf x) where
   -- all tables were copied, or the region failed, or no step was left for the copy
-  pub drain_copied : (o : Meaning) (copy : Copying × B) (z : Seated) (ends : Ending) (notes : List Note)
-      → move.ShutsTables meaning x m stop before (how.Ready copy) left → Passes m (meaning copy.1)
-      → CopyEnds copy.0 left (meaning copy.1) o notes ends z → CopyRests copy.0 z notes (meaning copy.1) o
-      → Drains m o leaf stop (before ++ notes) ends (IsDown z)
-  drain_copied o copy z ends notes shut passes copied rests = record {
-    moves = copy_moves x m (meaning copy.1) o leaf stop left before notes copy.0 z ends shuts shut.ends passes rests copied;
-    carries = begins_carries leaf x (IsDown z) (before ++ notes) m o shuts (copy_carries x m (meaning copy.1) o leaf stop left before notes copy.0 z ends shuts shut.ends passes rests);
-    reads = rests.reads ∙ shut.reads;
+  pub drain_copied : CopyEnds c left n o notes ends z → Drains m o (IsPreparing x) stop (before ++ notes) ends (IsDown z)
+  drain_copied copied = record { moves = copy_moves copied; carries = copy_carries; reads = rests.reads ∙ ready.reads }
+
+  -- each table is handed over, or nothing is noted
+  pub copy_few : AreSeated x.serving.seated → CopyEnds c left n o notes ends z → length notes ≤ 16
+  copy_few seated (move.CopyEnds.done made last may noted memory copied ended) =
+      omega (arith, each_few IsHandedNote 0 (length c.seated.tables) notes noted, same_count, tables_few x.serving.seated seated)
+  copy_few seated (move.CopyEnds.failed made below may none stays copied ended) = nothing notes none
+  copy_few seated (move.CopyEnds.stopped made below all none stays stopped ended) = nothing notes none
+
+-- ---- no step was left for a table or the copy, and the leaf was killed
+
+module _ (x : Shutting) (m m' : Meaning) (stop : Option ℕ) (before closing : List Note) (y : Shutting) (z : Seated) (stopped : IsStopped x m stop before y m') where
+  same_tables : length y.serving.seated.tables ≡ length x.serving.seated.tables
+  same_tables = ap (λ (ts : List Shared). length ts) (makes_tables m.clock m'.clock x.serving.seated before y.serving.seated stopped.carries.made)
+
+  pub drain_stopped : IsKilled y z closing m' m' → Drains m m' (IsPreparing x) stop (before ++ closing) ending.Stopped (IsDown z)
+  drain_stopped killed = record {
+    moves = (
+      0,
+      life.Shutting (progress_of y),
+      record {
+        made = stopped.made;
+        treating = before;
+        last = closing;
+        notes_are = refl;
+        comes = (progress_of x, refl, stopped.so_far.steps 0);
+        between = y.serving.seated;
+        treats = stopped.so_far.part;
+        ends = record { from = m'.clock; to = m'.clock; made = killed.carries.made };
+      },
+      stopped.all,
+      (
+        killed.count,
+        refl,
+        ap (λ (k : ℕ). k + killed.count) (sym stopped.shut) ∙ (killed.all ∙ same_tables),
+        subst (λ (k : ℕ). EachNoted IsClosedNote k killed.count closing) stopped.shut killed.each,
+        stopped.region,
+        λ base tells founded sound stood. (y.serving, refl, refl, (stopped.carries.stands base tells founded sound stood).stands),
+      ),
+      refl,
+    );
+    carries = carries_on (IsPreparing x) (IsPreparing y) (IsDown z) before closing m m' m' stopped.carries killed.carries;
+    reads = stopped.reads;
   }
 
-  -- no step was left for a table or the copy, and the leaf was killed
-  pub drain_stopped : (y : Shutting × B) (z : Seated) (closing : List Note)
-      → move.ShutsTables meaning x m stop before (how.Stopped y) left → IsKilled y.0 z closing (meaning y.1) (meaning y.1)
-      → Drains m (meaning y.1) leaf stop (before ++ closing) ending.Stopped (IsDown z)
-  drain_stopped y z closing shut killed = record {
-    moves =
-        step.stopped x y.0 z before closing shut.ends.made killed.count shuts shut.ends.all shut.ends.steps killed.all killed.each
-        (record { from = (meaning y.1).clock; to = (meaning y.1).clock; made = killed.carries.made }) refl shut.ends.region
-        (λ base tells founded sound stood. (shut.ends.carries.stands base tells (begins_founded leaf x shuts founded) sound (begins_stands leaf x base m shuts stood)).stands)
-        refl refl;
-    carries = begins_carries leaf x (IsDown z) (before ++ closing) m (meaning y.1) shuts
-        (carries_on (IsPreparing x) (IsPreparing y.0) (IsDown z) before closing m (meaning y.1) (meaning y.1) shut.ends.carries killed.carries);
-    reads = shut.reads;
+  -- each table that was open is closed
+  pub kill_few : (n o : Meaning) → AreSeated x.serving.seated → IsKilled y z closing n o → length closing ≤ 16
+  kill_few n o seated killed = omega (arith, each_few IsClosedNote (length y.closed) killed.count closing killed.each, killed.all, same_tables, tables_few x.serving.seated seated)
+
+-- ---- a leaf that is up begins to shut its tables
+
+module _ (s : Serving) (m m' : Meaning) (stop : Option ℕ) (notes : List Note) (leaf' : Leaf) where
+  abbrev reaches_up : (copy : ℕ) (t : Stage) → Reaches (IsPreparing (begins s)) leaf' notes copy t → Reaches (IsUp s) leaf' notes copy t
+  reaches_up copy t r = record {
+    made = r.made;
+    treating = r.treating;
+    last = r.last;
+    notes_are = r.notes_are;
+    comes = (r.comes.0, r.comes.1, r.comes.2);
+    between = r.between;
+    treats = r.treats;
+    ends = r.ends;
   }
 
-  -- the disk failed
-  pub drain_halted : (half : Shutting × B) → move.ShutsTables meaning x m stop before (how.Halted half) left → Drains m (meaning half.1) leaf stop before ending.FaultDisk (IsPreparing half.0)
-  drain_halted half shut = record {
-    moves = step.halted x shut.ends.half half.0 shut.ends.treating shut.ends.halting shut.ends.made shuts shut.ends.steps shut.ends.may shut.ends.more
-        shut.ends.halts shut.ends.notes_are shut.ends.region refl refl;
-    carries = begins_carries leaf x (IsPreparing half.0) before m (meaning half.1) shuts shut.ends.carries;
-    reads = shut.reads;
-  }
+  stops_up : (copy : ℕ) (t : Stage) (r : Reaches (IsPreparing (begins s)) leaf' notes copy t) → Stops m m' (IsPreparing (begins s)) leaf' notes copy t r
+      → Stops m m' (IsUp s) leaf' notes copy t (reaches_up copy t r)
+  stops_up copy (life.Shutting p) r h = h
+  stops_up copy (life.Copying made) r h = h
 
-  -- there was no memory to seal a table, or for the copy
-  pub drain_starved : (half : Shutting × B) → move.ShutsTables meaning x m stop before (how.Starved half) left → Drains m (meaning half.1) leaf stop before ending.FaultMemory (IsPreparing half.0)
-  drain_starved half shut = record {
-    moves = step.starved x shut.ends.half half.0 shut.ends.treating shut.ends.starving shut.ends.made shuts shut.ends.steps shut.ends.may shut.ends.starves
-        shut.ends.part shut.ends.notes_are shut.ends.region refl refl;
-    carries = begins_carries leaf x (IsPreparing half.0) before m (meaning half.1) shuts shut.ends.carries;
-    reads = shut.reads;
-  }
+  moves_up : (ends : Ending) → DrainMoves m m' (IsPreparing (begins s)) stop notes ends leaf' → DrainMoves m m' (IsUp s) stop notes ends leaf'
+  moves_up ends moves =
+      by_endings (λ (e : Ending). DrainMoves m m' (IsPreparing (begins s)) stop notes e leaf' → DrainMoves m m' (IsUp s) stop notes e leaf')
+      (λ h. (h.0, reaches_up (suc h.0) (life.Copying h.0) h.1, h.2, h.3, h.4, h.5, h.6, h.7))
+      (λ h. (h.0, h.1, reaches_up h.0 (life.Copying h.1) h.2, h.3, h.4, h.5, h.6, h.7))
+      (λ h. (h.0, reaches_up 0 (life.Shutting h.0) h.1, h.2, h.3, h.4, h.5, h.6, h.7, h.8))
+      (λ h. (h.0, h.1, reaches_up 0 (life.Shutting h.0) h.2, h.3, h.4, h.5, h.6))
+      (λ h. (h.0, h.1, reaches_up 0 (life.Shutting h.0) h.2, h.3, h.4, h.5, h.6, h.7))
+      (λ h. (h.0, h.1, reaches_up h.0 h.1 h.2, h.3, stops_up h.0 h.1 h.2 h.4, h.5))
+      (λ h. absurd h.0) m m' (IsPreparing (begins s)) stop notes ends leaf' moves moves
 
-  -- the copy has no room
-  pub drain_roomless : (whole : Shutting × B) → move.ShutsTables meaning x m stop before (how.Roomless whole) left → Drains m (meaning whole.1) leaf stop before ending.FaultRoom (IsPreparing whole.0)
-  drain_roomless whole shut = record {
-    moves = step.roomless x whole.0 shut.ends.made shuts shut.ends.steps shut.ends.all (shut.ends.shut, shut.ends.crowded) shut.ends.may shut.ends.region refl refl;
-    carries = begins_carries leaf x (IsPreparing whole.0) before m (meaning whole.1) shuts shut.ends.carries;
-    reads = shut.reads;
+  pub up_drained : (ends : Ending) → Drains m m' (IsPreparing (begins s)) stop notes ends leaf' → Drains m m' (IsUp s) stop notes ends leaf'
+  up_drained ends drains = record {
+    moves = moves_up ends drains.moves;
+    carries = record {
+      made = drains.carries.made;
+      stands = λ base tells founded sound stands.
+          let on = drains.carries.stands base tells founded sound stands in
+          record { stands = on.stands; told = on.told };
+    };
+    reads = drains.reads;
   }
 
 -- the steward's seats stay at their tables

@@ -2,6 +2,7 @@ pub mod Carrying
 pub mod Moved
 pub mod Meetings
 pub mod Counted
+pub mod Lives
 pub mod Treated
 pub mod Fewer
 pub mod Copied

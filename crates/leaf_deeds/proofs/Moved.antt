@@ -31,13 +31,15 @@ use Rattle.printed_lines.specs.declared.line.Deed.{Deed}
 use Rattle.printed_lines.specs.declared.line.Deed.TheVariants.{Start}
 use Rattle.transcript.specs.Counts.{reads_disk}
 use Rattle.leaf_moves.specs.Stage.{Leaf, IsDown, IsUp, IsPreparing, Stands, Carries, seated_of}
-use Rattle.leaf_moves.specs.Steps.{BeginsShutting, StartMoves, FlushMoves, KillMoves, DrainMoves, Moves, IsTrueOf, RegionRefused, ending_of, ending_of_flush}
+use Rattle.leaf_moves.specs.Modes.{HasShut}
+use Rattle.leaf_moves.specs.Steps.{StartMoves, FlushMoves, KillMoves, Moves, IsTrueOf, RegionRefused, ending_of, ending_of_flush}
 use Rattle.leaf_deeds.specs.declared.leaf.OneLeaf.{OneLeaf}
 use Rattle.leaf_deeds.specs.declared.leaf.OneLeaf.TheVariants as one
 use Rattle.leaf_deeds.specs.Held.{KeepsSeats, state_of, berth_of, seats_of}
 use Rattle.leaf_deeds.specs.Deeds.{Does}
 use Rattle.leaf_deeds.specs.Moves.{Drains, FaultRose}
 use Rattle.leaf_deeds.proofs.Carrying.{carries_none, makes_keeps}
+use Rattle.leaf_deeds.proofs.Joined.{up_drained}
 
 -- ---- what stands behind the entries
 
@@ -218,12 +220,13 @@ module _ {B : Type 0} (meaning : B → Meaning) where
       subst (λ (l : OneLeaf B). Carries (state_of l) (IsDown y.0) notes (meaning (berth_of l)) (meaning y.1)) (sym is)
       (rests_carried (IsUp x.0) y.0 notes (meaning x.1) (meaning y.1) later (λ base founded stands. crash stands.0 founded stands.1))
 
-  pub shutting_kill_moves : (self : OneLeaf B) (x : Shutting × B) (y : Seated × B) (notes : List Note) → self ≡ one.Preparing x → y.1 ≡ x.1
+  pub shutting_kill_moves : (self : OneLeaf B) (x : Shutting × B) (y : Seated × B) (notes : List Note) → self ≡ one.Preparing x → y.1 ≡ x.1 → HasShut x.0
       → (count : ℕ) × (length x.0.closed + count ≡ length x.0.serving.seated.tables) × EachNoted IsClosedNote (length x.0.closed) count notes
       → KillMoves (meaning (berth_of self)) (meaning y.1) (state_of self) notes ending.Done (IsDown y.0)
-  shutting_kill_moves self x y notes is berth each =
+  shutting_kill_moves self x y notes is berth shut each =
       subst (λ (l : OneLeaf B). KillMoves (meaning (berth_of l)) (meaning y.1) (state_of l) notes ending.Done (IsDown y.0)) (sym is)
-      (KillMoves.preparing x.0 y.0 each.0 refl each.1 each.2 (ap (λ (b : B). (meaning b).held) berth) refl refl)
+      (KillMoves.preparing x.0 y.0 each.0 refl (ap (λ (n : ℕ). n + each.0) (sym shut) ∙ each.1) (subst (λ (n : ℕ). EachNoted IsClosedNote n each.0 notes) shut each.2)
+      (ap (λ (b : B). (meaning b).held) berth) refl refl)
 
   pub shutting_kill_carries : (self : OneLeaf B) (x : Shutting × B) (y : Seated × B) (notes : List Note) → self ≡ one.Preparing x → y.1 ≡ x.1
       → Makes (meaning x.1).clock (meaning x.1).clock x.0.serving.seated notes y.0
@@ -243,23 +246,22 @@ module _ {B : Type 0} (meaning : B → Meaning) where
       → Drains (meaning (berth_of self)) (meaning x.1) (state_of self) stop notes ending.NotUp (IsDown x.0)
   drain_not_up self x stop notes is none =
       subst (λ (l : OneLeaf B). Drains (meaning (berth_of l)) (meaning x.1) (state_of l) stop notes ending.NotUp (IsDown x.0)) (sym is) (record {
-        moves = DrainMoves.not_up tt none refl refl refl;
+        moves = (tt, none, refl, refl);
         carries = subst (λ (ns : List Note). Carries (IsDown x.0) (IsDown x.0) ns (meaning x.1) (meaning x.1)) (sym none) (carries_none (IsDown x.0) (meaning x.1));
         reads = refl;
       })
 
   -- a leaf that is up begins to shut its tables
   pub up_drains : (self : OneLeaf B) (x : Serving × B) (p : Shutting × B) (m' : Meaning) (stop : Option ℕ) (notes : List Note) (ends : Ending) (leaf' : Leaf) → self ≡ one.Up x → p ≡ (begins x.0, x.1)
-      → ((before : Leaf) → BeginsShutting before p.0 → Drains (meaning p.1) m' before stop notes ends leaf') → Drains (meaning (berth_of self)) m' (state_of self) stop notes ends leaf'
+      → Drains (meaning p.1) m' (IsPreparing p.0) stop notes ends leaf' → Drains (meaning (berth_of self)) m' (state_of self) stop notes ends leaf'
   up_drains self x p m' stop notes ends leaf' is prepared drains =
       subst (λ (l : OneLeaf B). Drains (meaning (berth_of l)) m' (state_of l) stop notes ends leaf') (sym is)
-      (subst (λ (b : B). Drains (meaning b) m' (IsUp x.0) stop notes ends leaf') (ap (λ (q : Shutting × B). q.1) prepared) (drains (IsUp x.0) (ap (λ (q : Shutting × B). q.0) prepared)))
+      (up_drained x.0 (meaning x.1) m' stop notes leaf' ends (subst (λ (q : Shutting × B). Drains (meaning q.1) m' (IsPreparing q.0) stop notes ends leaf') prepared drains))
 
   -- one that shuts them goes on
   pub preparing_drains : (self : OneLeaf B) (x : Shutting × B) (m' : Meaning) (stop : Option ℕ) (notes : List Note) (ends : Ending) (leaf' : Leaf) → self ≡ one.Preparing x
-      → ((before : Leaf) → BeginsShutting before x.0 → Drains (meaning x.1) m' before stop notes ends leaf') → Drains (meaning (berth_of self)) m' (state_of self) stop notes ends leaf'
-  preparing_drains self x m' stop notes ends leaf' is drains =
-      subst (λ (l : OneLeaf B). Drains (meaning (berth_of l)) m' (state_of l) stop notes ends leaf') (sym is) (drains (IsPreparing x.0) refl)
+      → Drains (meaning x.1) m' (IsPreparing x.0) stop notes ends leaf' → Drains (meaning (berth_of self)) m' (state_of self) stop notes ends leaf'
+  preparing_drains self x m' stop notes ends leaf' is drains = subst (λ (l : OneLeaf B). Drains (meaning (berth_of l)) m' (state_of l) stop notes ends leaf') (sym is) drains
 
 -- ---- a deed, by what it is
 

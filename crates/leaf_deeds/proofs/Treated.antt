@@ -1,38 +1,19 @@
--- Tables that are treated, and a leaf that goes on meanwhile.
-use Rattle.std.proofs.Common.{◌≡◌, suc, ◌-◌, ◌<◌, Bool, true, false, List, [], ◌∷◌, ◌++◌, length, refl, ap, ◌∙◌, le_refl, arith}
-use Rattle.std.specs.Prelude.{IsTrue, if◌then◌else◌}
-use Rattle.std.proofs.lemmas.List.{length-append}
+-- A leaf that goes on while its tables are treated.
+use Rattle.std.proofs.Common.{◌≡◌, List, [], ◌++◌, refl, ◌∙◌, le_refl}
+use Rattle.std.specs.Prelude.{IsTrue}
 use Rattle.berth_face.specs.Berth.{Meaning, Passes}
 use Rattle.berth_face.proofs.Moments.{passes_none, passes_on}
-use Rattle.table_state.specs.Tables.{Table}
 use Rattle.crash_moments.proofs.Telling.{told_join}
 use Rattle.leaf_steward.specs.declared.notes.Note.{Note}
 use Rattle.leaf_steward.specs.Seated.{AreFounded, watched_by}
 use Rattle.leaf_steward.specs.Making.{Makes}
 use Rattle.leaf_steward.proofs.WatchMakes.{makes_tables}
-use Rattle.leaf_machine.specs.States.{Serving, Shutting, GoesOn, GoesOnServing, treated}
-use Rattle.leaf_machine.specs.Prepares as prepare
-use Rattle.leaf_machine.specs.Prepares.{Treats}
+use Rattle.leaf_machine.specs.States.{Serving, Shutting, GoesOn, GoesOnServing}
 use Rattle.leaf_machine.proofs.UpMaking.{makes_join}
 use Rattle.leaf_machine.proofs.PrepCopies.{goes_none}
 use Rattle.leaf_moves.specs.Stage.{IsPreparing, Carries}
-use Rattle.leaf_deeds.specs.Moves.{SameRegion}
+use Rattle.leaf_moves.specs.Steps.{SameRegion}
 use Rattle.leaf_deeds.proofs.Carrying.{founded_on}
-
--- ---- the tables that are treated
-
-by_shut : (x : Shutting) (b : Bool) → x.waits ≡ b → treated x ≡ (if b then length x.closed - 1 else length x.closed)
-by_shut x b e = ap (λ (s : Bool). if s then length x.closed - 1 else length x.closed) e
-
--- one more is treated; a table that was shut before is among those that are
-pub one_treated : (x y : Shutting) (notes : List Note) → (IsTrue x.waits → 0 < length x.closed) → Treats x y notes → treated y ≡ suc (treated x)
-one_treated x y notes some (prepare.whole first closing flushing n content open_ noted all closed shut none) =
-    let count : length y.closed ≡ length (x.closed ++ content ∷ []) = ap (λ (ts : List Table). length ts) closed in
-    let sum = length-append x.closed (content ∷ []) in
-    omega (arith, by_shut y false shut, by_shut x false open_, count, sum)
-one_treated x y notes some (prepare.rest half noted closed shut none) =
-    let count : length y.closed ≡ length x.closed = ap (λ (ts : List Table). length ts) closed in
-    omega (arith, by_shut y false shut, by_shut x true half, count, some half)
 
 -- ---- the leaf goes on
 

@@ -1,5 +1,5 @@
 -- What the deeds of one leaf do, by the notes that they make.
-use Rattle.std.specs.Prelude.{◌≡◌, ◌⊎◌, ℕ, suc, ◌+◌, ◌<◌, ◌≤◌, true, List, [], ◌++◌, length, slice_get, slice_set, Option, Some, Result, Vec, IsTrue, ⊤}
+use Rattle.std.specs.Prelude.{◌≡◌, ◌⊎◌, ℕ, suc, ◌+◌, ◌<◌, ◌≤◌, true, List, [], length, slice_get, slice_set, Option, Some, Result, Vec, IsTrue, ⊤}
 use Rattle.std.specs.Global.{Global}
 use Rattle.std.specs.List.{AllByRecursion}
 use Rattle.leaf_model.specs.declared.writes.Write.{Write}
@@ -14,15 +14,16 @@ use Rattle.leaf_table.specs.Calls.{SeatView}
 use Rattle.leaf_steward.specs.declared.notes.Note.{Note}
 use Rattle.leaf_steward.specs.Seated.{Seated, AreFounded, watched_by}
 use Rattle.leaf_steward.specs.Making.{Makes, EachNoted, IsClosedNote, IsHandedNote}
-use Rattle.leaf_machine.specs.States.{Shutting, Copying, treated}
-use Rattle.leaf_machine.specs.Prepares.{Halts, Starves, AllTreated, IsCopyOf, IsCrowded}
+use Rattle.leaf_machine.specs.States.{Shutting, Copying}
+use Rattle.leaf_machine.specs.Prepares.{AllTreated, IsCopyOf}
 use Rattle.printed_lines.specs.declared.line.Ending.{Ending}
 use Rattle.printed_lines.specs.declared.line.Ending.TheVariants as ending
-use Rattle.transcript.specs.Life.{MayMake}
+use Rattle.transcript.specs.Life.{MayMake, Steps}
+use Rattle.transcript.specs.Life as life
 use Rattle.leaf_moves.specs.Stage as stage
 use Rattle.leaf_moves.specs.Stage.{Leaf, IsDown, IsPreparing, Stands, Carries, MeetsIf, seated_of, with_seats}
-use Rattle.leaf_moves.specs.Steps as step
-use Rattle.leaf_moves.specs.Steps.{AreShut, Part, MakesSteps, DrainMoves, RegionStopped}
+use Rattle.leaf_moves.specs.Modes.{HasShut, progress_of}
+use Rattle.leaf_moves.specs.Steps.{DrainMoves, HasCopyLength, Part, RegionStopped, SameRegion, noted_all}
 use Rattle.leaf_deeds.specs.declared.drain.Shut.{Shut}
 use Rattle.leaf_deeds.specs.declared.drain.Shut.TheVariants as shut
 use Rattle.leaf_deeds.specs.Steps.{AreLeft, copy_left}
@@ -54,74 +55,47 @@ pub record CopyRests (c : Copying) (y : Seated) (notes : List Note) (m m' : Mean
   pub stands : (base : NamedStates) → IsTrue m.tells → AreFounded c.seated → stage.AreHandedNothing base → CopyStands c m
       → Stands base (IsDown y) m' × moments.Told base (watched_by c.seated) (watched_by y) m m'
 
--- the region is as it was
-abbrev pub SameRegion : Meaning → Meaning → Type 0
-SameRegion m m' = IsTrue m.tells → m'.held.region ≡ m.held.region
+-- tables were treated, with so many steps of the leaf's life, and by these notes
+pub record Treated (x : Shutting) (made : ℕ) (notes : List Note) (y : Shutting) : Type 0 where
+  pub steps : (copy : ℕ) → Steps (length x.serving.seated.tables) copy made (life.Shutting (progress_of x)) (noted_all notes) (life.Shutting (progress_of y))
+  pub part : Part x.serving.seated notes y.serving.seated
 
 -- all tables that were left were treated, by these notes, and the copy of them is planned
 pub record IsCopyReady (x : Shutting) (m : Meaning) (stop : Option ℕ) (notes : List Note) (c : Copying) (m' : Meaning) (left : Option ℕ) : Type 0 where
   pub whole : Shutting
   pub made : ℕ
-  pub steps : MakesSteps made (step.Shuts x) notes (step.Copies whole (copy_left c) 0)
-  pub left_are : AreLeft stop made left
+  pub so_far : Treated x made notes whole
+  pub left_are : AreLeft stop (suc made) left
+  pub all : AllTreated whole
+  pub long : HasCopyLength whole.serving.seated (copy_left c)
   pub copy : IsCopyOf whole c
   pub carries : CarriesCopy x c notes m m'
   pub region : SameRegion m m'
+  pub reads : m'.disk_reads ≡ m.disk_reads
 
 -- as many steps were made as may be
 pub record IsStopped (x : Shutting) (m : Meaning) (stop : Option ℕ) (notes : List Note) (y : Shutting) (m' : Meaning) : Type 0 where
   pub made : ℕ
   pub all : stop ≡ Some made
-  pub steps : MakesSteps made (step.Shuts x) notes (step.Shuts y)
+  pub so_far : Treated x made notes y
+  pub shut : HasShut y
   pub carries : Carries (IsPreparing x) (IsPreparing y) notes m m'
   pub region : SameRegion m m'
+  pub reads : m'.disk_reads ≡ m.disk_reads
 
--- the disk failed at a table
-pub record IsHalted (x : Shutting) (m : Meaning) (stop : Option ℕ) (notes : List Note) (z : Shutting) (m' : Meaning) : Type 0 where
-  pub half : Shutting
-  pub made : ℕ
-  pub treating : List Note
-  pub halting : List Note
-  pub steps : MakesSteps made (step.Shuts x) treating (step.Shuts half)
-  pub may : MayMake stop (suc made)
-  pub more : treated half < length half.serving.seated.tables
-  pub halts : Halts half z halting
-  pub notes_are : notes ≡ treating ++ halting
-  pub carries : Carries (IsPreparing x) (IsPreparing z) notes m m'
-  pub region : SameRegion m m'
+-- what a drain does to a leaf, by these notes; it does not read the disk
+pub record Drains (m m' : Meaning) (leaf : Leaf) (stop : Option ℕ) (notes : List Note) (ends : Ending) (leaf' : Leaf) : Type 0 where
+  pub moves : DrainMoves m m' leaf stop notes ends leaf'
+  pub carries : Carries leaf leaf' notes m m'
+  pub reads : m'.disk_reads ≡ m.disk_reads
 
--- there was no memory to seal a table, or for the copy
-pub record IsStarved (x : Shutting) (m : Meaning) (stop : Option ℕ) (notes : List Note) (z : Shutting) (m' : Meaning) : Type 0 where
-  pub half : Shutting
-  pub made : ℕ
-  pub treating : List Note
-  pub starving : List Note
-  pub steps : MakesSteps made (step.Shuts x) treating (step.Shuts half)
-  pub may : MayMake stop (suc made)
-  pub starves : Starves half z starving
-  pub part : Part half.serving.seated starving z.serving.seated
-  pub notes_are : notes ≡ treating ++ starving
-  pub carries : Carries (IsPreparing x) (IsPreparing z) notes m m'
-  pub region : SameRegion m m'
-
--- all tables that were left were treated, and the copy of them has no room
-pub record IsRoomless (x : Shutting) (m : Meaning) (stop : Option ℕ) (notes : List Note) (y : Shutting) (m' : Meaning) : Type 0 where
-  pub made : ℕ
-  pub steps : MakesSteps made (step.Shuts x) notes (step.Shuts y)
-  pub all : AllTreated y
-  pub shut : AreShut y.serving.seated
-  pub crowded : IsCrowded y.serving.seated
-  pub may : MayMake stop (suc made)
-  pub carries : Carries (IsPreparing x) (IsPreparing y) notes m m'
-  pub region : SameRegion m m'
-
--- how the shutting of a leaf's tables ends, and how many steps are left then
-abbrev pub ShutEnds : {B : Type 0} → (B → Meaning) → Shutting → Meaning → Option ℕ → List Note → Shut B → Option ℕ → Type 0
-ShutEnds meaning x m stop notes (shut.Ready leaf) left = IsCopyReady x m stop notes leaf.0 (meaning leaf.1) left
-ShutEnds meaning x m stop notes (shut.Stopped leaf) left = IsStopped x m stop notes leaf.0 (meaning leaf.1)
-ShutEnds meaning x m stop notes (shut.Halted leaf) left = IsHalted x m stop notes leaf.0 (meaning leaf.1)
-ShutEnds meaning x m stop notes (shut.Starved leaf) left = IsStarved x m stop notes leaf.0 (meaning leaf.1)
-ShutEnds meaning x m stop notes (shut.Roomless leaf) left = IsRoomless x m stop notes leaf.0 (meaning leaf.1)
+-- tables were shut, by these notes, and so many steps are left: their copy is planned; or no step was left; or the drain has ended
+abbrev pub ShutsTables : {B : Type 0} → (B → Meaning) → Shutting → Meaning → Option ℕ → List Note → Shut B → Option ℕ → Type 0
+ShutsTables meaning x m stop notes (shut.Ready leaf) left = IsCopyReady x m stop notes leaf.0 (meaning leaf.1) left
+ShutsTables meaning x m stop notes (shut.Stopped leaf) left = IsStopped x m stop notes leaf.0 (meaning leaf.1)
+ShutsTables meaning x m stop notes (shut.Halted leaf) left = Drains m (meaning leaf.1) (IsPreparing x) stop notes ending.FaultDisk (IsPreparing leaf.0)
+ShutsTables meaning x m stop notes (shut.Starved leaf) left = Drains m (meaning leaf.1) (IsPreparing x) stop notes ending.FaultMemory (IsPreparing leaf.0)
+ShutsTables meaning x m stop notes (shut.Roomless leaf) left = Drains m (meaning leaf.1) (IsPreparing x) stop notes ending.FaultRoom (IsPreparing leaf.0)
 
 -- the berth of the leaf that is left
 abbrev pub berth_left : {B : Type 0} → Shut B → B
@@ -136,14 +110,9 @@ abbrev pub RoseShut : {B : Type 0} → ℕ → ℕ → Shut B → Type 0
 RoseShut before now (shut.Halted leaf) = Rose before now
 RoseShut before now _ = ⊤
 
--- tables were shut, by these notes, and how that ended; the disk was not read
-pub record ShutsTables {B : Type 0} (meaning : B → Meaning) (x : Shutting) (m : Meaning) (stop : Option ℕ) (notes : List Note) (result : Shut B) (left : Option ℕ) : Type 0 where
-  pub ends : ShutEnds meaning x m stop notes result left
-  pub reads : (meaning (berth_left result)).disk_reads ≡ m.disk_reads
-
--- so many steps of a copy that takes so many, none of them the last, of whichever tables
+-- so many steps of a copy that takes so many, none of them the last
 abbrev pub MakesCopies : ℕ → ℕ → Type 0
-MakesCopies copy made = (x : Shutting) → MakesSteps made (step.Copies x copy 0) [] (step.Copies x copy made)
+MakesCopies copy made = 0 < copy → made < copy
 
 -- the region is closed, or just the image that was copied
 abbrev pub IsCopied : Copying → Meaning → Type 0
@@ -152,7 +121,6 @@ IsCopied c m = IsClosed m.held.region ⊎ (m.held.region ≡ c.drain.image)
 -- How a copy ends: each table is handed over, and the region is the image; or the region failed; or as many steps were made as may be, none of them the last.
 pub data CopyEnds (c : Copying) (stop : Option ℕ) (m m' : Meaning) (notes : List Note) (ends : Ending) (y : Seated) : Type 0 where
   done : (made : ℕ)
-      → MakesCopies (copy_left c) made
       → suc made ≡ copy_left c
       → MayMake stop (suc made)
       → EachNoted IsHandedNote 0 (length c.seated.tables) notes
@@ -173,7 +141,7 @@ pub data CopyEnds (c : Copying) (stop : Option ℕ) (m m' : Meaning) (notes : Li
       → stop ≡ Some made
       → notes ≡ []
       → y ≡ c.seated
-      → (IsTrue m.tells → AreFounded c.seated → CopyStands c m → RegionStopped made m m')
+      → (IsTrue m.tells → AreFounded c.seated → CopyStands c m → RegionStopped (life.Copying made) m m')
       → ends ≡ ending.Stopped
       → CopyEnds c stop m m' notes ends y
 
@@ -183,9 +151,3 @@ pub record IsKilled (x : Shutting) (y : Seated) (notes : List Note) (m m' : Mean
   pub all : length x.closed + count ≡ length x.serving.seated.tables
   pub each : EachNoted IsClosedNote (length x.closed) count notes
   pub carries : Carries (IsPreparing x) (IsDown y) notes m m'
-
--- what a drain does to a leaf, by these notes; it does not read the disk
-pub record Drains (m m' : Meaning) (leaf : Leaf) (stop : Option ℕ) (notes : List Note) (ends : Ending) (leaf' : Leaf) : Type 0 where
-  pub moves : DrainMoves m m' leaf stop notes ends leaf'
-  pub carries : Carries leaf leaf' notes m m'
-  pub reads : m'.disk_reads ≡ m.disk_reads

@@ -1,8 +1,7 @@
 // A drain of a leaf, step by step.
 ghost use Rattle.std.specs.Prelude.{◌≡◌, ◌≤◌, [], length};
 ghost use Rattle.berth_face.specs.Berth.{Passes};
-ghost use Rattle.leaf_moves.specs.Stage.{Leaf};
-ghost use Rattle.leaf_moves.specs.Steps as step;
+ghost use Rattle.leaf_moves.specs.Stage.{IsPreparing};
 ghost use Rattle.leaf_deeds.specs.Held.{KeepsSeats, berth_of, seats_of, state_of};
 ghost use Rattle.leaf_deeds.specs.Moves as move;
 ghost use Rattle.leaf_deeds.specs.Moves.{CopyEnds, CopyRests, Drains, FaultRose, IsKilled, RoseShut, berth_left};
@@ -41,7 +40,7 @@ pub fn drain<'t, R: Wait + Threads + Sync, B: Berth, G: Gate>(
     notes: &mut Notes,
 ) -> (OneLeaf<'t, B>, Ending)
     requires none { notes.old ≡ [] }
-    ensures drains { (before : Leaf) → step.BeginsShutting before leaf.entry.0 → Drains (B.meaning leaf.entry.1) (B.meaning (berth_of result.0)) before stop notes.new result.1 (state_of result.0) }
+    ensures drains { Drains (B.meaning leaf.entry.1) (B.meaning (berth_of result.0)) (IsPreparing leaf.entry.0) stop notes.new result.1 (state_of result.0) }
     ensures keeps { KeepsSeats leaf.entry.0.serving.seated (seats_of result.0) }
     ensures time { Passes (B.meaning leaf.entry.1) (B.meaning (berth_of result.0)) }
     ensures cause { FaultRose result.1 (B.meaning leaf.entry.1) (B.meaning (berth_of result.0)) }

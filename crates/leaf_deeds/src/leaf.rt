@@ -150,7 +150,10 @@ impl<'t, B: Berth> OneLeaf<'t, B> {
         match self {
             OneLeaf::Down(down) => (OneLeaf::Down(down), Ending::NotUp),
             OneLeaf::Up(up) => (OneLeaf::Down(up.kill(rt, gate, notes)), Ending::Done),
-            OneLeaf::Preparing(leaf) => (OneLeaf::Down(leaf.kill(rt, gate, notes)), Ending::Done),
+            OneLeaf::Preparing(leaf) => {
+                leaf.shuts();
+                (OneLeaf::Down(leaf.kill(rt, gate, notes)), Ending::Done)
+            }
         }
     }
 

@@ -1,4 +1,5 @@
 pub mod Stage
+pub mod Modes
 pub mod Holds
 pub mod Steps
 pub mod Plays

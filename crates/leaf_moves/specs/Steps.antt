@@ -25,10 +25,11 @@ use Rattle.leaf_machine.specs.declared.faults.StartFault.{StartFault}
 use Rattle.leaf_machine.specs.declared.faults.StartFault.TheVariants as fault
 use Rattle.leaf_machine.specs.declared.up.FlushReply.{FlushReply}
 use Rattle.leaf_machine.specs.declared.up.FlushReply.TheVariants as reply
-use Rattle.leaf_machine.specs.States.{Serving, Shutting, columns_added, columns_seen, treated}
+use Rattle.leaf_machine.specs.States as state
+use Rattle.leaf_machine.specs.States.{Serving, columns_added, columns_seen}
 use Rattle.leaf_machine.specs.Starts.{CameUp, IsExactRefusal, IsOpenedNote, IsStartRefused}
 use Rattle.leaf_machine.specs.Flushes as flushing
-use Rattle.leaf_machine.specs.Prepares.{Treats, Halts, Starves, AllTreated, IsCrowded, begins}
+use Rattle.leaf_machine.specs.Prepares.{IsCrowded}
 use Rattle.printed_lines.specs.declared.line.Said.{Said}
 use Rattle.printed_lines.specs.declared.line.Said.TheVariants as said
 use Rattle.printed_lines.specs.declared.line.Ending.{Ending}
@@ -36,8 +37,9 @@ use Rattle.printed_lines.specs.declared.line.Ending.TheVariants as ending
 use Rattle.printed_lines.specs.declared.line.Deed.{Deed}
 use Rattle.printed_lines.specs.declared.line.Deed.TheVariants.{Start, Flush, Drain, Kill}
 use Rattle.transcript.specs.Pieces.{Piece, Called, Worn, Acted, Noted}
-use Rattle.transcript.specs.Life.{MayMake}
+use Rattle.transcript.specs.Life.{Comes, Copying, Down, Halts, MayMake, Mode, Owed, Preparing, Progress, Shutting, Stage, Starves, first_open}
 use Rattle.leaf_moves.specs.Stage.{Leaf, IsDown, IsUp, IsPreparing, seated_of, Stands, ServingStands, AreHandedNothing, Carries, MeetAll}
+use Rattle.leaf_moves.specs.Modes.{mode_of, owed_of, progress_of}
 
 -- ---- the calls of callers
 
@@ -190,10 +192,10 @@ pub data KillMoves (m m' : Meaning) (leaf : Leaf) (notes : List Note) (ends : En
       → ends ≡ ending.Done
       → leaf' ≡ IsDown y
       → KillMoves m m' leaf notes ends leaf'
-  preparing : (x : Shutting) (y : Seated) (count : ℕ)
+  preparing : (x : state.Shutting) (y : Seated) (count : ℕ)
       → leaf ≡ IsPreparing x
-      → length x.closed + count ≡ length x.serving.seated.tables
-      → EachNoted IsClosedNote (length x.closed) count notes
+      → first_open (progress_of x) + count ≡ length x.serving.seated.tables
+      → EachNoted IsClosedNote (first_open (progress_of x)) count notes
       → m'.held ≡ m.held
       → ends ≡ ending.Done
       → leaf' ≡ IsDown y
@@ -207,152 +209,71 @@ pub data KillMoves (m m' : Meaning) (leaf : Leaf) (notes : List Note) (ends : En
 
 -- ---- drains
 
--- a leaf that begins to shut its tables, or goes on
-abbrev pub BeginsShutting : Leaf → Shutting → Type 0
-BeginsShutting (IsDown x) y = ⊥
-BeginsShutting (IsUp s) y = y ≡ begins s
-BeginsShutting (IsPreparing x) y = y ≡ x
-
--- how far a drain has come: it shuts the tables, or all are treated and it has made so many of the steps that their copy takes
-pub data At : Type 0 where
-  Shuts : (x : Shutting) → At
-  Copies : (x : Shutting) (copy made : ℕ) → At
-
 -- each table is shut
 abbrev pub AreShut : Seated → Type 0
 AreShut x = AtEach (λ place t v. SeesShut t v) x
 
 -- the copy of its tables takes that many steps: the begin, the columns, the directory, and the flag. There are at least the columns that the rows ask for, and of founded tables at most
 -- one for each row and each cell that was added; and each table is shut.
-abbrev pub HasCopyLength : Shutting → ℕ → Type 0
-HasCopyLength x copy = (3 + columns_seen x.serving.seated.tables x.serving.seated.seats ≤ copy)
-    × (AreFounded x.serving.seated → copy ≤ 3 + columns_added x.serving.seated.tables x.serving.seated.seats) × AreShut x.serving.seated
+abbrev pub HasCopyLength : Seated → ℕ → Type 0
+HasCopyLength x copy = (3 + columns_seen x.tables x.seats ≤ copy) × (AreFounded x → copy ≤ 3 + columns_added x.tables x.seats) × AreShut x
 
--- One step that neither ends the drain nor fails: one table more is treated; or all are, and their copy is planned; or a step of the copy is made.
-pub data MakesStep (s : At) (notes : List Note) (t : At) : Type 0 where
-  treats : (x y : Shutting)
-      → s ≡ Shuts x
-      → treated x < length x.serving.seated.tables
-      → Treats x y notes
-      → Part x.serving.seated notes y.serving.seated
-      → t ≡ Shuts y
-      → MakesStep s notes t
-  plans : (x : Shutting) (copy : ℕ)
-      → s ≡ Shuts x
-      → AllTreated x
-      → HasCopyLength x copy
-      → notes ≡ []
-      → t ≡ Copies x copy 0
-      → MakesStep s notes t
-  copies : (x : Shutting) (copy made : ℕ)
-      → s ≡ Copies x copy made
-      → suc made < copy
-      → notes ≡ []
-      → t ≡ Copies x copy (suc made)
-      → MakesStep s notes t
+-- A drain reached this stage, of a copy that takes so many steps: by so many steps of the leaf's life and these entries of its steward, behind which the last were made.
+pub record ReachesBy (mode : Mode) (x y : Seated) (notes : List Note) (copy : ℕ) (s : Stage) : Type 0 where
+  pub made : ℕ
+  pub treating : List Note
+  pub last : List Note
+  pub notes_are : notes ≡ treating ++ last
+  pub comes : Comes (length x.tables) copy made mode (noted_all treating) s
+  pub between : Seated
+  pub treats : Part x treating between
+  pub ends : Part between last y
 
--- so many of them
-pub data MakesSteps : ℕ → At → List Note → At → Type 0 where
-  none : (n : ℕ) (s : At) (notes : List Note) (t : At)
-      → n ≡ 0
-      → notes ≡ []
-      → t ≡ s
-      → MakesSteps n s notes t
-  more : (n : ℕ) (s : At) (notes : List Note) (t : At) (fewer : ℕ) (first others : List Note) (between : At)
-      → n ≡ suc fewer
-      → MakesStep s first between
-      → MakesSteps fewer between others t
-      → notes ≡ first ++ others
-      → MakesSteps n s notes t
+abbrev pub Reaches : Leaf → Leaf → List Note → ℕ → Stage → Type 0
+Reaches leaf leaf' notes copy s = ReachesBy (mode_of leaf) (seated_of leaf) (seated_of leaf') notes copy s
 
--- what the region is of a leaf that was killed behind so many steps of the copy: untouched, or begun and closed
-abbrev pub RegionStopped : ℕ → Meaning → Meaning → Type 0
-RegionStopped zero m m' = m'.held.region ≡ m.held.region
-RegionStopped (suc made) m m' = IsWayOf m'.held.region (Disk (why.Closed 0))
+-- what the region is of a leaf that was killed at this stage: begun and closed by a step of the copy, and untouched before
+abbrev pub RegionStopped : Stage → Meaning → Meaning → Type 0
+RegionStopped (Shutting p) m m' = m'.held.region ≡ m.held.region
+RegionStopped (Copying zero) m m' = m'.held.region ≡ m.held.region
+RegionStopped (Copying (suc made)) m m' = IsWayOf m'.held.region (Disk (why.Closed 0))
+
+abbrev pub SameRegion : Meaning → Meaning → Type 0
+SameRegion m m' = IsTrue m.tells → m'.held.region ≡ m.held.region
+
+-- what holds where the berth tells its contents and the tables are founded
+abbrev pub WhereStands : Leaf → Meaning → Type 0 → Type 0
+WhereStands leaf m P = (base : NamedStates) → IsTrue m.tells → AreFounded (seated_of leaf) → Stands base leaf m → P
+
+-- a leaf with these seats, of whose log that is told, serves its tables still
+abbrev pub ServesStill : Leaf → Meaning → Meaning → Seated → Option Owed → Type 0
+ServesStill leaf m m' x owed = (base : NamedStates) → IsTrue m.tells → AreFounded (seated_of leaf) → AreHandedNothing base → Stands base leaf m
+    → (s : Serving) × (s.seated ≡ x) × (owed_of s.owing ≡ owed) × ServingStands s m'
+
+-- How a drain is stopped at a stage: each table that is open is closed; or none is, and nothing is noted.
+abbrev pub Stops : Meaning → Meaning → (leaf leaf' : Leaf) → (notes : List Note) → (copy : ℕ) → (s : Stage) → Reaches leaf leaf' notes copy s → Type 0
+Stops m m' leaf leaf' notes copy (Shutting p) r = (count : ℕ) × (copy ≡ 0) × (first_open p + count ≡ length (seated_of leaf).tables) × EachNoted IsClosedNote (first_open p) count r.last
+    × SameRegion m m' × ServesStill leaf m m' r.between p.owed
+Stops m m' leaf leaf' notes copy (Copying made) r = HasCopyLength (seated_of leaf') copy × (r.last ≡ []) × WhereStands leaf m (RegionStopped (Copying made) m m')
 
 -- A drain makes its steps until one is the last and each table is handed over; or the region fails, and the leaf is down; or the copy has no room; or there is no memory; or the disk
 -- fails; or it has made as many steps as it was to make, and the leaf is killed; or the leaf is down. What a copy leaves that ended or failed names no stranger.
-pub data DrainMoves (m m' : Meaning) (leaf : Leaf) (stop : Option ℕ) (notes : List Note) (ends : Ending) (leaf' : Leaf) : Type 0 where
-  done : (x y : Shutting) (z : Seated) (treating handing : List Note) (n copy made : ℕ)
-      → BeginsShutting leaf x
-      → MakesSteps n (Shuts x) treating (Copies y copy made)
-      → suc made ≡ copy
-      → MayMake stop (suc n)
-      → Part y.serving.seated handing z
-      → EachNoted IsHandedNote 0 (length x.serving.seated.tables) handing
-      → notes ≡ treating ++ handing
-      → ((base : NamedStates) → IsTrue m.tells → AreFounded (seated_of leaf) → Stands base leaf m → IsWayLeft true m'.held.region Memory)
-      → ((base : NamedStates) → IsTrue m.tells → AreFounded (seated_of leaf) → Stands base leaf m → HasNoStranger (seated_of leaf).names m'.held.region)
-      → ends ≡ ending.Done
-      → leaf' ≡ IsDown z
-      → DrainMoves m m' leaf stop notes ends leaf'
-  failed : (x y : Shutting) (n copy made : ℕ)
-      → BeginsShutting leaf x
-      → MakesSteps n (Shuts x) notes (Copies y copy made)
-      → MayMake stop (suc n)
-      → ((base : NamedStates) → IsTrue m.tells → AreFounded (seated_of leaf) → Stands base leaf m → HasNoStranger (seated_of leaf).names m'.held.region)
-      → ends ≡ ending.FaultRegion
-      → leaf' ≡ IsDown y.serving.seated
-      → DrainMoves m m' leaf stop notes ends leaf'
-  roomless : (x y : Shutting) (n : ℕ)
-      → BeginsShutting leaf x
-      → MakesSteps n (Shuts x) notes (Shuts y)
-      → AllTreated y
-      → AreShut y.serving.seated × IsCrowded y.serving.seated
-      → MayMake stop (suc n)
-      → (IsTrue m.tells → m'.held.region ≡ m.held.region)
-      → ends ≡ ending.FaultRoom
-      → leaf' ≡ IsPreparing y
-      → DrainMoves m m' leaf stop notes ends leaf'
-  starved : (x y z : Shutting) (treating starving : List Note) (n : ℕ)
-      → BeginsShutting leaf x
-      → MakesSteps n (Shuts x) treating (Shuts y)
-      → MayMake stop (suc n)
-      → Starves y z starving
-      → Part y.serving.seated starving z.serving.seated
-      → notes ≡ treating ++ starving
-      → (IsTrue m.tells → m'.held.region ≡ m.held.region)
-      → ends ≡ ending.FaultMemory
-      → leaf' ≡ IsPreparing z
-      → DrainMoves m m' leaf stop notes ends leaf'
-  halted : (x y z : Shutting) (treating halting : List Note) (n : ℕ)
-      → BeginsShutting leaf x
-      → MakesSteps n (Shuts x) treating (Shuts y)
-      → MayMake stop (suc n)
-      → treated y < length y.serving.seated.tables
-      → Halts y z halting
-      → notes ≡ treating ++ halting
-      → (IsTrue m.tells → m'.held.region ≡ m.held.region)
-      → ends ≡ ending.FaultDisk
-      → leaf' ≡ IsPreparing z
-      → DrainMoves m m' leaf stop notes ends leaf'
-  stopped : (x y : Shutting) (z : Seated) (treating closing : List Note) (n count : ℕ)
-      → BeginsShutting leaf x
-      → stop ≡ Some n
-      → MakesSteps n (Shuts x) treating (Shuts y)
-      → length y.closed + count ≡ length y.serving.seated.tables
-      → EachNoted IsClosedNote (length y.closed) count closing
-      → Part y.serving.seated closing z
-      → notes ≡ treating ++ closing
-      → (IsTrue m.tells → m'.held.region ≡ m.held.region)
-      → ((base : NamedStates) → IsTrue m.tells → AreFounded (seated_of leaf) → AreHandedNothing base → Stands base leaf m → ServingStands y.serving m')
-      → ends ≡ ending.Stopped
-      → leaf' ≡ IsDown z
-      → DrainMoves m m' leaf stop notes ends leaf'
-  stopped_copying : (x y : Shutting) (n copy made : ℕ)
-      → BeginsShutting leaf x
-      → stop ≡ Some n
-      → MakesSteps n (Shuts x) notes (Copies y copy made)
-      → ((base : NamedStates) → IsTrue m.tells → AreFounded (seated_of leaf) → Stands base leaf m → RegionStopped made m m')
-      → ends ≡ ending.Stopped
-      → leaf' ≡ IsDown y.serving.seated
-      → DrainMoves m m' leaf stop notes ends leaf'
-  not_up : IsDownLeaf leaf
-      → notes ≡ []
-      → m'.held ≡ m.held
-      → ends ≡ ending.NotUp
-      → leaf' ≡ leaf
-      → DrainMoves m m' leaf stop notes ends leaf'
+abbrev pub DrainMoves : Meaning → Meaning → Leaf → Option ℕ → List Note → Ending → Leaf → Type 0
+DrainMoves m m' leaf stop notes ending.Done leaf' = (made : ℕ) × (r : Reaches leaf leaf' notes (suc made) (Copying made)) × MayMake stop (suc r.made) × HasCopyLength r.between (suc made)
+    × EachNoted IsHandedNote 0 (length (seated_of leaf).tables) r.last × (mode_of leaf' ≡ Down)
+    × WhereStands leaf m (IsWayLeft true m'.held.region Memory) × WhereStands leaf m (HasNoStranger (seated_of leaf).names m'.held.region)
+DrainMoves m m' leaf stop notes ending.FaultRegion leaf' = (copy made : ℕ) × (r : Reaches leaf leaf' notes copy (Copying made)) × MayMake stop (suc r.made) × HasCopyLength (seated_of leaf') copy
+    × (r.last ≡ []) × (mode_of leaf' ≡ Down) × WhereStands leaf m (HasNoStranger (seated_of leaf).names m'.held.region)
+DrainMoves m m' leaf stop notes ending.FaultRoom leaf' = (q : Progress) × (r : Reaches leaf leaf' notes 0 (Shutting q)) × MayMake stop (suc r.made) × (q.treated ≡ length (seated_of leaf).tables)
+    × AreShut (seated_of leaf') × IsCrowded (seated_of leaf') × (r.last ≡ []) × (mode_of leaf' ≡ Preparing q) × SameRegion m m'
+DrainMoves m m' leaf stop notes ending.FaultMemory leaf' = (q p : Progress) × (r : Reaches leaf leaf' notes 0 (Shutting q)) × MayMake stop (suc r.made)
+    × Starves (length (seated_of leaf).tables) q (noted_all r.last) p × (mode_of leaf' ≡ Preparing p) × SameRegion m m'
+DrainMoves m m' leaf stop notes ending.FaultDisk leaf' = (q p : Progress) × (r : Reaches leaf leaf' notes 0 (Shutting q)) × MayMake stop (suc r.made) × (q.treated < length (seated_of leaf).tables)
+    × Halts q (noted_all r.last) p × (mode_of leaf' ≡ Preparing p) × SameRegion m m'
+DrainMoves m m' leaf stop notes ending.Stopped leaf' =
+    (copy : ℕ) × (s : Stage) × (r : Reaches leaf leaf' notes copy s) × (stop ≡ Some r.made) × Stops m m' leaf leaf' notes copy s r × (mode_of leaf' ≡ Down)
+DrainMoves m m' leaf stop notes ending.NotUp leaf' = IsDownLeaf leaf × (notes ≡ []) × (m'.held ≡ m.held) × (leaf' ≡ leaf)
+DrainMoves m m' leaf stop notes _ leaf' = ⊥
 
 -- ---- deeds
 

@@ -19,6 +19,7 @@ use Rattle.printed_lines.specs.declared.line.Deed.TheVariants.{Start, Flush, Dra
 use Rattle.transcript.specs.Pieces.{Acted, lines_in}
 use Rattle.transcript.specs.Counts.{reads_disk}
 use Rattle.leaf_moves.specs.Stage.{Leaf, seated_of, Carries, MeetAll}
+use Rattle.leaf_moves.proofs.Drains.{by_endings}
 use Rattle.leaf_moves.specs.Steps as step
 use Rattle.leaf_moves.specs.Steps.{Moves, StartMoves, FlushMoves, KillMoves, DrainMoves, IsTrueOf, ending_of, ending_of_flush, noted_all}
 use Rattle.leaf_deeds.specs.Held.{KeepsSeats}
@@ -64,14 +65,7 @@ kill_ends names m m' leaf notes ends leaf' (step.preparing x y count at all each
 kill_ends names m m' leaf notes ends leaf' (step.not_up down empty held ended is) = subst (EndsOf names) (sym ended) tt
 
 drain_ends : (names : List (List ℕ)) (m m' : Meaning) (leaf : Leaf) (stop : Option ℕ) (notes : List Note) (ends : Ending) (leaf' : Leaf) → DrainMoves m m' leaf stop notes ends leaf' → EndsOf names ends
-drain_ends names m m' leaf stop notes ends leaf' (step.done x y z treating handing n copy made shuts steps last may part each is way own ended now) = subst (EndsOf names) (sym ended) tt
-drain_ends names m m' leaf stop notes ends leaf' (step.failed x y n copy made shuts steps may own ended now) = subst (EndsOf names) (sym ended) tt
-drain_ends names m m' leaf stop notes ends leaf' (step.roomless x y n shuts steps all crowded may region ended now) = subst (EndsOf names) (sym ended) tt
-drain_ends names m m' leaf stop notes ends leaf' (step.starved x y z treating starving n shuts steps may starves part is region ended now) = subst (EndsOf names) (sym ended) tt
-drain_ends names m m' leaf stop notes ends leaf' (step.halted x y z treating halting n shuts steps may more halts is region ended now) = subst (EndsOf names) (sym ended) tt
-drain_ends names m m' leaf stop notes ends leaf' (step.stopped x y z treating closing n count shuts all steps closed each part is region stands ended now) = subst (EndsOf names) (sym ended) tt
-drain_ends names m m' leaf stop notes ends leaf' (step.stopped_copying x y n copy made shuts all steps region ended now) = subst (EndsOf names) (sym ended) tt
-drain_ends names m m' leaf stop notes ends leaf' (step.not_up down empty held ended now) = subst (EndsOf names) (sym ended) tt
+drain_ends names m m' leaf stop notes ends leaf' moves = by_endings (EndsOf names) tt tt tt tt tt tt tt m m' leaf stop notes ends leaf' moves
 
 deed_ends : (names : List (List ℕ)) (deed : Deed) (m m' : Meaning) (x : Seated) (leaf : Leaf) (notes : List Note) (ends : Ending) (leaf' : Leaf)
     → length x.seats ≡ length names → KeepsSeats x (seated_of leaf) → Moves deed m m' leaf notes ends leaf' → EndsOf names ends

@@ -10,11 +10,11 @@ use Rattle.table_state.specs.Tables.{added_count}
 use Rattle.leaf_table.specs.Turns.{Shared}
 use Rattle.leaf_table.specs.Calls.{SeatView, SeesShut, base_seen, seen_of, state_of, state_seen}
 use Rattle.leaf_steward.specs.Seated.{Seated, AtEach}
-use Rattle.leaf_machine.specs.States.{Shutting, bulk_added, columns_added}
+use Rattle.leaf_machine.specs.States.{bulk_added, columns_added}
 use Rattle.transcript.specs.Histories.{Ground}
 use Rattle.transcript.specs.Answers.{columns_of, last_of, writes_then}
 use Rattle.transcript.specs.Pieces.{Noted}
-use Rattle.leaf_moves.specs.Stage.{IsDown, IsPreparing}
+use Rattle.leaf_moves.specs.Stage.{Leaf, seated_of}
 use Rattle.leaf_moves.specs.Steps.{AreShut}
 use Rattle.transcript_leaf.specs.Session.{AreToldOn, IsNoted, ground_of_table}
 use Rattle.transcript_leaf.specs.Acting.{Hands}
@@ -62,23 +62,23 @@ module _ (g : ℕ → Ground) (h : ℕ → List Entry) (notes : List Noted) wher
       places_sum (λ ws. length ws + added_count ws) bulk_added (λ vs. refl) (λ t ts. refl) (λ t ts v vs. refl) x.tables x.seats 0 (all_seen x told noted shut)
 
 -- a copy that did not end hands nothing over, and has at most these columns
-abbrev pub hands_most : (x : Seated) → AreShut x → Hands (IsDown x)
-hands_most x shut = record {
+abbrev pub hands_most : (leaf : Leaf) → AreShut (seated_of leaf) → Hands leaf
+hands_most leaf shut = record {
   handed = [];
   columns = 0;
-  most = columns_added x.tables x.seats;
+  most = columns_added (seated_of leaf).tables (seated_of leaf).seats;
   bulk = 0;
   told = λ grounds histories on. omega arith;
-  few = λ grounds histories notes on noted. (added_columns grounds histories notes x on noted shut, omega arith);
+  few = λ grounds histories notes on noted. (added_columns grounds histories notes (seated_of leaf) on noted shut, omega arith);
 }
 
 -- nor does one that had no room, whose tables have so many rows, cells and writes
-abbrev pub hands_bulk : (x : Shutting) → AreShut x.serving.seated → Hands (IsPreparing x)
-hands_bulk x shut = record {
+abbrev pub hands_bulk : (leaf : Leaf) → AreShut (seated_of leaf) → Hands leaf
+hands_bulk leaf shut = record {
   handed = [];
   columns = 0;
   most = 0;
-  bulk = bulk_added x.serving.seated.tables x.serving.seated.seats;
+  bulk = bulk_added (seated_of leaf).tables (seated_of leaf).seats;
   told = λ grounds histories on. omega arith;
-  few = λ grounds histories notes on noted. (omega arith, added_bulk grounds histories notes x.serving.seated on noted shut);
+  few = λ grounds histories notes on noted. (omega arith, added_bulk grounds histories notes (seated_of leaf) on noted shut);
 }

@@ -13,7 +13,8 @@ use Rattle.transcript.specs.Transcript.{Known, first_life, ground_of}
 use Rattle.transcript.specs.Leaving.{IsKnown}
 use Rattle.leaf_moves.specs.Stage.{Leaf, IsDown, seated_of}
 use Rattle.leaf_moves.specs.Holds.{Hold, caller_in, steward_in}
-use Rattle.transcript_leaf.specs.Session.{AreGrounded, AreInPlace, FitsMode, FitsNext, IsNewHold, IsWhole, KnownLeaf, LeafHeld, LeafSession, StandsFirst, TableSession}
+use Rattle.transcript.specs.Life.{Down}
+use Rattle.transcript_leaf.specs.Session.{AreGrounded, AreInPlace, FitsNext, IsNewHold, IsWhole, KnownLeaf, LeafHeld, LeafSession, StandsFirst, TableSession}
 use Rattle.transcript_leaf.proofs.Lists.{clash_bool, element_at, same_some}
 use Rattle.transcript_leaf.proofs.Places.{as_many_names, caller_is, same_pair}
 use Rattle.transcript_leaf.proofs.Durable.{first_durable}
@@ -42,9 +43,9 @@ first_table g number place t = record {
   legal = tt;
 }
 
-first_mode : (known : Option Known) (names : List (List ℕ)) (x : Seated) → FitsMode (first_life known names).mode (IsDown x)
-first_mode None names x = tt
-first_mode (Some k) names x = tt
+first_mode : (known : Option Known) (names : List (List ℕ)) → (first_life known names).mode ≡ Down
+first_mode None names = refl
+first_mode (Some k) names = refl
 
 first_next : (names : List (List ℕ)) (base : Option NamedStates) (known : Option Known) (x : Seated) (m : Meaning)
     → AreInPlace names x → IsKnown base m known → FitsNext known (first_life known names) (IsDown x) m
@@ -84,7 +85,7 @@ module _ {B : Type 0} (meaning : B → Meaning) (number : ℕ) (names : List (Li
     noted = λ place t v at sat. noted_unused place t v (same_some v _ (sym sat ∙ (new.unused place t (there place t at)).0));
     in_place = new.in_place;
     grounded = new.grounded;
-    mode = first_mode known names new.seated;
+    mode = first_mode known names;
     next = first_next names base known new.seated (meaning new.berth) new.in_place new.is_known;
     of_known = first_known number names base known new.seated (meaning new.berth) new.in_place new.grounded
         (λ place t v at sat. same_some v _ (sym sat ∙ (new.unused place t (there place t at)).0)) new.first new.is_known;

@@ -3,19 +3,20 @@ use Rattle.std.proofs.Common.{◌≡◌, ℕ, List, [], ◌++◌, length, Option
 use Rattle.std.specs.Prelude.{IfSome, is_some}
 use Rattle.std.proofs.lemmas.List.{append-nil}
 use Rattle.berth_face.specs.Berth.{Meaning}
-use Rattle.leaf_table.specs.Calls.{SeatView}
 use Rattle.leaf_steward.specs.Seated.{AtEach, Seated}
 use Rattle.transcript.specs.Pieces.{Did, Noted, Piece}
 use Rattle.transcript.specs.Strangers.{StrangersIn}
-use Rattle.transcript.specs.Life.{Life, Lives, Mode, Down, Up, Preparing}
+use Rattle.transcript.specs.Life.{Life, Lives}
 use Rattle.transcript.specs.Answers.{columns_of}
 use Rattle.transcript.specs.Transcript.{Known, first_life}
-use Rattle.leaf_moves.specs.Stage.{Leaf, IsDown, IsUp, IsPreparing, seated_of, seated_with, with_seats}
+use Rattle.leaf_moves.specs.Stage.{Leaf, seated_of, seated_with}
+use Rattle.leaf_moves.specs.Modes.{mode_of}
 use Rattle.transcript.specs.Moments.{MomentsRise, notes_told}
 use Rattle.transcript_leaf.proofs.Rising.{notes_between}
-use Rattle.transcript_leaf.specs.Session.{AreGrounded, AreInPlace, FitsMode, FitsNext, HasNoDeed, IsDurable, IsNoted, KnownLeaf, LeafHeld}
+use Rattle.transcript_leaf.specs.Session.{AreGrounded, AreInPlace, FitsNext, HasNoDeed, IsDurable, IsNoted, KnownLeaf, LeafHeld}
 use Rattle.transcript_leaf.proofs.Latest.{noted_met}
 use Rattle.transcript_leaf.proofs.Lives.{deeds_between}
+use Rattle.transcript_leaf.proofs.Modes.{mode_with}
 use Rattle.transcript_leaf.proofs.ToldOn.{told_met}
 use Rattle.transcript_leaf.proofs.Durable.{durable_met}
 use Rattle.transcript_leaf.proofs.Owned.{owned_met}
@@ -27,18 +28,6 @@ some_weaken None P Q f h = tt
 some_weaken (Some x) P Q f h = f x h
 
 -- ---- what a meeting leaves of a leaf
-
--- a leaf fits the lines whatever its steward's seats have seen
-fits_seats : (mode : Mode) (leaf : Leaf) (seats : List SeatView) → FitsMode mode leaf → FitsMode mode (with_seats leaf seats)
-fits_seats Down (IsDown x) seats h = tt
-fits_seats Down (IsUp x) seats h = absurd h
-fits_seats Down (IsPreparing x) seats h = absurd h
-fits_seats (Up owed) (IsDown x) seats h = absurd h
-fits_seats (Up owed) (IsUp x) seats h = h
-fits_seats (Up owed) (IsPreparing x) seats h = absurd h
-fits_seats (Preparing p) (IsDown x) seats h = absurd h
-fits_seats (Preparing p) (IsUp x) seats h = absurd h
-fits_seats (Preparing p) (IsPreparing x) seats h = record { owed = h.owed; treated_are = h.treated_are; waits = h.waits; closed = h.closed }
 
 -- its tables, and the seats that it has then
 pub met_seated : (known : Option Known) (leaf leaf' : Leaf) (m : Meaning) → (met : LeafMeets known leaf leaf' m) → seated_of leaf' ≡ seated_with (seated_of leaf) met.seats
@@ -91,7 +80,7 @@ held_meets number names known old pieces leaf leaf' m now met = record {
   noted = noted_met (notes_told number pieces) known leaf leaf' m now.grounded met now.noted;
   in_place = place_met names known leaf leaf' m now.in_place met;
   grounded = grounded_met names known leaf leaf' m now.in_place met now.grounded;
-  mode = subst (λ (l : Leaf). FitsMode now.life.mode l) (sym met.leaf_is) (fits_seats now.life.mode leaf met.seats now.mode);
+  mode = now.mode ∙ sym (ap mode_of met.leaf_is ∙ mode_with leaf met.seats);
   next = next_met known now.life leaf leaf' m met now.next;
   of_known = known_met number names known old now.life pieces leaf leaf' m now.in_place now.grounded met now.of_known;
 }

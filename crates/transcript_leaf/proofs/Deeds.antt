@@ -1,5 +1,5 @@
 -- The life behind a deed, by what it does to a leaf: starts, flushes and kills.
-use Rattle.std.proofs.Common.{◌≡◌, ℕ, suc, ◌+◌, ◌<◌, Bool, true, false, ◌&&◌, List, [], ◌∷◌, length, map, refl, sym, ap, subst, ◌∙◌, arith, Option, Some, None, inl, inr}
+use Rattle.std.proofs.Common.{◌≡◌, ℕ, ◌+◌, ◌<◌, Bool, true, false, ◌&&◌, List, [], ◌∷◌, length, map, refl, sym, ap, subst, ◌∙◌, arith, Option, Some, None, inl, inr}
 use Rattle.std.specs.Prelude.{◌≢◌, IfSome, IsSome, IsTrue, is_some, option_map, ⊤}
 use Rattle.row_records.specs.Records.{LogRecord}
 use Rattle.berth_face.specs.Berth.{Meaning}
@@ -13,7 +13,6 @@ use Rattle.printed_lines.specs.declared.line.Ending.{Ending}
 use Rattle.printed_lines.specs.declared.line.Ending.TheVariants as ending
 use Rattle.crash_moments.specs.Left.{NamedStates}
 use Rattle.leaf_steward.specs.declared.notes.Note.{Note}
-use Rattle.leaf_steward.specs.declared.notes.What.{What}
 use Rattle.leaf_steward.specs.declared.notes.What.TheVariants as what
 use Rattle.leaf_steward.specs.Seated.{Seated, AreFounded}
 use Rattle.leaf_steward.specs.Making.{EachNoted, IsClosedNote}
@@ -26,22 +25,24 @@ use Rattle.leaf_machine.specs.Flushes.{OwedNotes}
 use Rattle.leaf_machine.specs.Flushes as flushing
 use Rattle.printed_lines.specs.declared.line.Deed.{Deed}
 use Rattle.printed_lines.specs.declared.line.Deed.TheVariants.{Start, Flush, Drain, Kill}
-use Rattle.transcript.specs.Life.{Life, Mode, Down, Up, MayCome, Notes, Owed, Progress, BeginsAt, IsStartRefusal, OfFlush, OfKill, claimed, durable_after, durable_by, durable_with, failed, first_open, on, way_refused}
+use Rattle.transcript.specs.Life.{Life, Mode, Down, Up, MayCome, Notes, Owed, Progress, BeginsAt, IsStartRefusal, OfFlush, OfKill, claimed, durable_with, failed, first_open, on, way_refused}
 use Rattle.transcript.specs.Counts.{is_disk_fault}
 use Rattle.transcript.specs.Transcript.{Known}
 use Rattle.leaf_moves.specs.Stage.{Leaf, IsDown, IsUp, Stands, seated_of}
-use Rattle.leaf_moves.specs.Steps.{FlushMoves, IsTrueOf, KillMoves, Moves, RefusalTold, RegionRefused, StartMoves, StartsTold, ending_of, ending_of_flush, noted_all, said_of_note}
+use Rattle.leaf_moves.specs.Steps.{FlushMoves, IsTrueOf, KillMoves, Moves, RefusalTold, RegionRefused, StartMoves, StartsTold, ending_of, ending_of_flush, noted_all}
 use Rattle.leaf_moves.specs.Steps as steps
-use Rattle.transcript_leaf.specs.Session.{AreGrounded, AreInPlace, FitsMode, FitsNext, IsOwedAs, IsOwn, StandsKnown}
+use Rattle.leaf_moves.specs.Modes.{mode_of, owed_of, progress_of}
+use Rattle.leaf_moves.proofs.Modes.{owed_none, owed_some}
+use Rattle.transcript_leaf.specs.Session.{AreGrounded, AreInPlace, FitsNext, IsOwn, StandsKnown}
 use Rattle.transcript_leaf.specs.Acting.{FitsWay, Lived}
 use Rattle.transcript_leaf.specs.Acting as acting
 use Rattle.transcript_leaf.proofs.Lists.{clash_bool, within}
 use Rattle.transcript_leaf.proofs.Owned.{never_stranger}
 use Rattle.transcript_leaf.proofs.Ways.{after_start, comes_known, found_way, left_as, may_come, not_memory, same_way, way_left}
-use Rattle.transcript_leaf.proofs.Modes.{as_many, counts_stay, down_mode, founded_known, not_resting, not_serving, preparing_mode, resting_mode, same_held, up_mode, way_stays, where_known}
+use Rattle.transcript_leaf.proofs.Modes.{as_many, counts_stay, down_leaf, founded_known, resting_mode, same_held, up_leaf, way_stays, where_known}
 use Rattle.transcript_leaf.proofs.Starts.{Starts, as_told}
-use Rattle.transcript_leaf.proofs.NoteLines.{closed_noted, noted_none, opened_noted, tells, tells_owed}
-use Rattle.transcript_leaf.proofs.CountingNotes.{AreStewards}
+use Rattle.leaf_moves.proofs.NoteLines.{closed_noted, noted_none, opened_noted, tells, tells_owed}
+use Rattle.transcript_leaf.proofs.CountingNotes.{AreStewards, all_closed, durable_still}
 use Rattle.transcript_leaf.proofs.Handing.{hands_nothing}
 use Rattle.transcript_leaf.proofs.Drains.{drain_lives}
 
@@ -105,7 +106,7 @@ way_may None m m' leaf x s notes way stands is told = may_come way
 way_may (Some k) m m' leaf x s notes way stands is told = comes_known k.base x m way (subst (λ (l : Leaf). Stands k.base l m) is stands.stands) told.way_is
 
 start_opened : (known : Option Known) (tables : ℕ) (life : Life) (m m' : Meaning) (leaf : Leaf) (x : Seated) (s : Serving) (notes : List Note) (way : Way) (ends : Ending) (leaf' : Leaf)
-    → length x.tables ≡ tables → FitsMode life.mode (IsDown x) → MayCome (is_some known) way → FitsNext known life leaf m → OpensCounts known life m m' leaf notes → leaf ≡ IsDown x
+    → length x.tables ≡ tables → life.mode ≡ Down → MayCome (is_some known) way → FitsNext known life leaf m → OpensCounts known life m m' leaf notes → leaf ≡ IsDown x
     → s.owing.log.owed ≡ None → EachNoted IsOpenedNote 0 (length x.tables) notes → IfSome known (λ (k : Known). StartsTold x m m' s notes way)
     → ends ≡ ending.Started way → leaf' ≡ IsUp s
     → Lived known tables Start life (noted_all notes) ends leaf' m'
@@ -114,9 +115,9 @@ start_opened known tables life m m' leaf x s notes way ends leaf' size mode may 
       next = opened_life (is_some known) way o.counts;
       hands = hands_nothing leaf';
       does = λ columns few more. as_told (is_some known) tables life (noted_all notes) ends (opened_life (is_some known) way o.counts)
-          (Starts.opens way o.counts (down_mode life.mode x mode) may (way_opens known life m m' leaf x s notes way fits told) o.claimed_are (o.size ∙ size) o.told ends_are refl);
+          (Starts.opens way o.counts mode may (way_opens known life m m' leaf x s notes way fits told) o.claimed_are (o.size ∙ size) o.told ends_are refl);
       counts = acting.opened way o.counts ends_are o.told refl;
-      mode = subst (λ (l : Leaf). FitsMode (Up None) l) (sym now) none;
+      mode = sym (ap mode_of now ∙ ap (λ (o : Option Owed). Up o) (owed_none s.owing none));
       way = way_opened known m m' x s notes way o.counts told;
     }
 
@@ -226,17 +227,17 @@ name_told x (fault.Worn table) is name e = absurd cc
 pub start_lives : (names : List (List ℕ)) (known : Option Known) (life : Life) (m m' : Meaning) (leaf : Leaf) (notes : List Note) (ends : Ending) (leaf' : Leaf)
     → AreInPlace names (seated_of leaf) → AreGrounded known (seated_of leaf) → IfSome known (λ (k : Known). StandsKnown k leaf m)
     → IfSome known (λ (k : Known). life.begun ≡ true → IsOwn names (seated_of leaf) m)
-    → FitsMode life.mode leaf → FitsNext known life leaf m → OpensCounts known life m m' leaf notes
+    → life.mode ≡ mode_of leaf → FitsNext known life leaf m → OpensCounts known life m m' leaf notes
     → StartMoves m m' leaf notes ends leaf' → Lived known (length names) Start life (noted_all notes) ends leaf' m'
 start_lives names known life m m' leaf notes ends leaf' in_place grounded stands own mode fits opens (steps.opened x s way is none each told ends_are now) =
     start_opened known (length names) life m m' leaf x s notes way ends leaf'
     (ap (λ (l : Leaf). length (seated_of l).tables) (sym is) ∙ as_many names (seated_of leaf) in_place)
-    (subst (λ (l : Leaf). FitsMode life.mode l) is mode) (way_may known m m' leaf x s notes way stands is (where_known known leaf m (StartsTold x m m' s notes way) stands told)) fits opens is none each
+    (mode ∙ ap mode_of is) (way_may known m m' leaf x s notes way stands is (where_known known leaf m (StartsTold x m m' s notes way) stands told)) fits opens is none each
     (where_known known leaf m (StartsTold x m m' s notes way) stands told) ends_are now
 start_lives names known life m m' leaf notes ends leaf' in_place grounded stands own mode fits opens (steps.refused x f is worn sound told notes_are ends_are same) = record {
   next = refused_life life f;
   hands = hands_nothing leaf';
-  does = λ columns few more. as_told (is_some known) (length names) life (noted_all notes) ends (refused_life life f) (Starts.refuses (down_mode life.mode x (subst (λ (l : Leaf). FitsMode life.mode l) is mode))
+  does = λ columns few more. as_told (is_some known) (length names) life (noted_all notes) ends (refused_life life f) (Starts.refuses (mode ∙ ap mode_of is)
       (subst (λ (e : Ending). IsStartRefusal (is_some known) (length names) life e) (sym ends_are)
       (refusal (is_some known) (length names) life f (logged known life m m' leaf x f fits (where_known known leaf m (RefusalTold x m m' f) stands told)) (undamaged names known m leaf x f in_place grounded stands is sound)
       (strangers_none names known life.begun m m' leaf x f in_place stands own is (where_known known leaf m (RefusalTold x m m' f) stands told))
@@ -244,15 +245,15 @@ start_lives names known life m m' leaf notes ends leaf' in_place grounded stands
       (noted_none notes notes_are)
       (ap (λ (e : Ending). on life Down (way_refused e life.way) []) (sym ends_are)));
   counts = acting.keeps refl (ap (λ (ns : List Note). durable_with life.durable (noted_all ns)) (sym notes_are));
-  mode = subst (λ (l : Leaf). FitsMode Down l) (sym (same ∙ is)) tt;
+  mode = sym (ap mode_of (same ∙ is));
   way = way_refuses known life m m' leaf x f fits (where_known known leaf m (RefusalTold x m m' f) stands told);
 }
 start_lives names known life m m' leaf notes ends leaf' in_place grounded stands own mode fits opens (steps.not_down not notes_are same ends_are now) = record {
   next = life;
   hands = hands_nothing leaf';
-  does = λ columns few more. as_told (is_some known) (length names) life (noted_all notes) ends life (Starts.not_down (not_resting leaf life.mode mode not) (noted_none notes notes_are) ends_are refl);
+  does = λ columns few more. as_told (is_some known) (length names) life (noted_all notes) ends life (Starts.not_down (λ down. not (down_leaf leaf (sym mode ∙ down))) (noted_none notes notes_are) ends_are refl);
   counts = acting.keeps refl (counts_stay life.durable notes notes_are);
-  mode = subst (λ (l : Leaf). FitsMode life.mode l) (sym now) mode;
+  mode = mode ∙ sym (ap mode_of now);
   way = way_stays known life life leaf m m' refl fits (same_held known leaf m m' stands same);
 }
 
@@ -265,100 +266,73 @@ taken table number n = record { table = table; number = number; what = what.Took
 abbrev taken_and_flushed : ℕ → ℕ → ℕ → ℕ → List Note
 taken_and_flushed table number later n = record { table = table; number = number; what = what.Took n } ∷ record { table = table; number = later; what = what.Flushed n } ∷ []
 
-record_there : (o : Option LogRecord) → IsSome o → (r : LogRecord) × (o ≡ Some r)
-record_there None h = absurd (clash_bool false h refl)
-record_there (Some r) h = (r, refl)
-
--- where a record is owed, so it is told
-owed_told : (owed : Option Owed) (s : Serving) → IsOwedAs owed s.owing → IsSome s.owing.log.owed → (o : Owed) × (owed ≡ Some o)
-owed_told None s owes some =
-    let there = record_there s.owing.log.owed some in
-    absurd (clash there.0 s.owing.log.owed there.1 owes)
-  where
-    clash : (r : LogRecord) (o : Option LogRecord) → o ≡ Some r → o ≡ None → ⊥
-    clash r o e g = cc
-owed_told (Some o) s owes some = (o, refl)
-
-up_flushed : (known : Option Known) (tables table : ℕ) (life : Life) (m m' : Meaning) (leaf : Leaf) (owed : Option Owed) (s s' : Serving) (notes : List Note) (r : FlushReply) (ends : Ending) (leaf' : Leaf)
-    → life.mode ≡ Up owed → IsOwedAs owed s.owing → FitsNext known life leaf m → IfSome known (λ (k : Known). m'.held.region ≡ m.held.region)
+up_flushed : (known : Option Known) (tables table : ℕ) (life : Life) (m m' : Meaning) (leaf : Leaf) (s s' : Serving) (notes : List Note) (r : FlushReply) (ends : Ending) (leaf' : Leaf)
+    → life.mode ≡ Up (owed_of s.owing) → FitsNext known life leaf m → IfSome known (λ (k : Known). m'.held.region ≡ m.held.region)
     → ends ≡ ending_of_flush r → leaf' ≡ IsUp s' → flushing.Flushes table s s' notes r
     → Lived known tables (Flush table) life (noted_all notes) ends leaf' m'
-up_flushed known tables table life m m' leaf owed s s' notes r ends leaf' mode owes fits same ends_are now (flushing.done first taking flushed n noted fresh notes_are reply_is none) =
+up_flushed known tables table life m m' leaf s s' notes r ends leaf' mode fits same ends_are now (flushing.done first taking flushed n noted fresh notes_are reply_is none) =
     let is : ends ≡ ending.Done = ends_are ∙ ap (λ (q : FlushReply). ending_of_flush q) reply_is in record {
       next = on life (Up None) life.way (noted_all notes);
       hands = hands_nothing leaf';
       does = λ columns few more. subst (λ (e : Ending). OfFlush table life (noted_all notes) e (on life (Up None) life.way (noted_all notes))) (sym is)
-          (owed, n, mode, tells owed s.owing notes first (taken_and_flushed table taking flushed n) table (said.Took n ∷ said.Flushed n ∷ []) owes noted notes_are refl, refl);
+          (owed_of s.owing, n, mode, tells s.owing notes first (taken_and_flushed table taking flushed n) table (said.Took n ∷ said.Flushed n ∷ []) noted notes_are refl, refl);
       counts = acting.keeps (ap (λ (e : Ending). is_disk_fault e) is) refl;
-      mode = subst (λ (l : Leaf). FitsMode (Up None) l) (sym now) none;
+      mode = sym (ap mode_of now ∙ ap (λ (o : Option Owed). Up o) (owed_none s'.owing none));
       way = way_stays known life (on life (Up None) life.way (noted_all notes)) leaf m m' refl fits same;
     }
-up_flushed known tables table life m m' leaf owed s s' notes r ends leaf' mode owes fits same ends_are now (flushing.half first taking n noted fresh notes_are reply_is some owner_is count_is) =
-    let there = record_there s'.owing.log.owed some in
+up_flushed known tables table life m m' leaf s s' notes r ends leaf' mode fits same ends_are now (flushing.half first taking n noted fresh notes_are reply_is some owner_is count_is) =
     let left : Mode = Up (Some (record { table = table; count = n })) in record {
       next = failed life left;
       hands = hands_nothing leaf';
       does = λ columns few more. subst (λ (e : Ending). OfFlush table life (noted_all notes) e (failed life left)) (sym (ends_are ∙ ap (λ (q : FlushReply). ending_of_flush q) reply_is))
-          (inl (owed, n, mode, tells owed s.owing notes first (taken table taking n) table (said.Took n ∷ []) owes noted notes_are refl, refl));
+          (inl (owed_of s.owing, n, mode, tells s.owing notes first (taken table taking n) table (said.Took n ∷ []) noted notes_are refl, refl));
       counts = acting.lost refl;
-      mode = subst (λ (l : Leaf). FitsMode left l) (sym now) (there.0, there.1, owner_is, count_is);
+      mode = sym (ap mode_of now ∙ ap (λ (o : Option Owed). Up o) (owed_some s'.owing table n some owner_is count_is));
       way = way_stays known life (failed life left) leaf m m' refl fits same;
     }
-up_flushed known tables table life m m' leaf owed s s' notes r ends leaf' mode owes fits same ends_are now (flushing.worn first noted notes_are reply_is worn none) =
+up_flushed known tables table life m m' leaf s s' notes r ends leaf' mode fits same ends_are now (flushing.worn first noted notes_are reply_is worn none) =
     let is : ends ≡ ending.Worn = ends_are ∙ ap (λ (q : FlushReply). ending_of_flush q) reply_is in record {
       next = on life (Up None) life.way (noted_all notes);
       hands = hands_nothing leaf';
       does = λ columns few more. subst (λ (e : Ending). OfFlush table life (noted_all notes) e (on life (Up None) life.way (noted_all notes))) (sym is)
-          (owed, mode, tells_owed owed s.owing notes table owes (subst (λ (ns : List Note). OwedNotes s.owing.log.owed s.owing ns) (sym notes_are) noted), refl);
+          (owed_of s.owing, mode, tells_owed s.owing notes table (subst (λ (ns : List Note). OwedNotes s.owing.log.owed s.owing ns) (sym notes_are) noted), refl);
       counts = acting.keeps (ap (λ (e : Ending). is_disk_fault e) is) refl;
-      mode = subst (λ (l : Leaf). FitsMode (Up None) l) (sym now) none;
+      mode = sym (ap mode_of now ∙ ap (λ (o : Option Owed). Up o) (owed_none s'.owing none));
       way = way_stays known life (on life (Up None) life.way (noted_all notes)) leaf m m' refl fits same;
     }
-up_flushed known tables table life m m' leaf owed s s' notes r ends leaf' mode owes fits same ends_are now (flushing.stuck notes_are reply_is some seated owed_is owner_is count_is) =
-    let told = owed_told owed s owes some in
-    let still : IsOwedAs (Some told.0) s.owing = subst (λ (o : Option Owed). IsOwedAs o s.owing) told.1 owes in record {
-      next = failed life (Up (Some told.0));
+up_flushed known tables table life m m' leaf s s' notes r ends leaf' mode fits same ends_are now (flushing.stuck notes_are reply_is some seated owed_is owner_is count_is) =
+    let told : Owed = record { table = s.owing.owner; count = s.owing.count } in
+    let was : owed_of s.owing ≡ Some told = owed_some s.owing s.owing.owner s.owing.count some refl refl in record {
+      next = failed life (Up (Some told));
       hands = hands_nothing leaf';
-      does = λ columns few more. subst (λ (e : Ending). OfFlush table life (noted_all notes) e (failed life (Up (Some told.0)))) (sym (ends_are ∙ ap (λ (q : FlushReply). ending_of_flush q) reply_is))
-          (inr (told.0, mode ∙ ap (λ (o : Option Owed). Up o) told.1, noted_none notes notes_are, refl));
+      does = λ columns few more. subst (λ (e : Ending). OfFlush table life (noted_all notes) e (failed life (Up (Some told)))) (sym (ends_are ∙ ap (λ (q : FlushReply). ending_of_flush q) reply_is))
+          (inr (told, mode ∙ ap (λ (o : Option Owed). Up o) was, noted_none notes notes_are, refl));
       counts = acting.lost refl;
-      mode = subst (λ (l : Leaf). FitsMode (Up (Some told.0)) l) (sym now) (still.0, owed_is ∙ still.1, owner_is ∙ still.2, count_is ∙ still.3);
-      way = way_stays known life (failed life (Up (Some told.0))) leaf m m' refl fits same;
+      mode = sym (ap mode_of now ∙ ap (λ (o : Option Owed). Up o)
+          (owed_some s'.owing s.owing.owner s.owing.count (subst (λ (r : Option LogRecord). IsSome r) (sym owed_is) some) owner_is count_is));
+      way = way_stays known life (failed life (Up (Some told))) leaf m m' refl fits same;
     }
 
 pub flush_lives : (known : Option Known) (tables table : ℕ) (life : Life) (m m' : Meaning) (leaf : Leaf) (notes : List Note) (ends : Ending) (leaf' : Leaf)
-    → IfSome known (λ (k : Known). StandsKnown k leaf m) → FitsMode life.mode leaf → FitsNext known life leaf m
+    → IfSome known (λ (k : Known). StandsKnown k leaf m) → life.mode ≡ mode_of leaf → FitsNext known life leaf m
     → FlushMoves table m m' leaf notes ends leaf' → Lived known tables (Flush table) life (noted_all notes) ends leaf' m'
 flush_lives known tables table life m m' leaf notes ends leaf' stands mode fits (steps.flushed s s' r is flushes region ends_are now) =
-    let u = up_mode life.mode s (subst (λ (l : Leaf). FitsMode life.mode l) is mode) in
-    up_flushed known tables table life m m' leaf u.0 s s' notes r ends leaf' u.1 u.2 fits (where_known known leaf m (m'.held.region ≡ m.held.region) stands region) ends_are now flushes
+    up_flushed known tables table life m m' leaf s s' notes r ends leaf' (mode ∙ ap mode_of is) fits (where_known known leaf m (m'.held.region ≡ m.held.region) stands region) ends_are now flushes
 flush_lives known tables table life m m' leaf notes ends leaf' stands mode fits (steps.not_up not notes_are same ends_are now) = record {
   next = life;
   hands = hands_nothing leaf';
-  does = λ columns few more. subst (λ (e : Ending). OfFlush table life (noted_all notes) e life) (sym ends_are) (not_serving leaf life.mode mode not, noted_none notes notes_are, refl);
+  does = λ columns few more. subst (λ (e : Ending). OfFlush table life (noted_all notes) e life) (sym ends_are) (λ owed up. not (up_leaf leaf owed (sym mode ∙ up)), noted_none notes notes_are, refl);
   counts = acting.keeps (ap (λ (e : Ending). is_disk_fault e) ends_are) (counts_stay life.durable notes notes_are);
-  mode = subst (λ (l : Leaf). FitsMode life.mode l) (sym now) mode;
+  mode = mode ∙ sym (ap mode_of now);
   way = way_stays known life life leaf m m' refl fits (same_held known leaf m m' stands same);
 }
 
 -- ---- kills
 
-one_closed : (counts : List ℕ) (table : ℕ) (w : What) → IsClosedNote w → durable_by counts table (said_of_note w) ≡ counts
-one_closed counts table (what.Opened n) h = absurd h
-one_closed counts table (what.Took n) h = absurd h
-one_closed counts table (what.Flushed n) h = absurd h
-one_closed counts table (what.Closed n) h = refl
-one_closed counts table what.Handed h = absurd h
-
-all_closed : (counts : List ℕ) (place count : ℕ) (notes : List Note) → EachNoted IsClosedNote place count notes → durable_after counts (noted_all notes) ≡ counts
-all_closed counts place count [] h = refl
-all_closed counts place count (n ∷ ns) h =
-    ap (λ (cs : List ℕ). durable_after cs (noted_all ns)) (one_closed counts n.table n.what h.3) ∙ all_closed counts (suc place) h.0 ns h.4
-
 -- closing a table changes none of the counts
 counts_closed : (counts : Option (List ℕ)) (place count : ℕ) (notes : List Note) → EachNoted IsClosedNote place count notes → durable_with counts [] ≡ durable_with counts (noted_all notes)
 counts_closed None place count notes h = refl
-counts_closed (Some cs) place count notes h = ap (λ (ds : List ℕ). Some ds) (sym (all_closed cs place count notes h))
+counts_closed (Some cs) place count notes h = ap (λ (ds : List ℕ). Some ds) (sym (durable_still cs notes (all_closed place count notes h)))
 
 -- each table that is open is closed
 killed : (known : Option Known) (tables : ℕ) (life : Life) (m m' : Meaning) (leaf : Leaf) (p : Progress) (place count : ℕ) (notes : List Note) (ends : Ending) (leaf' : Leaf) (y : Seated)
@@ -372,30 +346,28 @@ killed known tables life m m' leaf p place count notes ends leaf' y begins from 
       does = λ columns few more. subst (λ (e : Ending). OfKill tables life (noted_all notes) e (on life Down life.way [])) (sym ends_are)
           (p, begins, (c.0, ap (λ (n : ℕ). n + length c.0) from ∙ (ap (λ (n : ℕ). place + n) c.1 ∙ size), subst (λ (n : ℕ). Notes n (map said.Closed c.0) (noted_all notes)) (sym from) c.2), refl);
       counts = acting.keeps (ap (λ (e : Ending). is_disk_fault e) ends_are) (counts_closed life.durable place count notes each);
-      mode = subst (λ (l : Leaf). FitsMode Down l) (sym now) tt;
+      mode = sym (ap mode_of now);
       way = way_stays known life (on life Down life.way []) leaf m m' refl fits same;
     }
 
 pub kill_lives : (names : List (List ℕ)) (known : Option Known) (life : Life) (m m' : Meaning) (leaf : Leaf) (notes : List Note) (ends : Ending) (leaf' : Leaf)
-    → AreInPlace names (seated_of leaf) → IfSome known (λ (k : Known). StandsKnown k leaf m) → FitsMode life.mode leaf → FitsNext known life leaf m
+    → AreInPlace names (seated_of leaf) → IfSome known (λ (k : Known). StandsKnown k leaf m) → life.mode ≡ mode_of leaf → FitsNext known life leaf m
     → KillMoves m m' leaf notes ends leaf' → Lived known (length names) Kill life (noted_all notes) ends leaf' m'
 kill_lives names known life m m' leaf notes ends leaf' in_place stands mode fits (steps.up s y is each same ends_are now) =
-    let u = up_mode life.mode s (subst (λ (l : Leaf). FitsMode life.mode l) is mode) in
-    let p : Progress = record { owed = u.0; treated = 0; waits = false } in
+    let p : Progress = record { owed = owed_of s.owing; treated = 0; waits = false } in
     let size : length s.seated.tables ≡ length names = ap (λ (l : Leaf). length (seated_of l).tables) (sym is) ∙ as_many names (seated_of leaf) in_place in
-    killed known (length names) life m m' leaf p 0 (length s.seated.tables) notes ends leaf' y (subst (λ (k : Mode). BeginsAt k p) (sym u.1) refl) refl (omega (arith, size)) each
+    killed known (length names) life m m' leaf p 0 (length s.seated.tables) notes ends leaf' y (subst (λ (k : Mode). BeginsAt k p) (sym (mode ∙ ap mode_of is)) refl) refl (omega (arith, size)) each
     fits (same_held known leaf m m' stands same) ends_are now
 kill_lives names known life m m' leaf notes ends leaf' in_place stands mode fits (steps.preparing x y count is left each same ends_are now) =
-    let u = preparing_mode life.mode x (subst (λ (l : Leaf). FitsMode life.mode l) is mode) in
     let size : length x.serving.seated.tables ≡ length names = ap (λ (l : Leaf). length (seated_of l).tables) (sym is) ∙ as_many names (seated_of leaf) in_place in
-    killed known (length names) life m m' leaf u.0 (length x.closed) count notes ends leaf' y (subst (λ (k : Mode). BeginsAt k u.0) (sym u.1) refl) (sym u.2.closed) (left ∙ size) each
+    killed known (length names) life m m' leaf (progress_of x) (first_open (progress_of x)) count notes ends leaf' y (subst (λ (k : Mode). BeginsAt k (progress_of x)) (sym (mode ∙ ap mode_of is)) refl) refl (left ∙ size) each
     fits (same_held known leaf m m' stands same) ends_are now
 kill_lives names known life m m' leaf notes ends leaf' in_place stands mode fits (steps.not_up down notes_are same ends_are now) = record {
   next = life;
   hands = hands_nothing leaf';
-  does = λ columns few more. subst (λ (e : Ending). OfKill (length names) life (noted_all notes) e life) (sym ends_are) (resting_mode leaf life.mode mode down, noted_none notes notes_are, refl);
+  does = λ columns few more. subst (λ (e : Ending). OfKill (length names) life (noted_all notes) e life) (sym ends_are) (mode ∙ resting_mode leaf down, noted_none notes notes_are, refl);
   counts = acting.keeps (ap (λ (e : Ending). is_disk_fault e) ends_are) (counts_stay life.durable notes notes_are);
-  mode = subst (λ (l : Leaf). FitsMode life.mode l) (sym now) mode;
+  mode = mode ∙ sym (ap mode_of now);
   way = way_stays known life life leaf m m' refl fits (same_held known leaf m m' stands same);
 }
 
@@ -404,13 +376,13 @@ kill_lives names known life m m' leaf notes ends leaf' in_place stands mode fits
 pub deed_lives : (names : List (List ℕ)) (known : Option Known) (deed : Deed) (life : Life) (m m' : Meaning) (leaf : Leaf) (notes : List Note) (ends : Ending) (leaf' : Leaf)
     → AreInPlace names (seated_of leaf) → AreGrounded known (seated_of leaf) → AreStewards (seated_of leaf) → IfSome known (λ (k : Known). StandsKnown k leaf m)
     → IfSome known (λ (k : Known). life.begun ≡ true → IsOwn names (seated_of leaf) m)
-    → FitsMode life.mode leaf → FitsNext known life leaf m → OpensCounts known life m m' leaf notes
+    → life.mode ≡ mode_of leaf → FitsNext known life leaf m → OpensCounts known life m m' leaf notes
     → Moves deed m m' leaf notes ends leaf' → Lived known (length names) deed life (noted_all notes) ends leaf' m'
 deed_lives names known Start life m m' leaf notes ends leaf' in_place grounded stewards stands own mode fits opens moves =
     start_lives names known life m m' leaf notes ends leaf' in_place grounded stands own mode fits opens moves
 deed_lives names known (Flush table) life m m' leaf notes ends leaf' in_place grounded stewards stands own mode fits opens moves =
     flush_lives known (length names) table life m m' leaf notes ends leaf' stands mode fits moves
 deed_lives names known (Drain stop) life m m' leaf notes ends leaf' in_place grounded stewards stands own mode fits opens moves =
-    drain_lives names known stop life m m' leaf notes ends leaf' in_place grounded stewards stands mode fits moves
+    drain_lives names known stop life m m' leaf notes leaf' in_place grounded stewards stands mode fits ends moves
 deed_lives names known Kill life m m' leaf notes ends leaf' in_place grounded stewards stands own mode fits opens moves =
     kill_lives names known life m m' leaf notes ends leaf' in_place stands mode fits moves

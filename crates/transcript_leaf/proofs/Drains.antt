@@ -1,9 +1,9 @@
 -- The life of a leaf behind a drain, by what that does to it.
-use Rattle.std.proofs.Common.{◌≡◌, ℕ, zero, suc, ◌+◌, ◌<◌, ◌≤◌, Bool, true, false, List, [], ◌++◌, length, map, refl, sym, ap, subst, ◌∙◌, arith, Option, Some, None}
-use Rattle.std.specs.Prelude.{IfSome, IsTrue, is_some, option_map, replicate}
+use Rattle.std.proofs.Common.{◌≡◌, ℕ, zero, suc, ◌+◌, ◌≤◌, Bool, true, List, [], ◌++◌, length, refl, sym, ap, subst, ◌∙◌, arith, Option, Some, None}
+use Rattle.std.specs.Prelude.{IfSome, is_some, option_map, replicate}
 use Rattle.std.specs.List.{AllByRecursion}
 use Rattle.std.proofs.lemmas.List.{append-nil}
-use Rattle.berth_face.specs.Berth.{Meaning, Pair}
+use Rattle.berth_face.specs.Berth.{Meaning}
 use Rattle.leaf_words.specs.declared.ways.WhyDisk.TheVariants as why
 use Rattle.leaf_words.specs.declared.ways.Way.{Way}
 use Rattle.leaf_words.specs.declared.ways.Way.TheVariants.{Memory, Disk}
@@ -11,52 +11,30 @@ use Rattle.leaf_opening.specs.Starts.{IsWayLeft, IsWayOf}
 use Rattle.printed_lines.specs.declared.line.Said.TheVariants as said
 use Rattle.printed_lines.specs.declared.line.Ending.{Ending}
 use Rattle.printed_lines.specs.declared.line.Ending.TheVariants as ending
-use Rattle.crash_moments.specs.Left.{NamedStates}
 use Rattle.leaf_table.specs.Turns.{Shared, is_founded}
 use Rattle.leaf_table.specs.Calls.{base_seen}
 use Rattle.leaf_steward.specs.declared.notes.Note.{Note}
 use Rattle.leaf_steward.specs.Seated.{Seated, AreFounded}
-use Rattle.leaf_steward.specs.Making.{EachNoted, IsClosedNote, IsHandedNote}
-use Rattle.leaf_machine.specs.States.{Shutting, bulk_added, columns_added, columns_seen, treated}
-use Rattle.leaf_machine.specs.Prepares.{Halts, Starves, AllTreated, IsCrowded}
+use Rattle.leaf_steward.proofs.WatchMakes.{makes_tables}
+use Rattle.leaf_machine.specs.States.{bulk_added, columns_added, columns_seen}
 use Rattle.printed_lines.specs.declared.line.Deed.TheVariants.{Drain}
-use Rattle.transcript.specs.Pieces.{Noted}
 use Rattle.transcript.specs.Transcript.{Known}
-use Rattle.transcript.specs.Life.{Columns, Life, Mode, Down, Up, Preparing, Progress, OfDrain, BeginsAt, Steps, ClosesRest, MayMake, claimed, durable_with, failed, first_open, on, way_stopped}
+use Rattle.transcript.specs.Life.{Columns, Life, Mode, Down, Preparing, OfDrain, ClosesRest, Comes, IsCopyWithin, Stage, Starves, claimed, durable_after, durable_with, failed, on, way_stopped}
 use Rattle.transcript.specs.Life as life
-use Rattle.leaf_moves.specs.Stage.{Leaf, IsDown, IsUp, IsPreparing, Stands, seated_of}
-use Rattle.leaf_moves.specs.Steps.{AreShut, BeginsShutting, DrainMoves, IsDownLeaf, MakesSteps, Part, RegionStopped, noted_all}
-use Rattle.leaf_moves.specs.Steps as moves
-use Rattle.transcript_leaf.specs.Session.{AreGrounded, AreInPlace, FitsMode, FitsNext, IsProgressOf, StandsKnown}
+use Rattle.leaf_moves.specs.Stage.{Leaf, seated_of}
+use Rattle.leaf_moves.specs.Modes.{mode_of}
+use Rattle.leaf_moves.specs.Steps.{DrainMoves, HasCopyLength, Part, Reaches, RegionStopped, Stops, WhereStands, noted_all}
+use Rattle.leaf_moves.proofs.NoteLines.{closed_noted, handed_noted, noted_none, noted_split}
+use Rattle.transcript_leaf.specs.Session.{AreGrounded, AreInPlace, FitsNext, StandsKnown}
 use Rattle.transcript_leaf.specs.Acting.{FitsWay, Hands, Lived}
 use Rattle.transcript_leaf.specs.Acting as acting
-use Rattle.transcript_leaf.proofs.Modes.{as_many, counts_stay, founded_known, founded_where, resting_mode, way_claim}
+use Rattle.transcript_leaf.proofs.Modes.{as_many, counts_stay, founded_known, founded_where, resting_mode, same_held, way_claim, way_stays, where_known}
 use Rattle.transcript_leaf.proofs.Ways.{left_as}
-use Rattle.transcript_leaf.proofs.NoteLines.{closed_noted, handed_noted, noted_split}
-use Rattle.transcript_leaf.proofs.CountingNotes.{AreStewards}
-use Rattle.transcript_leaf.proofs.Handing.{begun_stewards, begun_tables, handed_columns, hands_nothing, steps_stewards, steps_tables}
+use Rattle.transcript_leaf.proofs.CountingNotes.{AllNotes, AreStewards, IsStill, all_closed, all_handed, durable_append, durable_still}
+use Rattle.transcript_leaf.proofs.Handing.{handed_columns, hands_nothing, part_stewards}
 use Rattle.transcript_leaf.proofs.Adding.{hands_bulk, hands_most}
-use Rattle.transcript_leaf.proofs.DrainSteps.{closed_still, copied, copy_columns, copy_shut, copy_within, durable_still, halts, handed_still, starves, through}
-
--- ---- what is known where the base is
-
--- what is promised of a leaf with a base holds where the base is known
-promised : (P : Type 0) (names : List (List ℕ)) (known : Option Known) (leaf : Leaf) (m : Meaning)
-    → AreInPlace names (seated_of leaf) → AreGrounded known (seated_of leaf) → IfSome known (λ (k : Known). StandsKnown k leaf m)
-    → ((base : NamedStates) → IsTrue m.tells → AreFounded (seated_of leaf) → Stands base leaf m → P) → IfSome known (λ (k : Known). P)
-promised P names None leaf m in_place grounded stands holds = tt
-promised P names (Some k) leaf m in_place grounded stands holds =
-    holds k.base stands.tells (founded_known names k (seated_of leaf) in_place grounded) stands.stands
 
 -- ---- the way of the next start
-
--- it is as before
-kept_way : (known : Option Known) (old : Life) (leaf : Leaf) (m m' : Meaning) → IfSome known (λ (k : Known). StandsKnown k leaf m) → FitsNext known old leaf m
-    → (IsTrue m.tells → m'.held.region ≡ m.held.region) → (next : Life) → way_claim next ≡ way_claim old → FitsWay known next m'
-kept_way None old leaf m m' stands fits same next is = ap (λ (c : Option Way × Bool). c.0) is ∙ fits.0
-kept_way (Some k) old leaf m m' stands fits same next is =
-    subst (λ (c : Option Way × Bool). IfSome c.0 (IsWayLeft c.1 m'.held.region)) (sym is)
-    (subst (λ (region : List ℕ). IfSome old.way (IsWayLeft old.begun region)) (sym (same stands.tells)) fits.0)
 
 -- it finds memory
 memory_way : (known : Option Known) (m' : Meaning) → IfSome known (λ (k : Known). IsWayLeft true m'.held.region Memory) → (next : Life) → next.way ≡ claimed (is_some known) Memory → FitsWay known next m'
@@ -72,313 +50,248 @@ closed_way : (begun : Bool) (way : Option Way) (region : List ℕ) → IsWayOf r
 closed_way begun None region is = tt
 closed_way begun (Some w) region is = left_as begun region (Disk (why.Closed 0)) is (λ e. cc)
 
--- the way behind a copy that was stopped, where that before is claimed
-claim_stopped : (old : Life) (m m' : Meaning) (made : ℕ) → IfSome old.way (IsWayLeft old.begun m.held.region) → RegionStopped made m m'
-    → IfSome (way_stopped (life.Copying made) old.way) (IsWayLeft old.begun m'.held.region)
-claim_stopped old m m' zero was now = subst (λ (region : List ℕ). IfSome old.way (IsWayLeft old.begun region)) (sym now) was
-claim_stopped old m m' (suc made) was now = closed_way old.begun old.way m'.held.region now
+-- the way behind a drain that was stopped, where that before is claimed
+claim_stopped : (old : Life) (m m' : Meaning) (s : Stage) → IfSome old.way (IsWayLeft old.begun m.held.region) → RegionStopped s m m' → IfSome (way_stopped s old.way) (IsWayLeft old.begun m'.held.region)
+claim_stopped old m m' (life.Shutting p) was now = subst (λ (region : List ℕ). IfSome old.way (IsWayLeft old.begun region)) (sym now) was
+claim_stopped old m m' (life.Copying zero) was now = subst (λ (region : List ℕ). IfSome old.way (IsWayLeft old.begun region)) (sym now) was
+claim_stopped old m m' (life.Copying (suc made)) was now = closed_way old.begun old.way m'.held.region now
 
-stopped_none : (made : ℕ) → way_stopped (life.Copying made) None ≡ None
-stopped_none zero = refl
-stopped_none (suc made) = refl
+stopped_none : (s : Stage) → way_stopped s None ≡ None
+stopped_none (life.Shutting p) = refl
+stopped_none (life.Copying zero) = refl
+stopped_none (life.Copying (suc made)) = refl
 
-stopped_way : (known : Option Known) (old : Life) (leaf : Leaf) (m m' : Meaning) (made : ℕ) → FitsNext known old leaf m
-    → IfSome known (λ (k : Known). RegionStopped made m m') → (next : Life) → way_claim next ≡ (way_stopped (life.Copying made) old.way, old.begun) → FitsWay known next m'
-stopped_way None old leaf m m' made fits holds next is = ap (λ (c : Option Way × Bool). c.0) is ∙ (ap (λ (way : Option Way). way_stopped (life.Copying made) way) fits.0 ∙ stopped_none made)
-stopped_way (Some k) old leaf m m' made fits holds next is =
-    subst (λ (c : Option Way × Bool). IfSome c.0 (IsWayLeft c.1 m'.held.region)) (sym is) (claim_stopped old m m' made fits.0 holds)
+stopped_way : (known : Option Known) (old : Life) (leaf : Leaf) (m m' : Meaning) (s : Stage) → FitsNext known old leaf m
+    → IfSome known (λ (k : Known). RegionStopped s m m') → (next : Life) → way_claim next ≡ (way_stopped s old.way, old.begun) → FitsWay known next m'
+stopped_way None old leaf m m' s fits holds next is = ap (λ (c : Option Way × Bool). c.0) is ∙ (ap (λ (way : Option Way). way_stopped s way) fits.0 ∙ stopped_none s)
+stopped_way (Some k) old leaf m m' s fits holds next is =
+    subst (λ (c : Option Way × Bool). IfSome c.0 (IsWayLeft c.1 m'.held.region)) (sym is) (claim_stopped old m m' s fits.0 holds)
 
--- ---- where it begins
+-- entries that leave the counts
+still_with : (known : Option (List ℕ)) (xs ys : List Note) → AllNotes IsStill ys → durable_with known (noted_all xs) ≡ durable_with known (noted_all (xs ++ ys))
+still_with None xs ys still = refl
+still_with (Some counts) xs ys still = ap (λ (c : List ℕ). Some c) (sym (durable_append counts xs ys ∙ durable_still (durable_after counts (noted_all xs)) ys still))
 
--- the leaf as it is told to shut, and how far it has come by then
-record Begun (mode : Mode) (leaf : Leaf) (x : Shutting) : Type 0 where
-  at : Progress
-  begins : BeginsAt mode at
-  progress : IsProgressOf x at
-  tables : length x.serving.seated.tables ≡ length (seated_of leaf).tables
-
-begun : (mode : Mode) (leaf : Leaf) (x : Shutting) → FitsMode mode leaf → BeginsShutting leaf x → Begun mode leaf x
-begun Down (IsDown y) x fits shuts = absurd shuts
-begun Down (IsUp s) x fits shuts = absurd fits
-begun Down (IsPreparing y) x fits shuts = absurd fits
-begun (Up owed) (IsDown y) x fits shuts = absurd fits
-begun (Up owed) (IsUp s) x fits shuts = subst (λ (y : Shutting). Begun (Up owed) (IsUp s) y) (sym shuts) (record {
-  at = record { owed = owed; treated = 0; waits = false };
-  begins = refl;
-  progress = record { owed = fits; treated_are = refl; waits = refl; closed = refl };
-  tables = refl;
-})
-begun (Up owed) (IsPreparing y) x fits shuts = absurd fits
-begun (Preparing p) (IsDown y) x fits shuts = absurd fits
-begun (Preparing p) (IsUp s) x fits shuts = absurd fits
-begun (Preparing p) (IsPreparing y) x fits shuts = subst (λ (z : Shutting). Begun (Preparing p) (IsPreparing y) z) (sym shuts) (record {
-  at = p;
-  begins = refl;
-  progress = fits;
-  tables = refl;
-})
-
--- the tables of a leaf with a base are founded, and so they are once they are copied
-founded_copy : (names : List (List ℕ)) (known : Option Known) (leaf : Leaf) (x y : Shutting) (n copy made : ℕ) (notes : List Note) → AreInPlace names (seated_of leaf) → AreGrounded known (seated_of leaf)
-    → BeginsShutting leaf x → MakesSteps n (moves.Shuts x) notes (moves.Copies y copy made) → is_some known ≡ true → AreFounded y.serving.seated
-founded_copy names known leaf x y n copy made notes place grounded shuts steps is =
-    let same : y.serving.seated.tables ≡ (seated_of leaf).tables = steps_tables n (moves.Shuts x) notes (moves.Copies y copy made) steps ∙ begun_tables leaf x shuts in
-    subst (λ (ts : List Shared). AllByRecursion (λ (t : Shared). is_founded (base_seen t) ≡ true) ts) (sym same) (founded_where names known (seated_of leaf) place grounded is)
-
-founded_shut : (names : List (List ℕ)) (known : Option Known) (leaf : Leaf) (x y : Shutting) (n : ℕ) (notes : List Note) → AreInPlace names (seated_of leaf) → AreGrounded known (seated_of leaf)
-    → BeginsShutting leaf x → MakesSteps n (moves.Shuts x) notes (moves.Shuts y) → is_some known ≡ true → AreFounded y.serving.seated
-founded_shut names known leaf x y n notes place grounded shuts steps is =
-    let same : y.serving.seated.tables ≡ (seated_of leaf).tables = steps_tables n (moves.Shuts x) notes (moves.Shuts y) steps ∙ begun_tables leaf x shuts in
-    subst (λ (ts : List Shared). AllByRecursion (λ (t : Shared). is_founded (base_seen t) ≡ true) ts) (sym same) (founded_where names known (seated_of leaf) place grounded is)
+-- tables are founded still
+part_founded : (x : Seated) (notes : List Note) (y : Seated) → Part x notes y → AreFounded x → AreFounded y
+part_founded x notes y part founded =
+    subst (λ (ts : List Shared). AllByRecursion (λ (t : Shared). is_founded (base_seen t) ≡ true) ts) (sym (makes_tables part.from part.to x notes y part.made)) founded
 
 -- ---- each way that a drain may end
 
--- the columns that a copy has at most that did not end
-abbrev most_columns : Seated → ℕ
-most_columns x = columns_added x.tables x.seats
+module _ (names : List (List ℕ)) (known : Option Known) (stop : Option ℕ) (old : Life) (m m' : Meaning) (leaf : Leaf) (notes : List Note) (leaf' : Leaf)
+    (place : AreInPlace names (seated_of leaf)) (grounded : AreGrounded known (seated_of leaf)) (stewards : AreStewards (seated_of leaf))
+    (stands : IfSome known (λ (k : Known). StandsKnown k leaf m)) (mode : old.mode ≡ mode_of leaf) (fits : FitsNext known old leaf m) where
+  abbrev based : Bool
+  based = is_some known
 
-module _ (known : Option Known) (tables : ℕ) (stop : Option ℕ) (old : Life) (m m' : Meaning) (leaf : Leaf) (x : Shutting)
-    (stands : IfSome known (λ (k : Known). StandsKnown k leaf m)) (fits : FitsNext known old leaf m) (b : Begun old.mode leaf x) (size : length x.serving.seated.tables ≡ tables) where
+  abbrev tables : ℕ
+  tables = length names
+
+  abbrev LivedSo : Ending → Type 0
+  LivedSo ends = Lived known tables (Drain stop) old (noted_all notes) ends leaf' m'
+
+  size : length (seated_of leaf).tables ≡ tables
+  size = as_many names (seated_of leaf) place
+
+  -- what holds of a leaf with a base holds where the base is known
+  promised : (P : Type 0) → WhereStands leaf m P → IfSome known (λ (k : Known). P)
+  promised P holds = by known grounded stands
+    where
+      by : (o : Option Known) → AreGrounded o (seated_of leaf) → IfSome o (λ (k : Known). StandsKnown k leaf m) → IfSome o (λ (k : Known). P)
+      by None on stood = tt
+      by (Some k) on stood = holds k.base stood.tells (founded_known names k (seated_of leaf) place on) stood.stands
+
+  -- how far its life came
+  module _ (copy : ℕ) (s : Stage) (r : Reaches leaf leaf' notes copy s) where
+    comes : Comes tables copy r.made old.mode (noted_all r.treating) s
+    comes = subst (λ (a : Mode). Comes tables copy r.made a (noted_all r.treating) s) (sym mode) (subst (λ (n : ℕ). Comes n copy r.made (mode_of leaf) (noted_all r.treating) s) size r.comes)
+
+    split : noted_all notes ≡ noted_all r.treating ++ noted_all r.last
+    split = noted_split notes r.treating r.last r.notes_are
+
+    comes_all : r.last ≡ [] → Comes tables copy r.made old.mode (noted_all notes) s
+    comes_all none =
+        let just : r.treating ≡ notes = sym (r.notes_are ∙ (ap (λ (ns : List Note). r.treating ++ ns) none ∙ append-nil r.treating)) in
+        subst (λ (ns : List Note). Comes tables copy r.made old.mode (noted_all ns) s) just comes
+
+    still : AllNotes IsStill r.last → durable_with old.durable (noted_all r.treating) ≡ durable_with old.durable (noted_all notes)
+    still all = still_with old.durable r.treating r.last all ∙ ap (λ (ns : List Note). durable_with old.durable (noted_all ns)) (sym r.notes_are)
+
+    founded : based ≡ true → AreFounded (seated_of leaf')
+    founded is = part_founded r.between r.last (seated_of leaf') r.ends (part_founded (seated_of leaf) r.treating r.between r.treats (founded_where names known (seated_of leaf) place grounded is))
+
+    within : HasCopyLength (seated_of leaf') copy → (most : ℕ) → (based ≡ true → columns_added (seated_of leaf').tables (seated_of leaf').seats ≤ most) → IsCopyWithin based most copy
+    within long most few = λ is.
+        let bound = long.1 (founded is) in
+        let all = few is in
+        omega (arith, bound, all)
+
   -- each table is handed over, and the leaf is down
-  drained : (y : Shutting) (z : Seated) (treating handing notes : List Note) (n copy made : ℕ)
-      → AreStewards x.serving.seated → MakesSteps n (moves.Shuts x) treating (moves.Copies y copy made) → suc made ≡ copy → MayMake stop (suc n) → Part y.serving.seated handing z
-      → EachNoted IsHandedNote 0 (length x.serving.seated.tables) handing → notes ≡ treating ++ handing → IfSome known (λ (k : Known). IsWayLeft true m'.held.region Memory)
-      → Lived known tables (Drain stop) old (noted_all notes) ending.Done (IsDown z) m'
-  drained y z treating handing notes n copy made stewards steps last may part noted notes_are memory =
-      let split = noted_split notes treating handing notes_are in
-      let hand : life.Notes 0 (replicate tables said.Handed) (noted_all handing) =
-      subst (λ (n : ℕ). life.Notes 0 (replicate n said.Handed) (noted_all handing)) size (handed_noted 0 (length x.serving.seated.tables) handing noted) in
-      let next : Life = on old Down (claimed (is_some known) Memory) (noted_all treating) in
-      let hands : Hands (IsDown z) = record {
-        handed = noted_all handing;
-        columns = columns_seen y.serving.seated.tables y.serving.seated.seats;
+  done : DrainMoves m m' leaf stop notes ending.Done leaf' → LivedSo ending.Done
+  done h =
+      let r = h.1 in
+      let at = life.Copying h.0 in
+      let hand : life.Notes 0 (replicate tables said.Handed) (noted_all r.last) =
+      subst (λ (n : ℕ). life.Notes 0 (replicate n said.Handed) (noted_all r.last)) size (handed_noted 0 (length (seated_of leaf).tables) r.last h.4) in
+      let next : Life = on old Down (claimed based Memory) (noted_all r.treating) in
+      let hands : Hands leaf' = record {
+        handed = noted_all r.last;
+        columns = columns_seen r.between.tables r.between.seats;
         most = 0;
         bulk = 0;
-        told = λ grounds histories on. handed_columns grounds histories z on part.from part.to y.serving.seated handing (length x.serving.seated.tables) part.made noted
-            (steps_stewards n (moves.Shuts x) treating (moves.Copies y copy made) steps stewards);
+        told = λ grounds histories on. handed_columns grounds histories (seated_of leaf') on r.ends.from r.ends.to r.between r.last (length (seated_of leaf).tables) r.ends.made h.4
+            (part_stewards (seated_of leaf) r.treating r.between r.treats stewards);
         few = λ grounds histories notes on noted. (omega arith, omega arith);
       } in
-      let does : (columns : Columns) → columns.least hands.handed ≤ hands.columns → OfDrain (is_some known) tables columns stop old (noted_all notes) ending.Done next =
+      let does : (columns : Columns) → columns.least hands.handed ≤ hands.columns → OfDrain based tables columns stop old (noted_all notes) ending.Done next =
       λ columns few. (
-        n,
-        made,
-        noted_all treating,
-        noted_all handing,
-        (b.at, b.begins, subst (λ (c : ℕ). Steps tables c n (life.Shutting b.at) (noted_all treating) (life.Copying made)) (sym last) (copied tables n copy made x y treating b.at b.progress size steps)),
-        may,
-        (let long = (copy_columns n copy made x y treating steps).0 in omega (arith, few, long, last)),
+        r.made,
+        h.0,
+        noted_all r.treating,
+        noted_all r.last,
+        comes (suc h.0) at r,
+        h.2,
+        (let long = h.3.0 in omega (arith, few, long)),
         hand,
-        split,
+        split (suc h.0) at r,
         refl,
       ) in record {
         next = next;
         hands = hands;
         does = λ columns few more. does columns few;
-        counts = acting.keeps refl
-            (durable_still old.durable (noted_all treating) (noted_all handing) (handed_still 0 tables (noted_all handing) hand)
-            ∙ ap (λ (ns : List Noted). durable_with old.durable ns) (sym split));
-        mode = tt;
-        way = memory_way known m' memory next refl;
+        counts = acting.keeps refl (still (suc h.0) at r (all_handed 0 (length (seated_of leaf).tables) r.last h.4));
+        mode = sym h.5;
+        way = memory_way known m' (promised (IsWayLeft true m'.held.region Memory) h.6) next refl;
       }
 
   -- the region failed
-  region_failed : (y : Shutting) (notes : List Note) (n copy made : ℕ) → (is_some known ≡ true → AreFounded y.serving.seated)
-      → MakesSteps n (moves.Shuts x) notes (moves.Copies y copy made) → MayMake stop (suc n)
-      → Lived known tables (Drain stop) old (noted_all notes) ending.FaultRegion (IsDown y.serving.seated) m'
-  region_failed y notes n copy made founded steps may =
+  region_failed : DrainMoves m m' leaf stop notes ending.FaultRegion leaf' → LivedSo ending.FaultRegion
+  region_failed h =
+      let r = h.2 in
+      let at = life.Copying h.1 in
       let next : Life = on old Down None (noted_all notes) in
-      let does : (columns : Columns) → (is_some known ≡ true → most_columns y.serving.seated ≤ columns.most) → OfDrain (is_some known) tables columns stop old (noted_all notes) ending.FaultRegion next =
-      λ columns more. (
-        copy,
-        n,
-        made,
-        copy_within (is_some known) columns.most n copy made x y notes steps founded more,
-        (b.at, b.begins, copied tables n copy made x y notes b.at b.progress size steps),
-        may,
-        refl,
-      ) in record {
+      let does : (columns : Columns) → (based ≡ true → columns_added (seated_of leaf').tables (seated_of leaf').seats ≤ columns.most) → OfDrain based tables columns stop old (noted_all notes) ending.FaultRegion next =
+      λ columns more. (h.0, r.made, h.1, within h.0 at r h.4 columns.most more, comes_all h.0 at r h.5, h.3, refl) in record {
         next = next;
-        hands = hands_most y.serving.seated (copy_shut n copy made x y notes steps);
+        hands = hands_most leaf' h.4.2;
         does = λ columns few more. does columns (λ is. (more is).0);
         counts = acting.keeps refl refl;
-        mode = tt;
+        mode = sym h.6;
         way = no_way known m' next refl;
       }
 
   -- the copy has no room
-  roomless : (y : Shutting) (notes : List Note) (n : ℕ) → (is_some known ≡ true → AreFounded y.serving.seated) → MakesSteps n (moves.Shuts x) notes (moves.Shuts y) → AllTreated y
-      → AreShut y.serving.seated → IsCrowded y.serving.seated → MayMake stop (suc n)
-      → (IsTrue m.tells → m'.held.region ≡ m.held.region)
-      → Lived known tables (Drain stop) old (noted_all notes) ending.FaultRoom (IsPreparing y) m'
-  roomless y notes n founded steps all shut crowded may same =
-      let th = through tables 0 n x y notes b.at b.progress size steps in
-      let next : Life = on old (Preparing th.q) old.way (noted_all notes) in
-      let bulk = bulk_added y.serving.seated.tables y.serving.seated.seats in
-      let does : (columns : Columns) → (is_some known ≡ true → bulk ≤ columns.bulk) → OfDrain (is_some known) tables columns stop old (noted_all notes) ending.FaultRoom next =
+  roomless : DrainMoves m m' leaf stop notes ending.FaultRoom leaf' → LivedSo ending.FaultRoom
+  roomless h =
+      let r = h.1 in
+      let at = life.Shutting h.0 in
+      let next : Life = on old (Preparing h.0) old.way (noted_all notes) in
+      let does : (columns : Columns) → (based ≡ true → bulk_added (seated_of leaf').tables (seated_of leaf').seats ≤ columns.bulk) → OfDrain based tables columns stop old (noted_all notes) ending.FaultRoom next =
       λ columns more. (
-        n,
-        th.q,
-        λ is. let much = crowded (founded is) in let all = more is in omega (arith, much, all),
-        (b.at, b.begins, th.run),
-        th.progress.treated_are ∙ (all ∙ th.size),
-        may,
+        r.made,
+        h.0,
+        λ is. let much = h.5 (founded 0 at r is) in let all = more is in omega (arith, much, all),
+        comes_all 0 at r h.6,
+        h.3 ∙ size,
+        h.2,
         refl,
       ) in record {
         next = next;
-        hands = hands_bulk y shut;
+        hands = hands_bulk leaf' h.4;
         does = λ columns few more. does columns (λ is. (more is).1);
         counts = acting.keeps refl refl;
-        mode = th.progress;
-        way = kept_way known old leaf m m' stands fits same next refl;
+        mode = sym h.7;
+        way = way_stays known old next leaf m m' refl fits (where_known known leaf m (m'.held.region ≡ m.held.region) stands h.8);
       }
 
   -- there is no memory
-  starved : (y z : Shutting) (treating starving notes : List Note) (n : ℕ) → MakesSteps n (moves.Shuts x) treating (moves.Shuts y) → MayMake stop (suc n) → Starves y z starving
-      → notes ≡ treating ++ starving → (IsTrue m.tells → m'.held.region ≡ m.held.region)
-      → Lived known tables (Drain stop) old (noted_all notes) ending.FaultMemory (IsPreparing z) m'
-  starved y z treating starving notes n steps may s notes_are same =
-      let th = through tables 0 n x y treating b.at b.progress size steps in
-      let st = starves tables y z starving th.q th.size th.progress s in
-      let next : Life = on old (Preparing st.0) old.way (noted_all notes) in
-      let does : (columns : Columns) → OfDrain (is_some known) tables columns stop old (noted_all notes) ending.FaultMemory next =
-      λ columns. (n, th.q, st.0, noted_all treating, noted_all starving, (b.at, b.begins, th.run), may, st.1, noted_split notes treating starving notes_are, refl) in record {
+  starved : DrainMoves m m' leaf stop notes ending.FaultMemory leaf' → LivedSo ending.FaultMemory
+  starved h =
+      let r = h.2 in
+      let at = life.Shutting h.0 in
+      let next : Life = on old (Preparing h.1) old.way (noted_all notes) in
+      let starves : Starves tables h.0 (noted_all r.last) h.1 = subst (λ (n : ℕ). Starves n h.0 (noted_all r.last) h.1) size h.4 in
+      let does : (columns : Columns) → OfDrain based tables columns stop old (noted_all notes) ending.FaultMemory next =
+      λ columns. (r.made, h.0, h.1, noted_all r.treating, noted_all r.last, comes 0 at r, h.3, starves, split 0 at r, refl) in record {
         next = next;
-        hands = hands_nothing (IsPreparing z);
+        hands = hands_nothing leaf';
         does = λ columns few more. does columns;
         counts = acting.keeps refl refl;
-        mode = st.2;
-        way = kept_way known old leaf m m' stands fits same next refl;
+        mode = sym h.5;
+        way = way_stays known old next leaf m m' refl fits (where_known known leaf m (m'.held.region ≡ m.held.region) stands h.6);
       }
 
   -- the disk fails
-  halted : (y z : Shutting) (treating halting notes : List Note) (n : ℕ)
-      → MakesSteps n (moves.Shuts x) treating (moves.Shuts y) → MayMake stop (suc n) → treated y < length y.serving.seated.tables → Halts y z halting
-      → notes ≡ treating ++ halting → (IsTrue m.tells → m'.held.region ≡ m.held.region)
-      → Lived known tables (Drain stop) old (noted_all notes) ending.FaultDisk (IsPreparing z) m'
-  halted y z treating halting notes n steps may few h notes_are same =
-      let th = through tables 0 n x y treating b.at b.progress size steps in
-      let hl = halts y z halting th.q th.progress h in
-      let below : th.q.treated < tables = omega (arith, few, th.progress.treated_are, th.size) in
-      let next : Life = failed old (Preparing hl.0) in
-      let does : (columns : Columns) → OfDrain (is_some known) tables columns stop old (noted_all notes) ending.FaultDisk next =
-      λ columns. (n, th.q, hl.0, noted_all treating, noted_all halting, (b.at, b.begins, th.run), may, below, hl.1, noted_split notes treating halting notes_are, refl) in record {
+  halted : DrainMoves m m' leaf stop notes ending.FaultDisk leaf' → LivedSo ending.FaultDisk
+  halted h =
+      let r = h.2 in
+      let at = life.Shutting h.0 in
+      let next : Life = failed old (Preparing h.1) in
+      let few = h.4 in
+      let does : (columns : Columns) → OfDrain based tables columns stop old (noted_all notes) ending.FaultDisk next =
+      λ columns. (r.made, h.0, h.1, noted_all r.treating, noted_all r.last, comes 0 at r, h.3, omega (arith, few, size), h.5, split 0 at r, refl) in record {
         next = next;
-        hands = hands_nothing (IsPreparing z);
+        hands = hands_nothing leaf';
         does = λ columns few more. does columns;
         counts = acting.lost refl;
-        mode = hl.2;
-        way = kept_way known old leaf m m' stands fits same next refl;
+        mode = sym h.6;
+        way = way_stays known old next leaf m m' refl fits (where_known known leaf m (m'.held.region ≡ m.held.region) stands h.7);
       }
 
-  -- It is stopped while there were tables to treat, or at their end, and the leaf is killed: each table that is still open is closed.
-  stopped : (y : Shutting) (z : Seated) (treating closing notes : List Note) (n count : ℕ)
-      → stop ≡ Some n → MakesSteps n (moves.Shuts x) treating (moves.Shuts y)
-      → length y.closed + count ≡ length y.serving.seated.tables → EachNoted IsClosedNote (length y.closed) count closing
-      → notes ≡ treating ++ closing → (IsTrue m.tells → m'.held.region ≡ m.held.region)
-      → Lived known tables (Drain stop) old (noted_all notes) ending.Stopped (IsDown z) m'
-  stopped y z treating closing notes n count stop_is steps count_is noted notes_are same =
-      let th = through tables 0 n x y treating b.at b.progress size steps in
-      let shut = closed_noted (length y.closed) count closing noted in
-      let split = noted_split notes treating closing notes_are in
-      let place : length y.closed ≡ first_open th.q = th.progress.closed in
-      let rest : ClosesRest tables (life.Shutting th.q) (noted_all closing) = (
-        shut.0,
-        ap (λ (n : ℕ). n + length shut.0) (sym place) ∙ (ap (λ (n : ℕ). length y.closed + n) shut.1 ∙ (count_is ∙ th.size)),
-        subst (λ (n : ℕ). life.Notes n (map said.Closed shut.0) (noted_all closing)) place shut.2,
-      ) in
-      let next : Life = on old Down (way_stopped (life.Shutting th.q) old.way) (noted_all treating) in
-      let does : (columns : Columns) → OfDrain (is_some known) tables columns stop old (noted_all notes) ending.Stopped next =
-      λ columns. (0, n, life.Shutting th.q, noted_all treating, noted_all closing, λ is. omega arith, (b.at, b.begins, th.run), stop_is, rest, split, refl) in record {
+  -- it is stopped at a stage, and the leaf is killed
+  stopped_at : (copy : ℕ) (s : Stage) (r : Reaches leaf leaf' notes copy s) (hands : Hands leaf') → stop ≡ Some r.made → mode_of leaf' ≡ Down
+      → ((columns : Columns) → (based ≡ true → hands.most ≤ columns.most) → IsCopyWithin based columns.most copy)
+      → ClosesRest tables s (noted_all r.last) → AllNotes IsStill r.last → IfSome known (λ (k : Known). RegionStopped s m m') → LivedSo ending.Stopped
+  stopped_at copy s r hands stops down long closes all region =
+      let next : Life = on old Down (way_stopped s old.way) (noted_all r.treating) in
+      let does : (columns : Columns) → (based ≡ true → hands.most ≤ columns.most) → OfDrain based tables columns stop old (noted_all notes) ending.Stopped next =
+      λ columns more. (copy, r.made, s, noted_all r.treating, noted_all r.last, long columns more, comes copy s r, stops, closes, split copy s r, refl) in record {
         next = next;
-        hands = hands_nothing (IsDown z);
-        does = λ columns few more. does columns;
-        counts = acting.keeps refl
-            (durable_still old.durable (noted_all treating) (noted_all closing) (closed_still (length y.closed) shut.0 (noted_all closing) shut.2)
-            ∙ ap (λ (ns : List Noted). durable_with old.durable ns) (sym split));
-        mode = tt;
-        way = kept_way known old leaf m m' stands fits same next refl;
-      }
-
-  -- behind steps of the copy
-  stopped_copying : (y : Shutting) (notes : List Note) (n copy made : ℕ) → (is_some known ≡ true → AreFounded y.serving.seated)
-      → stop ≡ Some n → MakesSteps n (moves.Shuts x) notes (moves.Copies y copy made) → IfSome known (λ (k : Known). RegionStopped made m m')
-      → Lived known tables (Drain stop) old (noted_all notes) ending.Stopped (IsDown y.serving.seated) m'
-  stopped_copying y notes n copy made founded stop_is steps region =
-      let next : Life = on old Down (way_stopped (life.Copying made) old.way) (noted_all notes) in
-      let does : (columns : Columns) → (is_some known ≡ true → most_columns y.serving.seated ≤ columns.most) → OfDrain (is_some known) tables columns stop old (noted_all notes) ending.Stopped next =
-      λ columns more. (
-        copy,
-        n,
-        life.Copying made,
-        noted_all notes,
-        [],
-        copy_within (is_some known) columns.most n copy made x y notes steps founded more,
-        (b.at, b.begins, copied tables n copy made x y notes b.at b.progress size steps),
-        stop_is,
-        refl,
-        sym (append-nil (noted_all notes)),
-        refl,
-      ) in record {
-        next = next;
-        hands = hands_most y.serving.seated (copy_shut n copy made x y notes steps);
+        hands = hands;
         does = λ columns few more. does columns (λ is. (more is).0);
-        counts = acting.keeps refl refl;
-        mode = tt;
-        way = stopped_way known old leaf m m' made fits region next refl;
+        counts = acting.keeps refl (still copy s r all);
+        mode = sym down;
+        way = stopped_way known old leaf m m' s fits region next refl;
       }
 
--- the leaf is down
-not_up : (known : Option Known) (tables : ℕ) (stop : Option ℕ) (old : Life) (m m' : Meaning) (leaf : Leaf)
-    → IfSome known (λ (k : Known). StandsKnown k leaf m) → FitsMode old.mode leaf → FitsNext known old leaf m → IsDownLeaf leaf → m'.held ≡ m.held
-    → Lived known tables (Drain stop) old [] ending.NotUp leaf m'
-not_up known tables stop old m m' leaf stands mode fits down held =
-    let does : (columns : Columns) → OfDrain (is_some known) tables columns stop old [] ending.NotUp old = λ columns. (resting_mode leaf old.mode mode down, refl, refl) in record {
-      next = old;
-      hands = hands_nothing leaf;
-      does = λ columns few more. does columns;
-      counts = acting.keeps refl (counts_stay old.durable [] refl);
-      mode = mode;
-      way = kept_way known old leaf m m' stands fits (λ tells. ap (λ (h : Pair). h.region) held) old refl;
-    }
+  -- while there were tables to treat, or at their end, each that is still open is closed; behind steps of the copy none is open
+  stopped : (copy : ℕ) (s : Stage) (r : Reaches leaf leaf' notes copy s) → stop ≡ Some r.made → Stops m m' leaf leaf' notes copy s r → mode_of leaf' ≡ Down → LivedSo ending.Stopped
+  stopped copy (life.Shutting p) r stops h down =
+      let shut = closed_noted (life.first_open p) h.0 r.last h.3 in
+      let none = h.1 in
+      let closes : ClosesRest tables (life.Shutting p) (noted_all r.last) = (shut.0, ap (λ (n : ℕ). life.first_open p + n) shut.1 ∙ (h.2 ∙ size), shut.2) in
+      stopped_at copy (life.Shutting p) r (hands_nothing leaf') stops down (λ columns more is. omega (arith, none)) closes (all_closed (life.first_open p) h.0 r.last h.3)
+      (where_known known leaf m (m'.held.region ≡ m.held.region) stands h.4)
+  stopped copy (life.Copying made) r stops h down =
+      let closes : ClosesRest tables (life.Copying made) (noted_all r.last) = noted_none r.last h.1 in
+      stopped_at copy (life.Copying made) r (hands_most leaf' h.0.2) stops down (λ columns more. within copy (life.Copying made) r h.0 columns.most more) closes
+      (subst (λ (ns : List Note). AllNotes IsStill ns) (sym h.1) tt)
+      (promised (RegionStopped (life.Copying made) m m') h.2)
 
--- ---- any drain
+  -- the leaf is down
+  not_up : DrainMoves m m' leaf stop notes ending.NotUp leaf' → LivedSo ending.NotUp
+  not_up h =
+      let does : (columns : Columns) → OfDrain based tables columns stop old (noted_all notes) ending.NotUp old = λ columns. (mode ∙ resting_mode leaf h.0, noted_none notes h.1, refl) in record {
+        next = old;
+        hands = hands_nothing leaf';
+        does = λ columns few more. does columns;
+        counts = acting.keeps refl (counts_stay old.durable notes h.1);
+        mode = mode ∙ sym (ap mode_of h.3);
+        way = way_stays known old old leaf m m' refl fits (same_held known leaf m m' stands h.2);
+      }
 
-pub drain_lives : (names : List (List ℕ)) (known : Option Known) (stop : Option ℕ) (life : Life) (m m' : Meaning) (leaf : Leaf) (notes : List Note) (ends : Ending) (leaf' : Leaf)
-    → AreInPlace names (seated_of leaf) → AreGrounded known (seated_of leaf) → AreStewards (seated_of leaf) → IfSome known (λ k. StandsKnown k leaf m)
-    → FitsMode life.mode leaf → FitsNext known life leaf m
-    → DrainMoves m m' leaf stop notes ends leaf' → Lived known (length names) (Drain stop) life (noted_all notes) ends leaf' m'
-drain_lives names known stop old m m' leaf notes ends leaf' place grounded stewards stands mode fits (moves.done x y z treating handing n copy made shuts steps last may part noted notes_are region own ends_are leaf_is) =
-    let b = begun old.mode leaf x mode shuts in
-    rw (ends_are, leaf_is)
-    (drained known (length names) stop old m m' leaf x stands fits b (b.tables ∙ as_many names (seated_of leaf) place) y z treating handing notes n copy made (begun_stewards leaf x shuts stewards) steps last may part noted notes_are
-    (promised (IsWayLeft true m'.held.region Memory) names known leaf m place grounded stands region))
-drain_lives names known stop old m m' leaf notes ends leaf' place grounded stewards stands mode fits (moves.failed x y n copy made shuts steps may own ends_are leaf_is) =
-    let b = begun old.mode leaf x mode shuts in
-    rw (ends_are, leaf_is)
-    (region_failed known (length names) stop old m m' leaf x stands fits b (b.tables ∙ as_many names (seated_of leaf) place) y notes n copy made
-    (founded_copy names known leaf x y n copy made notes place grounded shuts steps) steps may)
-drain_lives names known stop old m m' leaf notes ends leaf' place grounded stewards stands mode fits (moves.roomless x y n shuts steps all crowded may region ends_are leaf_is) =
-    let b = begun old.mode leaf x mode shuts in
-    rw (ends_are, leaf_is)
-    (roomless known (length names) stop old m m' leaf x stands fits b (b.tables ∙ as_many names (seated_of leaf) place) y notes n
-    (founded_shut names known leaf x y n notes place grounded shuts steps) steps all crowded.0 crowded.1 may region)
-drain_lives names known stop old m m' leaf notes ends leaf' place grounded stewards stands mode fits (moves.starved x y z treating starving n shuts steps may s part notes_are region ends_are leaf_is) =
-    let b = begun old.mode leaf x mode shuts in
-    rw (ends_are, leaf_is)
-    (starved known (length names) stop old m m' leaf x stands fits b (b.tables ∙ as_many names (seated_of leaf) place) y z treating starving notes n steps may s notes_are region)
-drain_lives names known stop old m m' leaf notes ends leaf' place grounded stewards stands mode fits (moves.halted x y z treating halting n shuts steps may few h notes_are region ends_are leaf_is) =
-    let b = begun old.mode leaf x mode shuts in
-    rw (ends_are, leaf_is)
-    (halted known (length names) stop old m m' leaf x stands fits b (b.tables ∙ as_many names (seated_of leaf) place) y z treating halting notes n steps may few h notes_are region)
-drain_lives names known stop old m m' leaf notes ends leaf' place grounded stewards stands mode fits (moves.stopped x y z treating closing n count shuts stop_is steps count_is noted part notes_are region serves ends_are leaf_is) =
-    let b = begun old.mode leaf x mode shuts in
-    rw (ends_are, leaf_is)
-    (stopped known (length names) stop old m m' leaf x stands fits b (b.tables ∙ as_many names (seated_of leaf) place) y z treating closing notes n count stop_is steps count_is noted notes_are region)
-drain_lives names known stop old m m' leaf notes ends leaf' place grounded stewards stands mode fits (moves.stopped_copying x y n copy made shuts stop_is steps region ends_are leaf_is) =
-    let b = begun old.mode leaf x mode shuts in
-    rw (ends_are, leaf_is)
-    (stopped_copying known (length names) stop old m m' leaf x stands fits b (b.tables ∙ as_many names (seated_of leaf) place) y notes n copy made
-    (founded_copy names known leaf x y n copy made notes place grounded shuts steps) stop_is steps
-    (promised (RegionStopped made m m') names known leaf m place grounded stands region))
-drain_lives names known stop old m m' leaf notes ends leaf' place grounded stewards stands mode fits (moves.not_up down notes_are held ends_are leaf_is) =
-    rw (notes_are, ends_are, leaf_is) (not_up known (length names) stop old m m' leaf stands mode fits down held)
+  pub drain_lives : (ends : Ending) → DrainMoves m m' leaf stop notes ends leaf' → LivedSo ends
+  drain_lives ending.Done h = done h
+  drain_lives ending.FaultRegion h = region_failed h
+  drain_lives ending.FaultRoom h = roomless h
+  drain_lives ending.FaultMemory h = starved h
+  drain_lives ending.FaultDisk h = halted h
+  drain_lives ending.Stopped h = stopped h.0 h.1 h.2 h.3 h.4 h.5
+  drain_lives ending.NotUp h = not_up h
+  drain_lives ending.NotDown h = absurd h
+  drain_lives ending.Worn h = absurd h
+  drain_lives (ending.Started way) h = absurd h
+  drain_lives ending.FaultDamaged h = absurd h
+  drain_lives (ending.FaultStranger name) h = absurd h
+  drain_lives (ending.FaultWorn table) h = absurd h

@@ -1,152 +1,234 @@
 -- What a drain makes of how many writes of each table the next start opens, where the disk never failed.
-use Rattle.std.proofs.Common.{◌≡◌, ℕ, suc, ◌-◌, ◌≤◌, Bool, true, false, List, [], ◌∷◌, ◌++◌, length, sym, ap, subst, ◌∙◌, arith, Option, Some, None}
+use Rattle.std.proofs.Common.{◌≡◌, ℕ, zero, suc, ◌≤◌, Bool, true, false, List, [], ◌∷◌, ◌++◌, length, refl, sym, ap, ap₂, subst, ◌∙◌, le_refl, arith, inl, inr, Option, Some, None}
 use Rattle.std.specs.Prelude.{if◌then◌else◌, slice_get, slice_set}
-use Rattle.std.proofs.lemmas.List.{length-append}
+use Rattle.std.proofs.lemmas.List.{append-nil}
 use Rattle.std.proofs.lemmas.Option.{slice_get_within}
 use Rattle.berth_face.specs.Berth.{Meaning}
-use Rattle.table_state.specs.Tables.{Table}
+use Rattle.printed_lines.specs.declared.line.Said.{Said}
+use Rattle.printed_lines.specs.declared.line.Said.TheVariants as said
 use Rattle.printed_lines.specs.declared.line.Ending.{Ending}
 use Rattle.printed_lines.specs.declared.line.Ending.TheVariants as ending
 use Rattle.crash_moments.specs.Left.{NamedStates}
 use Rattle.leaf_table.specs.Turns.{Shared}
 use Rattle.leaf_table.specs.Calls.{SeatView, name_of}
-use Rattle.leaf_machine.specs.States.{Shutting, IsShutAndTaken}
-use Rattle.leaf_machine.specs.Flushes.{OwedNotes}
-use Rattle.leaf_machine.specs.Prepares.{AllTreated, Starves, Treats}
+use Rattle.leaf_machine.specs.States.{IsShutAndTaken}
 use Rattle.leaf_steward.specs.declared.notes.Note.{Note}
-use Rattle.leaf_steward.specs.declared.notes.What.TheVariants.{Flushed, Closed}
+use Rattle.leaf_steward.specs.declared.notes.What.{What}
+use Rattle.leaf_steward.specs.declared.notes.What.TheVariants as what
 use Rattle.leaf_steward.specs.Seated.{Seated, AtEach}
-use Rattle.leaf_steward.specs.Making.{EachNoted, IsClosedNote, IsHandedNote}
+use Rattle.leaf_steward.specs.Making.{EachNoted, IsClosedNote, IsHandedNote, Makes}
+use Rattle.leaf_steward.proofs.WatchMakes.{makes_tables}
 use Rattle.transcript.specs.Base.{LogHas}
 use Rattle.transcript.specs.Counts.{is_disk_fault}
-use Rattle.transcript.specs.Life.{durable_after}
+use Rattle.transcript.specs.Pieces.{Noted}
+use Rattle.transcript.specs.Life.{BeginsAt, Copying, Down, NotesOf, Owed, Preparing, Progress, Shutting, Stage, Starves, Step, Steps, Treats, durable_after, first_open}
 use Rattle.transcript.specs.Transcript.{Known}
 use Rattle.leaf_moves.specs.Stage.{Leaf, IsDown, IsUp, IsPreparing, AreHandedNothing, Carries, Stands, seated_of}
-use Rattle.leaf_moves.specs.Steps.{At, Shuts, Copies, Part, BeginsShutting, DrainMoves, MakesStep, MakesSteps, noted_all}
+use Rattle.leaf_moves.specs.Modes.{mode_of, progress_of}
+use Rattle.leaf_moves.specs.Steps.{DrainMoves, Part, Reaches, Stops, noted_all, said_of_note}
+use Rattle.leaf_moves.proofs.Modes.{none_owed, owed_none}
+use Rattle.leaf_moves.proofs.NoteLines.{words_in}
 use Rattle.transcript_leaf.specs.Session.{AtCounts, AreGrounded, AreInPlace, IsDurable, IsSettled, StandsKnown}
 use Rattle.transcript_leaf.proofs.Lists.{clash_bool}
 use Rattle.transcript_leaf.proofs.Counting.{settled_handed, shut_handed, state_with}
-use Rattle.transcript_leaf.proofs.CountingNotes.{AllNotes, AreReady, AreStewards, Counted, IsStill, SettledAt, ShutBelow, all_closed, all_handed, closed_flushed, closed_shut, durable_append, durable_still, each_all, makes_leave, makes_nothing, makes_ready, makes_two, none_owed}
+use Rattle.transcript_leaf.proofs.CountingNotes.{AllNotes, AreReady, AreStewards, Counted, IsStill, SettledAt, ShutBelow, TablesFounded, all_closed, all_handed, closed_flushed, closed_shut, durable_append, durable_still, each_all, makes_leave, makes_nothing, makes_ready, makes_two}
 use Rattle.transcript_leaf.proofs.CountingLogs.{AreLogged, rests_logged, serving_logged}
 use Rattle.transcript_leaf.proofs.CountingGiven.{Given, count_behind, founded_of, left_alone, ready_of, stands_behind}
+
+-- ---- notes, by what is told of them
+
+heads : {A : Type 0} (x y : A) (xs ys : List A) → x ∷ xs ≡ y ∷ ys → x ≡ y
+heads x y xs ys e = cc
+
+tails : {A : Type 0} (x y : A) (xs ys : List A) → x ∷ xs ≡ y ∷ ys → xs ≡ ys
+tails x y xs ys e = cc
+
+no_notes : (notes : List Note) → noted_all notes ≡ [] → notes ≡ []
+no_notes [] e = refl
+no_notes (n ∷ ns) e = cc
+
+no_words : (notes : List Note) → words_in notes ≡ [] → notes ≡ []
+no_words [] e = refl
+no_words (n ∷ ns) e = cc
+
+-- notes that are told in two parts
+noted_parts : (notes : List Note) (first others : List Noted) → noted_all notes ≡ first ++ others → (a b : List Note) × (notes ≡ a ++ b) × (noted_all a ≡ first) × (noted_all b ≡ others)
+noted_parts notes [] others e = ([], notes, refl, refl, e)
+noted_parts [] (f ∷ fs) others e = absurd cc
+noted_parts (n ∷ ns) (f ∷ fs) others e =
+    let rest = noted_parts ns fs others (tails _ _ _ _ e) in
+    (n ∷ rest.0, rest.1, ap (λ (l : List Note). n ∷ l) rest.2, ap₂ (λ (x : Noted) (xs : List Noted). x ∷ xs) (heads _ _ _ _ e) rest.3, rest.4)
+
+said_closed : (w : What) (n : ℕ) → said_of_note w ≡ said.Closed n → w ≡ what.Closed n
+said_closed (what.Opened k) n e = absurd cc
+said_closed (what.Took k) n e = absurd cc
+said_closed (what.Flushed k) n e = absurd cc
+said_closed (what.Closed k) n e = cc
+said_closed what.Handed n e = absurd cc
+
+said_flushed : (w : What) (n : ℕ) → said_of_note w ≡ said.Flushed n → w ≡ what.Flushed n
+said_flushed (what.Opened k) n e = absurd cc
+said_flushed (what.Took k) n e = absurd cc
+said_flushed (what.Flushed k) n e = cc
+said_flushed (what.Closed k) n e = absurd cc
+said_flushed what.Handed n e = absurd cc
+
+note_is : (n : Note) (table : ℕ) (w : What) → n.table ≡ table → n.what ≡ w → n ≡ record { table = table; number = n.number; what = w }
+note_is n table w at is = ap₂ (λ (t : ℕ) (v : What). let m : Note = record { table = t; number = n.number; what = v } in m) at is
+
+-- a table that is told as closed and flushed
+closed_words : (notes : List Note) (place n : ℕ) → words_in notes ≡ (place, said.Closed n) ∷ (place, said.Flushed n) ∷ []
+    → (closing flushing : ℕ) × (notes ≡ record { table = place; number = closing; what = what.Closed n } ∷ record { table = place; number = flushing; what = what.Flushed n } ∷ [])
+closed_words [] place n e = absurd cc
+closed_words (a ∷ []) place n e = absurd cc
+closed_words (a ∷ b ∷ []) place n e =
+    let first = heads _ _ _ _ e in
+    let second = heads _ _ _ _ (tails _ _ _ _ e) in (
+      a.number,
+      b.number,
+      ap₂ (λ (x y : Note). x ∷ y ∷ [])
+          (note_is a place (what.Closed n) (ap (λ (w : ℕ × Said). w.0) first) (said_closed a.what n (ap (λ (w : ℕ × Said). w.1) first)))
+          (note_is b place (what.Flushed n) (ap (λ (w : ℕ × Said). w.0) second) (said_flushed b.what n (ap (λ (w : ℕ × Said). w.1) second))),
+    )
+closed_words (a ∷ b ∷ c ∷ ns) place n e = absurd cc
+
+-- entries that were made in two parts
+record Parts (from to : ℕ) (x : Seated) (a b : List Note) (y : Seated) : Type 0 where
+  between : Seated
+  clock : ℕ
+  first : Makes from clock x a between
+  second : Makes clock to between b y
+
+makes_parts : (from to : ℕ) (x : Seated) (a b : List Note) (y : Seated) → Makes from to x (a ++ b) y → Parts from to x a b y
+makes_parts from to x [] b y makes = record { between = x; clock = from; first = Makes.none from from x [] x (le_refl from) refl refl; second = makes }
+makes_parts from to x (n ∷ a) b y (Makes.none f u i ns o high none same) = absurd cc
+makes_parts from to x (n ∷ a) b y (Makes.more f u i ns o clock note rest between low one makes all) =
+    let later = makes_parts clock to between a b y (subst (λ (l : List Note). Makes clock to between l y) (sym (tails _ _ _ _ all)) makes) in record {
+      between = later.between;
+      clock = later.clock;
+      first = Makes.more from later.clock x (n ∷ a) later.between clock note a between low one later.first (ap (λ (k : Note). k ∷ a) (heads _ _ _ _ all));
+      second = later.second;
+    }
+
+part_ready : (base : NamedStates) (x : Seated) (notes : List Note) (y : Seated) → Part x notes y → AreReady base x → AreReady base y
+part_ready base x notes y part ready = makes_ready base part.from part.to x notes y part.made ready
+
+part_tables : (x : Seated) (notes : List Note) (y : Seated) → Part x notes y → length y.tables ≡ length x.tables
+part_tables x notes y part = ap (λ (ts : List Shared). length ts) (makes_tables part.from part.to x notes y part.made)
+
+part_nothing : (x : Seated) (notes : List Note) (y : Seated) → Part x notes y → notes ≡ [] → y ≡ x
+part_nothing x notes y part none = makes_nothing part.from part.to x notes y part.made none
+
+-- where nothing is noted, what holds of counts and seats stays
+stays : (P : List ℕ → Seated → Type 0) (counts : List ℕ) (x : Seated) (notes : List Note) (y : Seated) → notes ≡ [] → Part x notes y → P counts x → P (durable_after counts (noted_all notes)) y
+stays P counts x notes y none part holds =
+    subst (λ (ns : List Note). P (durable_after counts (noted_all ns)) y) (sym none) (subst (λ (s : Seated). P counts s) (sym (part_nothing x notes y part none)) holds)
 
 -- ---- a leaf that shuts its tables
 
 -- Nothing is owed, all that was taken of each table is flushed, and the first tables are shut with all of their writes taken.
 -- What the berth holds makes no difference.
-abbrev pub IsClean : NamedStates → List ℕ → Shutting → Type 0
-IsClean base counts x = (x.serving.owing.log.owed ≡ None) × AtCounts (IsSettled base) x.serving.seated counts × AtEach (ShutBelow base (length x.closed)) x.serving.seated
-
--- a leaf that begins to shut its tables, or goes on
-clean_first : (base : NamedStates) (counts : List ℕ) (leaf : Leaf) (x : Shutting) (m : Meaning) → BeginsShutting leaf x → IsDurable base counts leaf m → IsClean base counts x
-clean_first base counts (IsDown l) x m shuts durable = absurd shuts
-clean_first base counts (IsUp s) x m shuts durable =
-    subst (IsClean base counts) (sym shuts) (durable.1, durable.2, λ place t v at was below. absurd (omega (arith, below)))
-clean_first base counts (IsPreparing l) x m shuts durable = subst (IsClean base counts) (sym shuts) (durable.1, durable.2, durable.3)
-
-same_seats : (leaf : Leaf) (x : Shutting) → BeginsShutting leaf x → x.serving.seated ≡ seated_of leaf
-same_seats (IsDown l) x shuts = absurd shuts
-same_seats (IsUp s) x shuts = ap (λ (y : Shutting). y.serving.seated) shuts
-same_seats (IsPreparing l) x shuts = ap (λ (y : Shutting). y.serving.seated) shuts
-
--- ---- tables that are treated
-
-part_ready : (base : NamedStates) (x : Seated) (notes : List Note) (y : Seated) → Part x notes y → AreReady base x → AreReady base y
-part_ready base x notes y part ready = makes_ready base part.from part.to x notes y part.made ready
-
--- one table more is closed, and its writes are flushed
-clean_shuts : (base : NamedStates) (counts : List ℕ) (x y : Shutting) (notes first : List Note) (closing flushing n : ℕ) (content : Table) → AreHandedNothing base → AreReady base x.serving.seated
-    → OwedNotes x.serving.owing.log.owed x.serving.owing first
-    → notes ≡ first ++ (record { table = length x.closed; number = closing; what = Closed n } ∷ record { table = length x.closed; number = flushing; what = Flushed n } ∷ [])
-    → y.closed ≡ x.closed ++ content ∷ [] → y.serving.owing.log.owed ≡ None
-    → Part x.serving.seated notes y.serving.seated → IsClean base counts x → IsClean base (durable_after counts (noted_all notes)) y
-clean_shuts base counts x y notes first closing flushing n content sound ready owes all longer none part clean =
-    let place = length x.closed in
-    let closes : Note = record { table = place; number = closing; what = Closed n } in
-    let flushes : Note = record { table = place; number = flushing; what = Flushed n } in
-    let before : first ≡ [] = none_owed x.serving.owing.log.owed x.serving.owing first clean.0 owes in
-    let just : notes ≡ closes ∷ flushes ∷ [] = all ∙ ap (λ (ns : List Note). ns ++ (closes ∷ flushes ∷ [])) before in
-    let two = makes_two part.from part.to x.serving.seated notes y.serving.seated closes flushes part.made just in
-    let settled = closed_flushed base x.serving.seated y.serving.seated place sound ready counts closing flushing n two clean.1 in
-    let below = closed_shut base x.serving.seated y.serving.seated place sound ready closing flushing n two clean.2 in
-    let count : length y.closed ≡ suc place = ap (λ (ts : List Table). length ts) longer ∙ one_more x.closed content in
-    let now : IsClean base (slice_set counts place n) y = (none, settled, λ p t v at was few. below p t v at was (omega (arith, few, count))) in
-    subst (λ (ns : List Note). IsClean base (durable_after counts (noted_all ns)) y) (sym just) now
-  where
-    one_more : (ts : List Table) (t : Table) → length (ts ++ t ∷ []) ≡ suc (length ts)
-    one_more ts t = omega (arith, length-append ts (t ∷ []))
-
--- nothing was owed, and no table more is shut
-clean_same : (base : NamedStates) (counts : List ℕ) (x y : Shutting) (notes : List Note) → OwedNotes x.serving.owing.log.owed x.serving.owing notes
-    → y.closed ≡ x.closed → y.serving.owing.log.owed ≡ None
-    → Part x.serving.seated notes y.serving.seated → IsClean base counts x → IsClean base (durable_after counts (noted_all notes)) y
-clean_same base counts x y notes owes closed none part clean =
-    let nothing : notes ≡ [] = none_owed x.serving.owing.log.owed x.serving.owing notes clean.0 owes in
-    let same : y.serving.seated ≡ x.serving.seated = makes_nothing part.from part.to x.serving.seated notes y.serving.seated part.made nothing in
-    let now : IsClean base counts y = (
-      none,
-      subst (λ (s : Seated). AtCounts (IsSettled base) s counts) (sym same) clean.1,
-      subst (λ (s : Seated). AtEach (ShutBelow base (length y.closed)) s) (sym same)
-          (λ place t v at was below. clean.2 place t v at was (omega (arith, below, ap (λ (ts : List Table). length ts) closed))),
-    ) in
-    subst (λ (l : List Note). IsClean base (durable_after counts (noted_all l)) y) (sym nothing) now
-
--- one table more is treated
-clean_treats : (base : NamedStates) (counts : List ℕ) (x y : Shutting) (notes : List Note) → AreHandedNothing base → AreReady base x.serving.seated
-    → Treats x y notes → Part x.serving.seated notes y.serving.seated → IsClean base counts x → IsClean base (durable_after counts (noted_all notes)) y
-clean_treats base counts x y notes sound ready (Treats.whole first closing flushing n content open_ owes all longer shut none) part clean =
-    clean_shuts base counts x y notes first closing flushing n content sound ready owes all longer none part clean
-clean_treats base counts x y notes sound ready (Treats.rest shut owes same open_ none) part clean = clean_same base counts x y notes owes same none part clean
-
-record IsCleanAndReady (base : NamedStates) (counts : List ℕ) (y : Shutting) : Type 0 where
-  ready : AreReady base y.serving.seated
-  clean : IsClean base counts y
-
--- where a drain has come to
-abbrev ComesTo : NamedStates → List ℕ → At → Type 0
-ComesTo base counts (Shuts y) = IsCleanAndReady base counts y
-ComesTo base counts (Copies y copy made) = IsCleanAndReady base counts y × AllTreated y
-
--- by one step
-clean_step : (base : NamedStates) (counts : List ℕ) (s : At) (notes : List Note) (t : At)
-    → AreHandedNothing base → MakesStep s notes t → ComesTo base counts s → ComesTo base (durable_after counts (noted_all notes)) t
-clean_step base counts s notes t sound (MakesStep.treats x y s_is few treats part t_is) come =
-    let was : IsCleanAndReady base counts x = subst (λ (a : At). ComesTo base counts a) s_is come in
-    let now : IsCleanAndReady base (durable_after counts (noted_all notes)) y = record {
-      ready = part_ready base x.serving.seated notes y.serving.seated part was.ready;
-      clean = clean_treats base counts x y notes sound was.ready treats part was.clean;
-    } in
-    subst (λ (a : At). ComesTo base (durable_after counts (noted_all notes)) a) (sym t_is) now
-clean_step base counts s notes t sound (MakesStep.plans x copy s_is all long none t_is) come =
-    let was : IsCleanAndReady base counts x = subst (λ (a : At). ComesTo base counts a) s_is come in
-    subst (λ (ns : List Note). ComesTo base (durable_after counts (noted_all ns)) t) (sym none) (subst (λ (a : At). ComesTo base counts a) (sym t_is) (was, all))
-clean_step base counts s notes t sound (MakesStep.copies x copy made s_is few none t_is) come =
-    let was : IsCleanAndReady base counts x × AllTreated x = subst (λ (a : At). ComesTo base counts a) s_is come in
-    subst (λ (ns : List Note). ComesTo base (durable_after counts (noted_all ns)) t) (sym none) (subst (λ (a : At). ComesTo base counts a) (sym t_is) was)
-
--- by all of them
-clean_steps : (base : NamedStates) (counts : List ℕ) (n : ℕ) (s : At) (notes : List Note) (t : At)
-    → AreHandedNothing base → MakesSteps n s notes t → ComesTo base counts s → ComesTo base (durable_after counts (noted_all notes)) t
-clean_steps base counts n s notes t sound (MakesSteps.none k a ns b n_is nothing same) come =
-    subst (λ (l : List Note). ComesTo base (durable_after counts (noted_all l)) t) (sym nothing) (subst (λ (a : At). ComesTo base counts a) (sym same) come)
-clean_steps base counts n s notes t sound (MakesSteps.more k a ns b fewer first others between n_is step rest all) come =
-    subst (λ (l : List Note). ComesTo base (durable_after counts (noted_all l)) t) (sym all)
-    (subst (λ (c : List ℕ). ComesTo base c t) (sym (durable_append counts first others))
-    (clean_steps base (durable_after counts (noted_all first)) fewer between others t sound rest (clean_step base counts s first between sound step come)))
-
--- ---- all tables are treated
+abbrev pub IsClean : NamedStates → List ℕ → Progress → Seated → Type 0
+IsClean base counts p x = (p.owed ≡ None) × AtCounts (IsSettled base) x counts × AtEach (ShutBelow base (first_open p)) x
 
 -- all writes of each table were taken and are flushed, and they are so many
 abbrev pub AreDone : NamedStates → List ℕ → Seated → Type 0
 AreDone base counts x = AtCounts (IsSettled base) x counts × AtEach (λ place t v. IsShutAndTaken (state_with base t v)) x
 
-all_done : (base : NamedStates) (counts : List ℕ) (y : Shutting) → IsClean base counts y → AllTreated y → AreDone base counts y.serving.seated
-all_done base counts y clean all =
-    (clean.1, λ place t v at was. clean.2 place t v at was (omega (arith, slice_get_within y.serving.seated.tables place t at, all, no_more (length y.closed) y.waits)))
-  where
-    no_more : (n : ℕ) (b : Bool) → (if b then n - 1 else n) ≤ n
-    no_more n true = omega arith
-    no_more n false = omega arith
+-- where a drain has come to
+abbrev ComesTo : NamedStates → List ℕ → Stage → Seated → Type 0
+ComesTo base counts (Shutting p) x = IsClean base counts p x
+ComesTo base counts (Copying made) x = AreDone base counts x
+
+-- a leaf that begins to shut its tables, or goes on
+clean_first : (base : NamedStates) (counts : List ℕ) (leaf : Leaf) (p : Progress) (m : Meaning) → BeginsAt (mode_of leaf) p → IsDurable base counts leaf m → IsClean base counts p (seated_of leaf)
+clean_first base counts (IsDown l) p m begins durable = absurd begins
+clean_first base counts (IsUp s) p m begins durable =
+    subst (λ (q : Progress). IsClean base counts q s.seated) (sym begins) (owed_none s.owing durable.1, durable.2, λ place t v at was below. absurd (omega (arith, below)))
+clean_first base counts (IsPreparing l) p m begins durable =
+    subst (λ (q : Progress). IsClean base counts q l.serving.seated) (sym begins) (owed_none l.serving.owing durable.1, durable.2, durable.3)
+
+-- more is asked of no table
+clean_as : (base : NamedStates) (counts : List ℕ) (p q : Progress) (x : Seated) → q.owed ≡ None → first_open q ≡ first_open p → IsClean base counts p x → IsClean base counts q x
+clean_as base counts p q x none same clean = (none, clean.1, λ place t v at was below. clean.2 place t v at was (omega (arith, below, same)))
+
+module _ (base : NamedStates) (counts : List ℕ) (x : Seated) (notes : List Note) (y : Seated) (sound : AreHandedNothing base) (ready : AreReady base x) (part : Part x notes y) where
+  -- nothing was owed, and no table more is shut
+  clean_same : (p q : Progress) → NotesOf p.owed p.treated [] (noted_all notes) → q.owed ≡ None → first_open q ≡ first_open p → IsClean base counts p x
+      → IsClean base (durable_after counts (noted_all notes)) q y
+  clean_same p q words none same clean =
+      let nothing = no_words notes (subst (λ (o : Option Owed). NotesOf o p.treated [] (noted_all notes)) clean.0 words) in
+      stays (λ (c : List ℕ) (s : Seated). IsClean base c q s) counts x notes y nothing part (clean_as base counts p q x none same clean)
+
+  -- one table more is closed, and its writes are flushed
+  clean_shuts : (p q : Progress) (n : ℕ) → first_open p ≡ p.treated → NotesOf p.owed p.treated (said.Closed n ∷ said.Flushed n ∷ []) (noted_all notes) → q.owed ≡ None → first_open q ≡ suc p.treated
+      → IsClean base counts p x → IsClean base (durable_after counts (noted_all notes)) q y
+  clean_shuts p q n from words none to clean =
+      let place = p.treated in
+      let both = closed_words notes place n (subst (λ (o : Option Owed). NotesOf o place (said.Closed n ∷ said.Flushed n ∷ []) (noted_all notes)) clean.0 words) in
+      let two = makes_two part.from part.to x notes y _ _ part.made both.2 in
+      let settled = closed_flushed base x y place sound ready counts both.0 both.1 n two clean.1 in
+      let below = closed_shut base x y place sound ready both.0 both.1 n two (λ p t v at was few. clean.2 p t v at was (omega (arith, few, from))) in
+      let now : IsClean base (slice_set counts place n) q y = (none, settled, λ p t v at was few. below p t v at was (omega (arith, few, to))) in
+      subst (λ (ns : List Note). IsClean base (durable_after counts (noted_all ns)) q y) (sym both.2) now
+
+  -- one table more is treated
+  clean_treats : (p q : Progress) → Treats p (noted_all notes) q → IsClean base counts p x → IsClean base (durable_after counts (noted_all notes)) q y
+  clean_treats p q step clean = by p.waits refl
+    where
+      none : q.owed ≡ None
+      none = ap (λ (r : Progress). r.owed) step.1
+
+      to : first_open q ≡ suc p.treated
+      to = ap (λ (r : Progress). first_open r) step.1
+
+      by : (b : Bool) → p.waits ≡ b → IsClean base (durable_after counts (noted_all notes)) q y
+      by true waits =
+          clean_same p q (subst (λ (c : Bool). NotesOf p.owed p.treated (if c then [] else said.Closed step.0.0 ∷ said.Flushed step.0.0 ∷ []) (noted_all notes)) waits step.0.1) none
+          (to ∙ sym (ap (λ (c : Bool). if c then suc p.treated else p.treated) waits)) clean
+      by false waits =
+          clean_shuts p q step.0.0 (ap (λ (c : Bool). if c then suc p.treated else p.treated) waits)
+          (subst (λ (c : Bool). NotesOf p.owed p.treated (if c then [] else said.Closed step.0.0 ∷ said.Flushed step.0.0 ∷ []) (noted_all notes)) waits step.0.1) none to clean
+
+  -- there was no memory
+  clean_starves : (tables : ℕ) (p q : Progress) → Starves tables p (noted_all notes) q → IsClean base counts p x → IsClean base (durable_after counts (noted_all notes)) q y
+  clean_starves tables p q (inl h) clean = clean_same p q h.0 (ap (λ (r : Progress). r.owed) h.1) (ap (λ (r : Progress). first_open r) h.1) clean
+  clean_starves tables p q (inr h) clean =
+      clean_shuts p q h.0 (ap (λ (c : Bool). if c then suc p.treated else p.treated) h.1) h.3 (ap (λ (r : Progress). r.owed) h.4) (ap (λ (r : Progress). first_open r) h.4) clean
+
+  -- all are treated
+  all_done : (p : Progress) → p.treated ≡ length x.tables → IsClean base counts p x → AreDone base counts x
+  all_done p all clean = (clean.1, λ place t v at was. clean.2 place t v at was (omega (arith, slice_get_within x.tables place t at, all, no_more p.waits)))
+    where
+      no_more : (b : Bool) → p.treated ≤ (if b then suc p.treated else p.treated)
+      no_more true = omega arith
+      no_more false = omega arith
+
+  -- by one step
+  clean_step : (copy : ℕ) (s t : Stage) → Step (length x.tables) copy s (noted_all notes) t → ComesTo base counts s x → ComesTo base (durable_after counts (noted_all notes)) t y
+  clean_step copy (Shutting p) (Shutting q) step come = clean_treats p q step.1 come
+  clean_step copy (Shutting p) (Copying made) step come =
+      stays (λ (c : List ℕ) (s : Seated). AreDone base c s) counts x notes y (no_notes notes step.1) part (all_done p step.0 come)
+  clean_step copy (Copying made) (Shutting q) step come = absurd step
+  clean_step copy (Copying made) (Copying now) step come = stays (λ (c : List ℕ) (s : Seated). AreDone base c s) counts x notes y (no_notes notes step.1) part come
+
+-- by all of them
+clean_steps : (base : NamedStates) (copy n : ℕ) (s : Stage) (notes : List Note) (t : Stage) (x y : Seated) (counts : List ℕ)
+    → AreHandedNothing base → AreReady base x → Steps (length x.tables) copy n s (noted_all notes) t → Part x notes y → ComesTo base counts s x → ComesTo base (durable_after counts (noted_all notes)) t y
+clean_steps base copy zero s notes t x y counts sound ready steps part come =
+    stays (λ (c : List ℕ) (z : Seated). ComesTo base c t z) counts x notes y (no_notes notes steps.0) part (subst (λ (a : Stage). ComesTo base counts a x) (sym steps.1) come)
+clean_steps base copy (suc n) s notes t x y counts sound ready steps part come =
+    let told = noted_parts notes steps.0 steps.1 steps.5 in
+    let made = makes_parts part.from part.to x told.0 told.1 y (subst (λ (l : List Note). Makes part.from part.to x l y) told.2 part.made) in
+    let first : Part x told.0 made.between = record { from = part.from; to = made.clock; made = made.first } in
+    let second : Part made.between told.1 y = record { from = made.clock; to = part.to; made = made.second } in
+    let one = clean_step base counts x told.0 made.between sound ready first copy s steps.2 (subst (λ (ns : List Noted). Step (length x.tables) copy s ns steps.2) (sym told.3) steps.3) come in
+    let rest : Steps (length made.between.tables) copy n steps.2 (noted_all told.1) t =
+    subst (λ (k : ℕ). Steps k copy n steps.2 (noted_all told.1) t) (sym (part_tables x told.0 made.between first))
+    (subst (λ (ns : List Noted). Steps (length x.tables) copy n steps.2 ns t) (sym told.4) steps.4) in
+    subst (λ (l : List Note). ComesTo base (durable_after counts (noted_all l)) t y) (sym told.2)
+    (subst (λ (c : List ℕ). ComesTo base c t y) (sym (durable_append counts told.0 told.1))
+    (clean_steps base copy n steps.2 told.1 t made.between y (durable_after counts (noted_all told.0)) sound (part_ready base x told.0 made.between first ready) rest second one))
 
 -- handed over, they are as they were
 handed_done : (base : NamedStates) (counts : List ℕ) (x : Seated) (count : ℕ) (notes : List Note) (y : Seated) → AreHandedNothing base → AreReady base x
@@ -159,20 +241,30 @@ handed_done base counts x count notes y sound ready part each done =
           (λ place t clock v w what of sits handed made h. shut_handed base t clock v w of sits what handed made h) part.made all ready done.1,
     )
 
--- ---- there was no memory
+-- ---- the leaf that a drain leaves, by its mode
 
-clean_starves : (base : NamedStates) (counts : List ℕ) (x y : Shutting) (notes : List Note) → AreHandedNothing base → AreReady base x.serving.seated
-    → Starves x y notes → Part x.serving.seated notes y.serving.seated → IsClean base counts x → IsClean base (durable_after counts (noted_all notes)) y
-clean_starves base counts x y notes sound ready (Starves.before open_ owes same shut none) part clean = clean_same base counts x y notes owes same none part clean
-clean_starves base counts x y notes sound ready (Starves.behind first closing flushing n content open_ few owes all longer shut none) part clean =
-    clean_shuts base counts x y notes first closing flushing n content sound ready owes all longer none part clean
-clean_starves base counts x y notes sound ready (Starves.still was owes same shut none) part clean = clean_same base counts x y notes owes same none part clean
+module _ (base : NamedStates) (counts : List ℕ) (m : Meaning) where
+  down_durable : (leaf : Leaf) → mode_of leaf ≡ Down → length counts ≡ length (seated_of leaf).tables → AreLogged m.held.disk counts (seated_of leaf) → IsDurable base counts leaf m
+  down_durable (IsDown z) down long logged = (long, logged)
+  down_durable (IsUp s) down long logged = absurd cc
+  down_durable (IsPreparing y) down long logged = absurd cc
+
+  -- at rest with all tables treated, each log has all of them
+  done_durable : (leaf : Leaf) → mode_of leaf ≡ Down → length counts ≡ length (seated_of leaf).tables → Stands base leaf m → AreReady base (seated_of leaf) → AreDone base counts (seated_of leaf)
+      → IsDurable base counts leaf m
+  done_durable (IsDown z) down long stands ready done = (long, rests_logged base counts z m ready.founded long stands done.0 done.1)
+  done_durable (IsUp s) down long stands ready done = absurd cc
+  done_durable (IsPreparing y) down long stands ready done = absurd cc
+
+  shutting_durable : (leaf : Leaf) (p : Progress) → mode_of leaf ≡ Preparing p → length counts ≡ length (seated_of leaf).tables → IsClean base counts p (seated_of leaf) → IsDurable base counts leaf m
+  shutting_durable (IsDown z) p is long clean = absurd cc
+  shutting_durable (IsUp s) p is long clean = absurd cc
+  shutting_durable (IsPreparing y) p is long clean =
+      let same : p ≡ progress_of y = cc in
+      let now : IsClean base counts (progress_of y) y.serving.seated = subst (λ (q : Progress). IsClean base counts q y.serving.seated) same clean in
+      (long, none_owed y.serving.owing now.0, now.1, now.2)
 
 -- ---- a drain
-
--- it tells of a fault of the disk
-told_fault : (ends : Ending) → ends ≡ ending.FaultDisk → is_disk_fault ends ≡ false → ⊥
-told_fault ends is calm = clash_bool (is_disk_fault ends) (ap is_disk_fault is) calm
 
 module _ (names : List (List ℕ)) (k : Known) (counts : List ℕ) (m m' : Meaning) (leaf : Leaf) (notes : List Note) (leaf' : Leaf)
     (g : Given names k counts m m' notes leaf leaf') where
@@ -183,77 +275,83 @@ module _ (names : List (List ℕ)) (k : Known) (counts : List ℕ) (m m' : Meani
   abbrev Later : Type 0
   Later = IsDurable k.base (By notes) leaf' m'
 
-  -- behind so many steps
-  comes_to : (x : Shutting) (n : ℕ) (treating : List Note) (t : At) → BeginsShutting leaf x → MakesSteps n (Shuts x) treating t → ComesTo k.base (By treating) t
-  comes_to x n treating t shuts steps = clean_steps k.base counts n (Shuts x) treating t g.known.sound steps (record {
-    ready = subst (AreReady k.base) (sym (same_seats leaf x shuts)) (ready_of names k counts m m' notes leaf leaf' g);
-    clean = clean_first k.base counts leaf x m shuts g.durable;
-  })
-
   -- a count for each table still
-  long : (l : Leaf) → leaf' ≡ l → length (By notes) ≡ length (seated_of l).tables
-  long l is = subst (λ (a : Leaf). length (By notes) ≡ length (seated_of a).tables) is (count_behind names k counts m m' notes leaf leaf' g)
+  long : length (By notes) ≡ length (seated_of leaf').tables
+  long = count_behind names k counts m m' notes leaf leaf' g
 
-  -- what came behind the tables that were treated left the counts
-  by_treating : (treating more : List Note) → notes ≡ treating ++ more → AllNotes IsStill more → By notes ≡ By treating
-  by_treating treating more are still = ap By are ∙ (durable_append counts treating more ∙ durable_still (By treating) more still)
+  stands : Stands k.base leaf' m'
+  stands = stands_behind names k counts m m' notes leaf leaf' g
 
-  -- the leaf is down, or shuts its tables still
-  down_later : (z : Seated) → leaf' ≡ IsDown z → AreLogged m'.held.disk (By notes) z → Later
-  down_later z down logged =
-      let now : IsDurable k.base (By notes) (IsDown z) m' = (long (IsDown z) down, logged) in
-      subst (λ (l : Leaf). IsDurable k.base (By notes) l m') (sym down) now
+  ready : AreReady k.base (seated_of leaf)
+  ready = ready_of names k counts m m' notes leaf leaf' g
 
-  shutting_later : (z : Shutting) → leaf' ≡ IsPreparing z → IsClean k.base (By notes) z → Later
-  shutting_later z preparing clean =
-      let now : IsDurable k.base (By notes) (IsPreparing z) m' = (long (IsPreparing z) preparing, clean.0, clean.1, clean.2) in
-      subst (λ (l : Leaf). IsDurable k.base (By notes) l m') (sym preparing) now
+  ready_behind : AreReady k.base (seated_of leaf')
+  ready_behind = makes_ready k.base m.clock m'.clock (seated_of leaf) notes (seated_of leaf') g.carries.made ready
 
-  -- at rest with all tables treated, each log has all of them
-  done_later : (z : Seated) → leaf' ≡ IsDown z → AreReady k.base z → AreDone k.base (By notes) z → Later
-  done_later z down ready done =
-      let behind : Stands k.base (IsDown z) m' = subst (λ (l : Leaf). Stands k.base l m') down (stands_behind names k counts m m' notes leaf leaf' g) in
-      down_later z down (rests_logged k.base (By notes) z m' ready.founded (long (IsDown z) down) behind done.0 done.1)
+  module _ (copy : ℕ) (s : Stage) (r : Reaches leaf leaf' notes copy s) where
+    comes_to : ComesTo k.base (By r.treating) s r.between
+    comes_to = clean_steps k.base copy r.made (Shutting r.comes.0) r.treating s (seated_of leaf) r.between counts g.known.sound ready r.comes.2 r.treats
+        (clean_first k.base counts leaf r.comes.0 m r.comes.1 g.durable)
 
-  copied_later : (x y : Shutting) (n copy made : ℕ) → BeginsShutting leaf x → MakesSteps n (Shuts x) notes (Copies y copy made) → leaf' ≡ IsDown y.serving.seated → Later
-  copied_later x y n copy made shuts steps down =
-      let now : IsCleanAndReady k.base (By notes) y × AllTreated y = comes_to x n notes (Copies y copy made) shuts steps in
-      done_later y.serving.seated down now.0.ready (all_done k.base (By notes) y now.0.clean now.1)
+    ready_there : AreReady k.base r.between
+    ready_there = part_ready k.base (seated_of leaf) r.treating r.between r.treats ready
 
-  -- it was killed: each table that is open is shut
-  killed_later : (y : Shutting) (z : Seated) (treating closing : List Note) (first count : ℕ) → IsCleanAndReady k.base (By treating) y → EachNoted IsClosedNote first count closing
-      → Part y.serving.seated closing z → notes ≡ treating ++ closing → Stands k.base (IsPreparing y) m' → leaf' ≡ IsDown z → Later
-  killed_later y z treating closing first count now closes part are served down =
-      let had : AreLogged m'.held.disk (By treating) y.serving.seated =
-      serving_logged k.base (By treating) y.serving m' now.ready.founded now.clean.0 served now.clean.1 in
-      let has : AreLogged m'.held.disk (By treating) z =
-      makes_leave k.base IsClosedNote LoggedAt part.from part.to y.serving.seated closing z g.known.sound (λ place t clock v w what of sits closed made h. h) part.made
-      (each_all IsClosedNote first count closing closes) now.ready had in
-      down_later z down (subst (λ (c : List ℕ). AreLogged m'.held.disk c z) (sym (by_treating treating closing are (all_closed first count closing closes))) has)
+    -- where nothing was noted behind that
+    comes_behind : r.last ≡ [] → ComesTo k.base (By notes) s (seated_of leaf')
+    comes_behind none =
+        let just : notes ≡ r.treating = r.notes_are ∙ (ap (λ (ns : List Note). r.treating ++ ns) none ∙ append-nil r.treating) in
+        subst (λ (x : Seated). ComesTo k.base (By notes) s x) (sym (part_nothing r.between r.last (seated_of leaf') r.ends none))
+        (subst (λ (ns : List Note). ComesTo k.base (By ns) s r.between) (sym just) comes_to)
+
+    -- what was noted behind it left the counts
+    by_treating : AllNotes IsStill r.last → By notes ≡ By r.treating
+    by_treating still = ap By r.notes_are ∙ (durable_append counts r.treating r.last ∙ durable_still (By r.treating) r.last still)
+
+  -- it was killed while it shut its tables: each that is open is shut
+  killed : (copy : ℕ) (p : Progress) (r : Reaches leaf leaf' notes copy (Shutting p)) → mode_of leaf' ≡ Down → Stops m m' leaf leaf' notes copy (Shutting p) r → Later
+  killed copy p r down stops =
+      let closes = stops.3 in
+      let serves = stops.5 k.base g.known.tells (founded_of names k counts m m' notes leaf leaf' g) g.known.sound g.known.stands in
+      let clean : IsClean k.base (By r.treating) p r.between = comes_to copy (Shutting p) r in
+      let had : AreLogged m'.held.disk (By r.treating) r.between =
+      subst (λ (x : Seated). AreLogged m'.held.disk (By r.treating) x) serves.1
+      (serving_logged k.base (By r.treating) serves.0 m' (subst (λ (x : Seated). TablesFounded k.base x) (sym serves.1) (ready_there copy (Shutting p) r).founded)
+      (none_owed serves.0.owing (serves.2 ∙ clean.0)) serves.3 (subst (λ (x : Seated). AtCounts (IsSettled k.base) x (By r.treating)) (sym serves.1) clean.1)) in
+      let has : AreLogged m'.held.disk (By r.treating) (seated_of leaf') =
+      makes_leave k.base IsClosedNote LoggedAt r.ends.from r.ends.to r.between r.last (seated_of leaf') g.known.sound (λ place t clock v w what of sits closed made h. h) r.ends.made
+      (each_all IsClosedNote (first_open p) stops.0 r.last closes) (ready_there copy (Shutting p) r) had in
+      down_durable k.base (By notes) m' leaf' down long
+      (subst (λ (c : List ℕ). AreLogged m'.held.disk c (seated_of leaf')) (sym (by_treating copy (Shutting p) r (all_closed (first_open p) stops.0 r.last closes))) has)
     where
       LoggedAt : ℕ → Shared → SeatView → Type 0
-      LoggedAt place t v = (n : ℕ) → slice_get (By treating) place ≡ Some n → LogHas m'.held.disk (name_of t) n
+      LoggedAt place t v = (n : ℕ) → slice_get (By r.treating) place ≡ Some n → LogHas m'.held.disk (name_of t) n
+
+  stopped : (copy : ℕ) (s : Stage) (r : Reaches leaf leaf' notes copy s) → Stops m m' leaf leaf' notes copy s r → mode_of leaf' ≡ Down → Later
+  stopped copy (Shutting p) r stops down = killed copy p r down stops
+  stopped copy (Copying made) r stops down = done_durable k.base (By notes) m' leaf' down long stands ready_behind (comes_behind copy (Copying made) r stops.1)
 
   drain_moves : (stop : Option ℕ) (ends : Ending) → DrainMoves m m' leaf stop notes ends leaf' → is_disk_fault ends ≡ false → Later
-  drain_moves stop ends (DrainMoves.done x y z treating handing n copy made shuts steps last may part hands are memory own is down) calm =
-      let now : IsCleanAndReady k.base (By treating) y × AllTreated y = comes_to x n treating (Copies y copy made) shuts steps in
-      let kept = handed_done k.base (By treating) y.serving.seated _ handing z g.known.sound now.0.ready part hands (all_done k.base (By treating) y now.0.clean now.1) in
-      done_later z down (part_ready k.base y.serving.seated handing z part now.0.ready)
-      (subst (λ (c : List ℕ). AreDone k.base c z) (sym (by_treating treating handing are (all_handed 0 _ handing hands))) kept)
-  drain_moves stop ends (DrainMoves.failed x y n copy made shuts steps may own is down) calm = copied_later x y n copy made shuts steps down
-  drain_moves stop ends (DrainMoves.roomless x y n shuts steps all crowded may region is preparing) calm =
-      let now : IsCleanAndReady k.base (By notes) y = comes_to x n notes (Shuts y) shuts steps in
-      shutting_later y preparing now.clean
-  drain_moves stop ends (DrainMoves.starved x y z treating starving n shuts steps may starves part are region is preparing) calm =
-      let now : IsCleanAndReady k.base (By treating) y = comes_to x n treating (Shuts y) shuts steps in
-      shutting_later z preparing (subst (λ (c : List ℕ). IsClean k.base c z) (sym (ap By are ∙ durable_append counts treating starving))
-      (clean_starves k.base (By treating) y z starving g.known.sound now.ready starves part now.clean))
-  drain_moves stop ends (DrainMoves.halted x y z treating halting n shuts steps may more halts are region is preparing) calm = absurd (told_fault ends is calm)
-  drain_moves stop ends (DrainMoves.stopped x y z treating closing n count shuts stops steps all closes part are region serves is down) calm =
-      let served = serves k.base g.known.tells (founded_of names k counts m m' notes leaf leaf' g) g.known.sound g.known.stands in
-      killed_later y z treating closing _ count (comes_to x n treating (Shuts y) shuts steps) closes part are served down
-  drain_moves stop ends (DrainMoves.stopped_copying x y n copy made shuts stops steps region is down) calm = copied_later x y n copy made shuts steps down
-  drain_moves stop ends (DrainMoves.not_up other none held is same) calm = left_alone names k counts m m' notes leaf leaf' g none held same
+  drain_moves stop ending.Done h calm =
+      let r = h.1 in
+      let at = Copying h.0 in
+      let kept = handed_done k.base (By r.treating) r.between _ r.last (seated_of leaf') g.known.sound (ready_there (suc h.0) at r) r.ends h.4 (comes_to (suc h.0) at r) in
+      done_durable k.base (By notes) m' leaf' h.5 long stands ready_behind
+      (subst (λ (c : List ℕ). AreDone k.base c (seated_of leaf')) (sym (by_treating (suc h.0) at r (all_handed 0 _ r.last h.4))) kept)
+  drain_moves stop ending.FaultRegion h calm = done_durable k.base (By notes) m' leaf' h.6 long stands ready_behind (comes_behind h.0 (Copying h.1) h.2 h.5)
+  drain_moves stop ending.FaultRoom h calm = shutting_durable k.base (By notes) m' leaf' h.0 h.7 long (comes_behind 0 (Shutting h.0) h.1 h.6)
+  drain_moves stop ending.FaultMemory h calm =
+      let r = h.2 in
+      shutting_durable k.base (By notes) m' leaf' h.1 h.5 long (subst (λ (c : List ℕ). IsClean k.base c h.1 (seated_of leaf')) (sym (ap By r.notes_are ∙ durable_append counts r.treating r.last))
+      (clean_starves k.base (By r.treating) r.between r.last (seated_of leaf') g.known.sound (ready_there 0 (Shutting h.0) r) r.ends _ h.0 h.1 h.4 (comes_to 0 (Shutting h.0) r)))
+  drain_moves stop ending.FaultDisk h calm = absurd (clash_bool true refl calm)
+  drain_moves stop ending.Stopped h calm = stopped h.0 h.1 h.2 h.4 h.5
+  drain_moves stop ending.NotUp h calm = left_alone names k counts m m' notes leaf leaf' g h.1 h.2 h.3
+  drain_moves stop ending.NotDown h calm = absurd h
+  drain_moves stop ending.Worn h calm = absurd h
+  drain_moves stop (ending.Started way) h calm = absurd h
+  drain_moves stop ending.FaultDamaged h calm = absurd h
+  drain_moves stop (ending.FaultStranger name) h calm = absurd h
+  drain_moves stop (ending.FaultWorn table) h calm = absurd h
 
 -- A drain that tells of no fault of the disk leaves just as many writes of each table as its notes say.
 pub drain_durable : (names : List (List ℕ)) (k : Known) (counts : List ℕ) (stop : Option ℕ) (m m' : Meaning) (leaf : Leaf) (notes : List Note)

@@ -17,13 +17,12 @@ use Rattle.leaf_steward.specs.declared.notes.What.TheVariants as what
 use Rattle.leaf_steward.specs.Seated.{Seated}
 use Rattle.leaf_steward.specs.Making.{EachNoted, IsHandedNote, MadeAs, Makes}
 use Rattle.leaf_steward.proofs.WatchMakes.{makes_tables}
-use Rattle.leaf_machine.specs.States.{Shutting, columns_seen}
+use Rattle.leaf_machine.specs.States.{columns_seen}
 use Rattle.table_state.specs.Tables.{least_columns}
 use Rattle.transcript.specs.Histories.{Ground, rows_before}
 use Rattle.transcript.specs.Answers.{columns_handed}
-use Rattle.leaf_moves.specs.Stage.{Leaf, IsDown, IsPreparing, IsUp, seated_of}
-use Rattle.leaf_moves.specs.Steps.{At, BeginsShutting, MakesStep, MakesSteps, Part, noted_all}
-use Rattle.leaf_moves.specs.Steps as moves
+use Rattle.leaf_moves.specs.Stage.{Leaf}
+use Rattle.leaf_moves.specs.Steps.{Part, noted_all}
 use Rattle.transcript_leaf.specs.Session.{AreToldOn, IsStewards, ground_of_table}
 use Rattle.transcript_leaf.specs.Acting.{Hands}
 use Rattle.transcript_leaf.proofs.Ids.{stewards_still}
@@ -34,58 +33,11 @@ use Rattle.transcript_leaf.proofs.Wearing.{seen_length}
 
 -- ---- the steward's seats stay the steward's
 
-part_stewards : (x : Seated) (notes : List Note) (y : Seated) → Part x notes y → AreStewards x → AreStewards y
+pub part_stewards : (x : Seated) (notes : List Note) (y : Seated) → Part x notes y → AreStewards x → AreStewards y
 part_stewards x notes y part are place w sat =
     let count : length y.seats ≡ length x.seats = makes_seats part.from part.to x notes y part.made in
     let v = element_at x.seats place (omega (arith, count, within y.seats place w sat)) in
     stewards_still v.0 w (notes_at part.from part.to x notes y place v.0 w part.made v.1 sat (are place v.0 v.1)).ids (are place v.0 v.1)
-
-abbrev pub seats_at : At → Seated
-seats_at (moves.Shuts x) = x.serving.seated
-seats_at (moves.Copies x copy made) = x.serving.seated
-
-step_stewards : (s : At) (notes : List Note) (t : At) → MakesStep s notes t → AreStewards (seats_at s) → AreStewards (seats_at t)
-step_stewards s notes t (moves.treats x y s_is few treats part t_is) are =
-    subst (λ (a : At). AreStewards (seats_at a)) (sym t_is) (part_stewards x.serving.seated notes y.serving.seated part (subst (λ (a : At). AreStewards (seats_at a)) s_is are))
-step_stewards s notes t (moves.plans x copy s_is all long none t_is) are =
-    let here : AreStewards x.serving.seated = subst (λ (a : At). AreStewards (seats_at a)) s_is are in
-    subst (λ (a : At). AreStewards (seats_at a)) (sym t_is) here
-step_stewards s notes t (moves.copies x copy made s_is few none t_is) are =
-    let here : AreStewards x.serving.seated = subst (λ (a : At). AreStewards (seats_at a)) s_is are in
-    subst (λ (a : At). AreStewards (seats_at a)) (sym t_is) here
-
-pub steps_stewards : (n : ℕ) (s : At) (notes : List Note) (t : At) → MakesSteps n s notes t → AreStewards (seats_at s) → AreStewards (seats_at t)
-steps_stewards n s notes t (moves.none k a ns b n_is notes_are same) are = subst (λ (a : At). AreStewards (seats_at a)) (sym same) are
-steps_stewards n s notes t (moves.more k a ns b fewer first others between n_is step rest ns_are) are =
-    steps_stewards fewer between others t rest (step_stewards s first between step are)
-
--- no step changes the tables
-step_tables : (s : At) (notes : List Note) (t : At) → MakesStep s notes t → (seats_at t).tables ≡ (seats_at s).tables
-step_tables s notes t (moves.treats x y s_is few treats part t_is) =
-    ap (λ (a : At). (seats_at a).tables) t_is
-    ∙ (makes_tables part.from part.to x.serving.seated notes y.serving.seated part.made ∙ ap (λ (a : At). (seats_at a).tables) (sym s_is))
-step_tables s notes t (moves.plans x copy s_is all long none t_is) =
-    let now : (seats_at t).tables ≡ x.serving.seated.tables = ap (λ (a : At). (seats_at a).tables) t_is in
-    now ∙ ap (λ (a : At). (seats_at a).tables) (sym s_is)
-step_tables s notes t (moves.copies x copy made s_is few none t_is) =
-    let now : (seats_at t).tables ≡ x.serving.seated.tables = ap (λ (a : At). (seats_at a).tables) t_is in
-    now ∙ ap (λ (a : At). (seats_at a).tables) (sym s_is)
-
-pub steps_tables : (n : ℕ) (s : At) (notes : List Note) (t : At) → MakesSteps n s notes t → (seats_at t).tables ≡ (seats_at s).tables
-steps_tables n s notes t (moves.none k a ns b n_is notes_are same) = ap (λ (a : At). (seats_at a).tables) same
-steps_tables n s notes t (moves.more k a ns b fewer first others between n_is step rest ns_are) = steps_tables fewer between others t rest ∙ step_tables s first between step
-
--- a drain begins with the leaf's tables
-pub begun_tables : (leaf : Leaf) (x : Shutting) → BeginsShutting leaf x → x.serving.seated.tables ≡ (seated_of leaf).tables
-begun_tables (IsDown y) x begins = absurd begins
-begun_tables (IsUp s) x begins = ap (λ (y : Shutting). y.serving.seated.tables) begins
-begun_tables (IsPreparing y) x begins = ap (λ (y : Shutting). y.serving.seated.tables) begins
-
--- and with its seats
-pub begun_stewards : (leaf : Leaf) (x : Shutting) → BeginsShutting leaf x → AreStewards (seated_of leaf) → AreStewards x.serving.seated
-begun_stewards (IsDown y) x begins are = absurd begins
-begun_stewards (IsUp s) x begins are = subst (λ (y : Shutting). AreStewards y.serving.seated) (sym begins) are
-begun_stewards (IsPreparing y) x begins are = subst (λ (y : Shutting). AreStewards y.serving.seated) (sym begins) are
 
 -- ---- a table that is handed over
 

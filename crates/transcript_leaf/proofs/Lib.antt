@@ -10,7 +10,6 @@ pub mod CountingLogs
 pub mod CountingNotes
 pub mod Cutting
 pub mod Deeds
-pub mod DrainSteps
 pub mod Drains
 pub mod Durable
 pub mod DurableDrain
@@ -31,7 +30,6 @@ pub mod Merging
 pub mod Modes
 pub mod Moved
 pub mod Named
-pub mod NoteLines
 pub mod Noting
 pub mod Parts
 pub mod Places

@@ -6,55 +6,40 @@ use Rattle.berth_face.specs.Berth.{Meaning, Pair}
 use Rattle.leaf_words.specs.declared.ways.Way.{Way}
 use Rattle.leaf_opening.specs.Starts.{IsWayLeft}
 use Rattle.leaf_table.specs.Turns.{Shared, is_founded}
-use Rattle.leaf_table.specs.Calls.{base_seen, name_of}
+use Rattle.leaf_table.specs.Calls.{SeatView, base_seen, name_of}
 use Rattle.leaf_steward.specs.declared.notes.Note.{Note}
 use Rattle.leaf_steward.specs.Seated.{Seated, AreFounded}
-use Rattle.leaf_machine.specs.States.{Serving, Shutting}
-use Rattle.transcript.specs.Life.{Life, Mode, Down, Up, Preparing, Owed, Progress, durable_after, durable_with}
+use Rattle.transcript.specs.Life.{Life, Down, Up, Owed, durable_after, durable_with}
 use Rattle.transcript.specs.Transcript.{Known}
-use Rattle.leaf_moves.specs.Stage.{Leaf, IsDown, IsUp, IsPreparing}
+use Rattle.leaf_moves.specs.Stage.{Leaf, IsDown, IsUp, IsPreparing, with_seats}
+use Rattle.leaf_moves.specs.Modes.{mode_of}
 use Rattle.leaf_moves.specs.Steps.{IsDownLeaf, IsUpLeaf, noted_all}
-use Rattle.transcript_leaf.specs.Session.{AreGrounded, AreInPlace, FitsMode, FitsNext, IsOwedAs, IsProgressOf, StandsKnown}
+use Rattle.transcript_leaf.specs.Session.{AreGrounded, AreInPlace, FitsNext, StandsKnown}
 use Rattle.transcript_leaf.specs.Acting.{FitsWay}
 use Rattle.transcript_leaf.proofs.Lists.{element_at, length_mapped, within}
 
 -- ---- in which mode a leaf is
 
-pub down_mode : (mode : Mode) (x : Seated) → FitsMode mode (IsDown x) → mode ≡ Down
-down_mode Down x h = refl
-down_mode (Up owed) x h = absurd h
-down_mode (Preparing p) x h = absurd h
+pub resting_mode : (leaf : Leaf) → IsDownLeaf leaf → mode_of leaf ≡ Down
+resting_mode (IsDown x) down = refl
+resting_mode (IsUp s) down = absurd down
+resting_mode (IsPreparing x) down = absurd down
 
-pub up_mode : (mode : Mode) (s : Serving) → FitsMode mode (IsUp s) → (owed : Option Owed) × (mode ≡ Up owed) × IsOwedAs owed s.owing
-up_mode Down s h = absurd h
-up_mode (Up owed) s h = (owed, refl, h)
-up_mode (Preparing p) s h = absurd h
+pub down_leaf : (leaf : Leaf) → mode_of leaf ≡ Down → IsDownLeaf leaf
+down_leaf (IsDown x) is = tt
+down_leaf (IsUp s) is = absurd cc
+down_leaf (IsPreparing x) is = absurd cc
 
-pub preparing_mode : (mode : Mode) (x : Shutting) → FitsMode mode (IsPreparing x) → (p : Progress) × (mode ≡ Preparing p) × IsProgressOf x p
-preparing_mode Down x h = absurd h
-preparing_mode (Up owed) x h = absurd h
-preparing_mode (Preparing p) x h = (p, refl, h)
+pub up_leaf : (leaf : Leaf) (owed : Option Owed) → mode_of leaf ≡ Up owed → IsUpLeaf leaf
+up_leaf (IsDown x) owed is = absurd cc
+up_leaf (IsUp s) owed is = tt
+up_leaf (IsPreparing x) owed is = absurd cc
 
-pub resting_mode : (leaf : Leaf) (mode : Mode) → FitsMode mode leaf → IsDownLeaf leaf → mode ≡ Down
-resting_mode (IsDown x) mode h down = down_mode mode x h
-resting_mode (IsUp s) mode h down = absurd down
-resting_mode (IsPreparing x) mode h down = absurd down
-
-pub not_resting : (leaf : Leaf) (mode : Mode) → FitsMode mode leaf → (IsDownLeaf leaf → ⊥) → mode ≡ Down → ⊥
-not_resting leaf mode h not e = by leaf (subst (λ (k : Mode). FitsMode k leaf) e h) not
-  where
-    by : (l : Leaf) → FitsMode Down l → (IsDownLeaf l → ⊥) → ⊥
-    by (IsDown x) f n = n tt
-    by (IsUp s) f n = f
-    by (IsPreparing x) f n = f
-
-pub not_serving : (leaf : Leaf) (mode : Mode) → FitsMode mode leaf → (IsUpLeaf leaf → ⊥) → (owed : Option Owed) → mode ≡ Up owed → ⊥
-not_serving leaf mode h not owed e = by leaf (subst (λ (k : Mode). FitsMode k leaf) e h) not
-  where
-    by : (l : Leaf) → FitsMode (Up owed) l → (IsUpLeaf l → ⊥) → ⊥
-    by (IsDown x) f n = f
-    by (IsUp s) f n = n tt
-    by (IsPreparing x) f n = f
+-- whatever its steward's seats have seen
+pub mode_with : (leaf : Leaf) (seats : List SeatView) → mode_of (with_seats leaf seats) ≡ mode_of leaf
+mode_with (IsDown x) seats = refl
+mode_with (IsUp s) seats = refl
+mode_with (IsPreparing x) seats = refl
 
 -- ---- what is known where the base is
 

@@ -27,8 +27,10 @@ use Rattle.transcript.specs.Pieces.{Acted, Noted, Piece}
 use Rattle.transcript.specs.Life.{Columns, Life, Notes, durable_with}
 use Rattle.transcript.specs.Transcript.{Known}
 use Rattle.leaf_moves.specs.Stage.{Carries, IsDown, IsUp, Leaf, seated_of}
+use Rattle.leaf_moves.proofs.Drains.{by_endings}
+use Rattle.leaf_moves.specs.Modes.{mode_of}
 use Rattle.leaf_moves.specs.Steps.{DrainMoves, FlushMoves, KillMoves, Moves, StartMoves, StartsTold, ending_of, ending_of_flush, noted, noted_all}
-use Rattle.transcript_leaf.specs.Session.{AreGrounded, AreInPlace, FitsMode, FitsNext, IsDurable, IsStewards, KnownLeaf, StandsKnown}
+use Rattle.transcript_leaf.specs.Session.{AreGrounded, AreInPlace, FitsNext, IsDurable, IsStewards, KnownLeaf, StandsKnown}
 use Rattle.transcript_leaf.specs.Acting.{CountsGo, Lived, loses_counts}
 use Rattle.transcript_leaf.proofs.Lists.{clash_bool, length_mapped}
 use Rattle.transcript_leaf.proofs.Deeds.{OpensCounts}
@@ -114,14 +116,7 @@ kills_no_start m m' leaf notes ends leaf' (KillMoves.preparing x y count was all
 kills_no_start m m' leaf notes ends leaf' (KillMoves.not_up down none held_is ends_are now) = ap is_started ends_are
 
 drains_no_start : (stop : Option ℕ) (m m' : Meaning) (leaf : Leaf) (notes : List Note) (ends : Ending) (leaf' : Leaf) → DrainMoves m m' leaf stop notes ends leaf' → is_started ends ≡ false
-drains_no_start stop m m' leaf notes ends leaf' (DrainMoves.done x y z treating handing n copy made shuts steps last may part each notes_are memory own ends_are now) = ap is_started ends_are
-drains_no_start stop m m' leaf notes ends leaf' (DrainMoves.failed x y n copy made shuts steps may own ends_are now) = ap is_started ends_are
-drains_no_start stop m m' leaf notes ends leaf' (DrainMoves.roomless x y n shuts steps all crowded may region ends_are now) = ap is_started ends_are
-drains_no_start stop m m' leaf notes ends leaf' (DrainMoves.starved x y z treating starving n shuts steps may starves part notes_are region ends_are now) = ap is_started ends_are
-drains_no_start stop m m' leaf notes ends leaf' (DrainMoves.halted x y z treating halting n shuts steps may below halts notes_are region ends_are now) = ap is_started ends_are
-drains_no_start stop m m' leaf notes ends leaf' (DrainMoves.stopped x y z treating closing n count shuts stops steps closed each part notes_are region stands ends_are now) = ap is_started ends_are
-drains_no_start stop m m' leaf notes ends leaf' (DrainMoves.stopped_copying x y n copy made shuts stops steps region ends_are now) = ap is_started ends_are
-drains_no_start stop m m' leaf notes ends leaf' (DrainMoves.not_up down none held_is ends_are now) = ap is_started ends_are
+drains_no_start stop m m' leaf notes ends leaf' moves = by_endings (λ (e : Ending). is_started e ≡ false) refl refl refl refl refl refl refl m m' leaf stop notes ends leaf' moves
 
 same_way : (v w : Way) → ends_as.Started v ≡ ends_as.Started w → v ≡ w
 same_way v w e = cc
@@ -214,7 +209,7 @@ next_moved names (Some k) deed life m m' met notes ends moved in_place grounded 
 -- ---- what stands of the berth
 
 pub known_moved : (number : ℕ) (names : List (List ℕ)) (kn : Option Known) (old : Meaning) (deed : Deed) (life : Life) (pieces : List Piece) (m m' : Meaning) (met : Leaf) (notes : List Note) (ends : Ending) (moved : Leaf)
-    → AreInPlace names (seated_of met) → AreGrounded kn (seated_of met) → FitsMode life.mode met → Moves deed m m' met notes ends moved → Carries met moved notes m m'
+    → AreInPlace names (seated_of met) → AreGrounded kn (seated_of met) → life.mode ≡ mode_of met → Moves deed m m' met notes ends moved → Carries met moved notes m m'
     → (lived : Lived kn (length names) deed life (noted_all notes) ends moved m')
     → IfSome kn (KnownLeaf number names old life pieces met m)
     → IfSome kn (KnownLeaf number names old lived.next (pieces ++ Acted number deed (noted_all notes) ends ∷ []) moved m')

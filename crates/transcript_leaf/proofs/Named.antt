@@ -14,19 +14,21 @@ use Rattle.leaf_opening.proofs.Regions.{broken_same, left_closed}
 use Rattle.leaf_steward.specs.declared.notes.Note.{Note}
 use Rattle.leaf_machine.specs.declared.faults.StartFault.{StartFault}
 use Rattle.leaf_machine.specs.declared.faults.StartFault.TheVariants as fault
-use Rattle.leaf_machine.specs.States.{Serving, Shutting}
+use Rattle.leaf_machine.specs.States.{Serving}
 use Rattle.leaf_machine.specs.Starts.{IsExactRefusal}
 use Rattle.printed_lines.specs.declared.line.Ending.{Ending}
 use Rattle.printed_lines.specs.declared.line.Ending.TheVariants as ending
 use Rattle.printed_lines.specs.declared.line.Deed.{Deed}
 use Rattle.printed_lines.specs.declared.line.Deed.TheVariants.{Start, Flush, Drain, Kill}
 use Rattle.transcript.specs.Pieces.{Piece, Acted, Did, Noted, deeds}
-use Rattle.transcript.specs.Life.{Columns, Life, Mode, Down, Up, Owed, Does, OfFlush, OfDrain, OfKill, BeginsAt, IsStartRefusal, Progress}
+use Rattle.transcript.specs.Life.{Columns, Life, Mode, Down, Up, Owed, Does, OfFlush, OfDrain, OfKill, BeginsAt, IsStartRefusal, Progress, Stage}
 use Rattle.transcript.specs.Strangers.{Behind, FitsStrangers, StrangersIn}
 use Rattle.transcript.specs.Transcript.{Known, first_life}
-use Rattle.leaf_moves.specs.Stage.{Leaf, IsDown, IsUp, IsPreparing, seated_of}
-use Rattle.leaf_moves.specs.Steps.{Moves, StartMoves, FlushMoves, DrainMoves, KillMoves, BeginsShutting, IsDownLeaf, RegionRefused, ending_of, noted_all}
-use Rattle.transcript_leaf.specs.Session.{AreNamed, FitsMode}
+use Rattle.leaf_moves.specs.Stage.{Leaf, IsUp, seated_of}
+use Rattle.leaf_moves.specs.Steps.{Moves, StartMoves, FlushMoves, DrainMoves, KillMoves, IsDownLeaf, Reaches, RegionRefused, ending_of, noted_all}
+use Rattle.leaf_moves.specs.Modes as moves
+use Rattle.transcript_leaf.specs.Session.{AreNamed}
+use Rattle.transcript_leaf.proofs.Modes.{down_leaf, resting_mode}
 use Rattle.transcript_leaf.proofs.AsHanded.{read_named, scan_on, then_read}
 use Rattle.transcript_leaf.proofs.Lives.{deeds_act, did}
 use Rattle.transcript_leaf.proofs.Starts.{Starts, starts}
@@ -140,18 +142,8 @@ does_begun told tables columns (Drain stop) life notes ends next does begun = (d
 does_begun told tables columns Kill life notes ends next does begun = (kill_stays tables life notes ends next does).begun ∙ begun
 
 -- nor touches anything
-down_leaf : (leaf : Leaf) → FitsMode Down leaf → IsDownLeaf leaf
-down_leaf (IsDown x) fits = tt
-down_leaf (IsUp x) fits = absurd fits
-down_leaf (IsPreparing x) fits = absurd fits
-
 never_up : (leaf : Leaf) (s : Serving) → IsDownLeaf leaf → leaf ≡ IsUp s → ⊥
 never_up leaf s down up = subst (λ (l : Leaf). IsDownLeaf l) up down
-
-never_shuts : (leaf : Leaf) (x : Shutting) → IsDownLeaf leaf → BeginsShutting leaf x → ⊥
-never_shuts (IsDown y) x down shuts = shuts
-never_shuts (IsUp s) x down shuts = down
-never_shuts (IsPreparing y) x down shuts = down
 
 flush_held : (table : ℕ) (m m' : Meaning) (leaf : Leaf) (notes : List Note) (ends : Ending) (leaf' : Leaf) → IsDownLeaf leaf → FlushMoves table m m' leaf notes ends leaf' → m'.held ≡ m.held
 flush_held table m m' leaf notes ends leaf' down (FlushMoves.flushed s t r up flushes region ended now) = absurd (never_up leaf s down up)
@@ -162,16 +154,23 @@ kill_held m m' leaf notes ends leaf' down (KillMoves.up s y up each held ended n
 kill_held m m' leaf notes ends leaf' down (KillMoves.preparing x y count is all each held ended now) = held
 kill_held m m' leaf notes ends leaf' down (KillMoves.not_up other none held ended same) = held
 
+never_reached : (leaf leaf' : Leaf) (notes : List Note) {copy : ℕ} {s : Stage} → Reaches leaf leaf' notes copy s → IsDownLeaf leaf → ⊥
+never_reached leaf leaf' notes r down = never_begins (moves.mode_of leaf) r.comes.0 (resting_mode leaf down) r.comes.1
+
 drain_held : (stop : Option ℕ) (m m' : Meaning) (leaf : Leaf) (notes : List Note) (ends : Ending) (leaf' : Leaf) → IsDownLeaf leaf → DrainMoves m m' leaf stop notes ends leaf' → m'.held ≡ m.held
-drain_held stop m m' leaf notes ends leaf' down (DrainMoves.done x y z treating handing n copy made shuts steps last may part each notes_are memory own ends_are now) = absurd (never_shuts leaf x down shuts)
-drain_held stop m m' leaf notes ends leaf' down (DrainMoves.failed x y n copy made shuts steps may own ends_are now) = absurd (never_shuts leaf x down shuts)
-drain_held stop m m' leaf notes ends leaf' down (DrainMoves.roomless x y n shuts steps all crowded may region ends_are now) = absurd (never_shuts leaf x down shuts)
-drain_held stop m m' leaf notes ends leaf' down (DrainMoves.starved x y z treating starving n shuts steps may starves part notes_are region ends_are now) = absurd (never_shuts leaf x down shuts)
-drain_held stop m m' leaf notes ends leaf' down (DrainMoves.halted x y z treating halting n shuts steps may below halts notes_are region ends_are now) = absurd (never_shuts leaf x down shuts)
-drain_held stop m m' leaf notes ends leaf' down (DrainMoves.stopped x y z treating closing n count shuts stops steps closed each part notes_are region stands ends_are now) =
-    absurd (never_shuts leaf x down shuts)
-drain_held stop m m' leaf notes ends leaf' down (DrainMoves.stopped_copying x y n copy made shuts stops steps region ends_are now) = absurd (never_shuts leaf x down shuts)
-drain_held stop m m' leaf notes ends leaf' down (DrainMoves.not_up other none held ended same) = held
+drain_held stop m m' leaf notes ending.Done leaf' down h = absurd (never_reached leaf leaf' notes h.1 down)
+drain_held stop m m' leaf notes ending.FaultRegion leaf' down h = absurd (never_reached leaf leaf' notes h.2 down)
+drain_held stop m m' leaf notes ending.FaultRoom leaf' down h = absurd (never_reached leaf leaf' notes h.1 down)
+drain_held stop m m' leaf notes ending.FaultMemory leaf' down h = absurd (never_reached leaf leaf' notes h.2 down)
+drain_held stop m m' leaf notes ending.FaultDisk leaf' down h = absurd (never_reached leaf leaf' notes h.2 down)
+drain_held stop m m' leaf notes ending.Stopped leaf' down h = absurd (never_reached leaf leaf' notes h.2 down)
+drain_held stop m m' leaf notes ending.NotUp leaf' down h = h.2
+drain_held stop m m' leaf notes ending.NotDown leaf' down h = absurd h
+drain_held stop m m' leaf notes ending.Worn leaf' down h = absurd h
+drain_held stop m m' leaf notes (ending.Started way) leaf' down h = absurd h
+drain_held stop m m' leaf notes ending.FaultDamaged leaf' down h = absurd h
+drain_held stop m m' leaf notes (ending.FaultStranger name) leaf' down h = absurd h
+drain_held stop m m' leaf notes (ending.FaultWorn table) leaf' down h = absurd h
 
 -- ---- what a start found
 
@@ -332,7 +331,7 @@ named_first number names k m same = record {
 }
 
 pub named_act : (number : ℕ) (names : List (List ℕ)) (columns : Columns) (held : Pair) (life : Life) (pieces : List Piece) (deed : Deed) (m m' : Meaning) (leaf : Leaf) (notes : List Note) (ends : Ending) (leaf' : Leaf) (next : Life)
-    → IsTrue m.tells → FitsMode life.mode leaf → (seated_of leaf).names ≡ names → Moves deed m m' leaf notes ends leaf' → Does true (length names) columns deed life (noted_all notes) ends next
+    → IsTrue m.tells → life.mode ≡ moves.mode_of leaf → (seated_of leaf).names ≡ names → Moves deed m m' leaf notes ends leaf' → Does true (length names) columns deed life (noted_all notes) ends next
     → AreNamed number names held life pieces m → AreNamed number names held next (pieces ++ Acted number deed (noted_all notes) ends ∷ []) m'
 named_act number names columns held life pieces deed m m' leaf notes ends leaf' next tells fits same_names moves does named =
     goes_named number names held life pieces deed m m' (noted_all notes) ends next (by life.begun refl) named
@@ -341,5 +340,5 @@ named_act number names columns held life pieces deed m m' leaf notes ends leaf' 
     by true begun = begun_goes number names held life ends next m m' begun (does_begun true (length names) columns deed life (noted_all notes) ends next does begun)
     by false fresh =
         let was = named.rest fresh in
-        let down : IsDownLeaf leaf = down_leaf leaf (subst (λ (mode : Mode). FitsMode mode leaf) was.0 fits) in
+        let down : IsDownLeaf leaf = down_leaf leaf (sym fits ∙ was.0) in
         fresh_goes number names held (length names) columns deed life m m' leaf notes ends leaf' next tells down same_names was.0 was.1 moves does

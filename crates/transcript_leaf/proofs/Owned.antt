@@ -24,9 +24,9 @@ use Rattle.printed_lines.specs.declared.line.Ending.TheVariants as ending
 use Rattle.printed_lines.specs.declared.line.Deed.{Deed}
 use Rattle.printed_lines.specs.declared.line.Deed.TheVariants.{Start, Flush, Drain, Kill}
 use Rattle.transcript.specs.Pieces.{Noted}
-use Rattle.transcript.specs.Life.{Columns, Does, Life, OfStart}
+use Rattle.transcript.specs.Life.{Columns, Copying, Does, Life, OfStart, Shutting, Stage}
 use Rattle.leaf_moves.specs.Stage.{IsDown, IsUp, Leaf, Stands, StandsOn, seated_of}
-use Rattle.leaf_moves.specs.Steps.{DrainMoves, FlushMoves, KillMoves, Moves, RefusalTold, RegionStopped, StartMoves}
+use Rattle.leaf_moves.specs.Steps.{DrainMoves, FlushMoves, KillMoves, Moves, Reaches, RefusalTold, RegionStopped, StartMoves, Stops}
 use Rattle.transcript_leaf.specs.Session.{AreInPlace, IsOwn}
 use Rattle.transcript_leaf.proofs.AsHanded.{read_named, refused_breaks}
 use Rattle.transcript_leaf.proofs.Starts.{Starts, starts}
@@ -53,10 +53,11 @@ same_own names m m' same own = subst (λ (r : List ℕ). HasNoStranger names r) 
 held_own : (names : List (List ℕ)) (m m' : Meaning) → m'.held ≡ m.held → HasNoStranger names m.held.region → HasNoStranger names m'.held.region
 held_own names m m' same own = same_own names m m' (ap (λ (p : Pair). p.region) same) own
 
--- a copy that was stopped left the region as it was, or closed
-stopped_own : (names : List (List ℕ)) (made : ℕ) (m m' : Meaning) → RegionStopped made m m' → HasNoStranger names m.held.region → HasNoStranger names m'.held.region
-stopped_own names zero m m' same own = same_own names m m' same own
-stopped_own names (suc made) m m' shut own = closed_own names m'.held.region (shut_head m'.held.region 0 shut)
+-- a drain that was stopped left the region as it was, or closed
+stopped_own : (names : List (List ℕ)) (s : Stage) (m m' : Meaning) → RegionStopped s m m' → HasNoStranger names m.held.region → HasNoStranger names m'.held.region
+stopped_own names (Shutting p) m m' same own = same_own names m m' same own
+stopped_own names (Copying zero) m m' same own = same_own names m m' same own
+stopped_own names (Copying (suc made)) m m' shut own = closed_own names m'.held.region (shut_head m'.held.region 0 shut)
 
 module _ (names : List (List ℕ)) (base : NamedStates) (m m' : Meaning) (met moved : Leaf) (notes : List Note) (ends : Ending) (in_place : AreInPlace names (seated_of met)) (tells : IsTrue m.tells)
     (founded : AreFounded (seated_of met)) (stands : Stands base met m) where
@@ -81,15 +82,24 @@ module _ (names : List (List ℕ)) (base : NamedStates) (m m' : Meaning) (met mo
   of_names : HasNoStranger (seated_of met).names m'.held.region → HasNoStranger names m'.held.region
   of_names own = subst (λ (ns : List (List ℕ)). HasNoStranger ns m'.held.region) in_place.same_names own
 
-  drain_region : (stop : Option ℕ) → DrainMoves m m' met stop notes ends moved → OwnsOn
-  drain_region stop (DrainMoves.done x y z treating handing n copy made shuts steps last may part each notes_are memory copied ends_are now) own = of_names (copied base tells founded stands)
-  drain_region stop (DrainMoves.failed x y n copy made shuts steps may copied ends_are now) own = of_names (copied base tells founded stands)
-  drain_region stop (DrainMoves.roomless x y n shuts steps all crowded may region ends_are now) own = same_own names m m' (region tells) own
-  drain_region stop (DrainMoves.starved x y z treating starving n shuts steps may starves part notes_are region ends_are now) own = same_own names m m' (region tells) own
-  drain_region stop (DrainMoves.halted x y z treating halting n shuts steps may below halts notes_are region ends_are now) own = same_own names m m' (region tells) own
-  drain_region stop (DrainMoves.stopped x y z treating closing n count shuts stops steps closed each part notes_are region serves ends_are now) own = same_own names m m' (region tells) own
-  drain_region stop (DrainMoves.stopped_copying x y n copy made shuts stops steps region ends_are now) own = stopped_own names made m m' (region base tells founded stands) own
-  drain_region stop (DrainMoves.not_up other none held ended same) own = held_own names m m' held own
+  stops_own : (copy : ℕ) (s : Stage) (r : Reaches met moved notes copy s) → Stops m m' met moved notes copy s r → OwnsOn
+  stops_own copy (Shutting p) r stops own = same_own names m m' (stops.4 tells) own
+  stops_own copy (Copying made) r stops own = stopped_own names (Copying made) m m' (stops.2 base tells founded stands) own
+
+  drain_region : (stop : Option ℕ) (e : Ending) → DrainMoves m m' met stop notes e moved → OwnsOn
+  drain_region stop ending.Done h own = of_names (h.7 base tells founded stands)
+  drain_region stop ending.FaultRegion h own = of_names (h.7 base tells founded stands)
+  drain_region stop ending.FaultRoom h own = same_own names m m' (h.8 tells) own
+  drain_region stop ending.FaultMemory h own = same_own names m m' (h.6 tells) own
+  drain_region stop ending.FaultDisk h own = same_own names m m' (h.7 tells) own
+  drain_region stop ending.Stopped h own = stops_own h.0 h.1 h.2 h.4 own
+  drain_region stop ending.NotUp h own = held_own names m m' h.2 own
+  drain_region stop ending.NotDown h own = absurd h
+  drain_region stop ending.Worn h own = absurd h
+  drain_region stop (ending.Started way) h own = absurd h
+  drain_region stop ending.FaultDamaged h own = absurd h
+  drain_region stop (ending.FaultStranger name) h own = absurd h
+  drain_region stop (ending.FaultWorn table) h own = absurd h
 
   -- ---- the leaf behind a deed
 
@@ -124,7 +134,7 @@ module _ (names : List (List ℕ)) (base : NamedStates) (m m' : Meaning) (met mo
         → IsOwn names (seated_of moved) m'
     owned told tables columns Start noted moves does = start_owned told tables noted moves does
     owned told tables columns (Flush table) noted moves does = stays (flush_region table moves) (flush_stays table life noted ends next does).begun
-    owned told tables columns (Drain stop) noted moves does = stays (drain_region stop moves) (drain_stays told tables columns stop life noted ends next does).begun
+    owned told tables columns (Drain stop) noted moves does = stays (drain_region stop ends moves) (drain_stays told tables columns stop life noted ends next does).begun
     owned told tables columns Kill noted moves does = stays (kill_region moves) (kill_stays tables life noted ends next does).begun
 
 -- ---- a meeting

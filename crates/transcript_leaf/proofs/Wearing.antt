@@ -25,6 +25,7 @@ use Rattle.transcript.specs.Pieces.{Acted, Noted, Piece}
 use Rattle.transcript.specs.Answers.{WornIsLong}
 use Rattle.leaf_moves.specs.Holds.{Hold, caller_in, seen_by, seen_in, steward_in, with_callers}
 use Rattle.leaf_moves.specs.Stage.{Leaf, IsUp, seated_of}
+use Rattle.leaf_moves.proofs.Drains.{by_endings}
 use Rattle.leaf_moves.specs.Steps.{CallStep, DrainMoves, FlushMoves, IsReplyPiece, IsTrueOf, KillMoves, Moves, StartMoves, ending_of, ending_of_flush, noted_all}
 use Rattle.transcript_leaf.proofs.Terms.{TellsOn}
 use Rattle.transcript_leaf.proofs.Places.{caller_set}
@@ -119,14 +120,7 @@ kill_worn number histories heard m m' leaf notes ends leaf' (KillMoves.not_up do
 
 drain_worn : (number : ℕ) (histories : ℕ → ℕ → List Entry) (heard : List Noted) (stop : Option ℕ) (m m' : Meaning) (leaf : Leaf) (notes : List Note) (ends : Ending) (leaf' : Leaf)
     → DrainMoves m m' leaf stop notes ends leaf' → DeedIsLong number histories (Drain stop) heard ends
-drain_worn number histories heard stop m m' leaf notes ends leaf' (DrainMoves.done x y z treating handing n copy made shuts steps last may part each notes_are memory own ends_are now) = rw ends_are tt
-drain_worn number histories heard stop m m' leaf notes ends leaf' (DrainMoves.failed x y n copy made shuts steps may own ends_are now) = rw ends_are tt
-drain_worn number histories heard stop m m' leaf notes ends leaf' (DrainMoves.roomless x y n shuts steps all crowded may region ends_are now) = rw ends_are tt
-drain_worn number histories heard stop m m' leaf notes ends leaf' (DrainMoves.starved x y z treating starving n shuts steps may starves part notes_are region ends_are now) = rw ends_are tt
-drain_worn number histories heard stop m m' leaf notes ends leaf' (DrainMoves.halted x y z treating halting n shuts steps may below halts notes_are region ends_are now) = rw ends_are tt
-drain_worn number histories heard stop m m' leaf notes ends leaf' (DrainMoves.stopped x y z treating closing n count shuts stops steps closed each part notes_are region stands ends_are now) = rw ends_are tt
-drain_worn number histories heard stop m m' leaf notes ends leaf' (DrainMoves.stopped_copying x y n copy made shuts stops steps region ends_are now) = rw ends_are tt
-drain_worn number histories heard stop m m' leaf notes ends leaf' (DrainMoves.not_up down none held_is ends_are now) = rw ends_are tt
+drain_worn number histories heard stop m m' leaf notes ends leaf' moves = by_endings (λ (e : Ending). DeedIsLong number histories (Drain stop) heard e) tt tt tt tt tt tt tt m m' leaf stop notes ends leaf' moves
 
 pub acted_worn : (number : ℕ) (deed : Deed) (histories : ℕ → ℕ → List Entry) (m m' : Meaning) (leaf : Leaf) (notes : List Note) (ends : Ending) (leaf' : Leaf)
     → Moves deed m m' leaf notes ends leaf' → Reach number leaf' histories → WornIsLong histories (Acted number deed (noted_all notes) ends)

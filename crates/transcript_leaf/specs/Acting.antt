@@ -17,7 +17,8 @@ use Rattle.transcript.specs.Answers.{columns_handed, columns_of}
 use Rattle.transcript.specs.Transcript.{Known}
 use Rattle.leaf_steward.specs.Seated.{AtEach}
 use Rattle.leaf_moves.specs.Stage.{Leaf, seated_of}
-use Rattle.transcript_leaf.specs.Session.{AreToldOn, FitsMode, IsNoted}
+use Rattle.leaf_moves.specs.Modes.{mode_of}
+use Rattle.transcript_leaf.specs.Session.{AreToldOn, IsNoted}
 
 -- a fault of the disk at a flush or a drain loses what was claimed of the counts; one at a start touches no record of the log
 abbrev pub loses_counts : Deed → Ending → Bool
@@ -52,5 +53,5 @@ pub record Lived (known : Option Known) (tables : ℕ) (deed : Deed) (life : Lif
   pub hands : Hands leaf
   pub does : (columns : Columns) → columns.least hands.handed ≤ hands.columns → (is_some known ≡ true → (hands.most ≤ columns.most) × (hands.bulk ≤ columns.bulk)) → Does (is_some known) tables columns deed life notes ending next
   pub counts : CountsGo (is_some known) deed life notes ending next
-  pub mode : FitsMode next.mode leaf
+  pub mode : next.mode ≡ mode_of leaf
   pub way : FitsWay known next m

@@ -2,7 +2,6 @@
 -- run, or a lane of a burst. The pieces are those of all leaves.
 use Rattle.std.specs.Prelude.{◌≡◌, ◌⊎◌, ℕ, suc, ◌+◌, ◌<◌, ◌≤◌, ◌==◌, true, false, List, [], ◌∷◌, ◌++◌, length, map, take, Option, Some, None, IfSome, is_some, slice_get, IsPermutation, IsTrue, ⊤}
 use Rattle.std.specs.List.{AllByRecursion}
-use Rattle.row_records.specs.Records.{LogRecord}
 use Rattle.berth_face.specs.Berth.{Meaning, Pair}
 use Rattle.leaf_history.specs.History.{Entry, LegalFrom, after}
 use Rattle.leaf_model.specs.Names.{AreDistinct}
@@ -16,13 +15,12 @@ use Rattle.turnstile.specs.Ids.{InShare}
 use Rattle.turnstile.specs.Seats.{AreIds, Owns, unused_seat}
 use Rattle.leaf_table.specs.Turns.{Shared, is_founded, start_of}
 use Rattle.leaf_table.specs.Calls.{SeatView, OwnsTheRest, SeesShut, base_seen, name_of, seen_of, state_of, state_seen}
-use Rattle.leaf_steward.specs.Owing.{Owing}
 use Rattle.leaf_steward.specs.Seated.{Seated, AtEach, watched_by}
-use Rattle.leaf_machine.specs.States.{Shutting, IsShutAndTaken, treated}
+use Rattle.leaf_machine.specs.States.{IsShutAndTaken}
 use Rattle.crash_states.specs.Beginning.{MayBegin}
 use Rattle.transcript.specs.Base.{LogHas, unseen, watched_with}
 use Rattle.transcript.specs.Pieces.{Piece, Called, Worn, Acted, Says, Did, Noted, PlayedItem, all_pieces, deeds}
-use Rattle.transcript.specs.Life.{Life, Mode, Down, Up, Preparing, Owed, Progress, Lives, first_open}
+use Rattle.transcript.specs.Life.{Life, Down, Lives, first_open}
 use Rattle.transcript.specs.Histories.{Ground, InOrder, Shown, Shows, shown}
 use Rattle.transcript.specs.Strangers.{StrangersIn}
 use Rattle.transcript.specs.Moments.{MomentsRise, notes_told}
@@ -30,6 +28,7 @@ use Rattle.transcript.specs.Answers.{columns_of, last_of}
 use Rattle.transcript.specs.Transcript.{Known, first_life, ground_of}
 use Rattle.transcript.specs.Leaving.{IsKnown}
 use Rattle.leaf_moves.specs.Stage.{Leaf, IsDown, IsUp, IsPreparing, seated_of, Stands, AreHandedNothing}
+use Rattle.leaf_moves.specs.Modes.{mode_of, progress_of}
 use Rattle.leaf_moves.specs.Holds.{Hold, caller_in, steward_in}
 
 -- ---- one table
@@ -83,25 +82,6 @@ pub record TableSession (g : Ground) (start : List Entry) (number table : ℕ) (
 
 -- ---- the leaf, and what is printed of it
 
--- what the log is owed is what the lines say
-abbrev pub IsOwedAs : Option Owed → Owing → Type 0
-IsOwedAs None o = o.log.owed ≡ None
-IsOwedAs (Some told) o = (r : LogRecord) × (o.log.owed ≡ Some r) × (o.owner ≡ told.table) × (o.count ≡ told.count)
-
--- how far a leaf has come that shuts its tables
-pub record IsProgressOf (x : Shutting) (p : Progress) : Type 0 where
-  pub owed : IsOwedAs p.owed x.serving.owing
-  pub treated_are : p.treated ≡ treated x
-  pub waits : p.waits ≡ x.waits
-  pub closed : length x.closed ≡ first_open p
-
--- the leaf is in this mode
-abbrev pub FitsMode : Mode → Leaf → Type 0
-FitsMode Down (IsDown x) = ⊤
-FitsMode (Up owed) (IsUp x) = IsOwedAs owed x.owing
-FitsMode (Preparing p) (IsPreparing x) = IsProgressOf x p
-FitsMode _ _ = ⊥
-
 -- all that was taken of the table is flushed, and it is so much
 abbrev pub IsSettled : NamedStates → Shared → SeatView → ℕ → Type 0
 IsSettled base t v n = ((after true (base (name_of t)) (seen_of v)).taken ≡ n) × ((after true (base (name_of t)) (seen_of v)).flushed ≡ n)
@@ -116,7 +96,7 @@ IsDurable base counts (IsDown x) m = (length counts ≡ length x.tables) × AtCo
 IsDurable base counts (IsUp x) m = (length counts ≡ length x.seated.tables) × (x.owing.log.owed ≡ None) × AtCounts (IsSettled base) x.seated counts
 IsDurable base counts (IsPreparing x) m = (length counts ≡ length x.serving.seated.tables) × (x.serving.owing.log.owed ≡ None)
     × AtCounts (IsSettled base) x.serving.seated counts
-    × AtEach (λ place t v. place < length x.closed → IsShutAndTaken (after true (base (name_of t)) (seen_of v))) x.serving.seated
+    × AtEach (λ place t v. place < first_open (progress_of x) → IsShutAndTaken (after true (base (name_of t)) (seen_of v))) x.serving.seated
 
 -- so will its next start be, where that is claimed; nothing is of a berth of which nothing is known
 abbrev pub FitsNext : Option Known → Life → Leaf → Meaning → Type 0
@@ -183,7 +163,7 @@ pub record LeafHeld (number : ℕ) (names : List (List ℕ)) (known : Option Kno
   pub noted : AtEach (IsNoted (notes_told number pieces)) (seated_of leaf)
   pub in_place : AreInPlace names (seated_of leaf)
   pub grounded : AreGrounded known (seated_of leaf)
-  pub mode : FitsMode life.mode leaf
+  pub mode : life.mode ≡ mode_of leaf
   pub next : FitsNext known life leaf m
   pub of_known : IfSome known (KnownLeaf number names old life pieces leaf m)
 

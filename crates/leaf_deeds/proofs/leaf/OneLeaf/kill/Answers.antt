@@ -1,5 +1,6 @@
 use Rattle.leaf_deeds.specs.declared.leaf.OneLeaf.TheVariants as one
 use Rattle.leaf_deeds.proofs.Moved.{still_carries, kill_moves, kill_carries, shutting_kill_moves, shutting_kill_carries, leaf_keeps}
+use Rattle.leaf_deeds.proofs.Lives.{has_shut}
 use Rattle.leaf_deeds.proofs.leaf.OneLeaf.kill.Goals as goal
 
 pub returns-in-Down-clause-carries : goal.returns-in-Down-clause-carries
@@ -19,7 +20,7 @@ returns-in-Up-clause-keeps g c =
 pub returns-in-Preparing-clause-moves : goal.returns-in-Preparing-clause-moves
 returns-in-Preparing-clause-moves g c =
     let killed = c.kill-in-Preparing in
-    shutting_kill_moves g.B.Berth.meaning c.args.self c.in-Preparing.leaf killed.result killed.new.notes c.in-Preparing.is killed.ensures.berth killed.ensures.each
+    shutting_kill_moves g.B.Berth.meaning c.args.self c.in-Preparing.leaf killed.result killed.new.notes c.in-Preparing.is killed.ensures.berth (has_shut c.in-Preparing.leaf.0 c.shuts.ensures.some) killed.ensures.each
 
 pub returns-in-Preparing-clause-carries : goal.returns-in-Preparing-clause-carries
 returns-in-Preparing-clause-carries g c =

@@ -3,7 +3,7 @@ use Rattle.std.proofs.Common.{◌≡◌, ℕ, suc, List, [], ◌∷◌, ◌++◌
 use Rattle.std.specs.Prelude.{replicate}
 use Rattle.std.proofs.lemmas.List.{append-nil, map-append}
 use Rattle.row_records.specs.Records.{LogRecord}
-use Rattle.leaf_steward.specs.Owing.{Owing, flushed_note}
+use Rattle.leaf_steward.specs.Owing.{Owing}
 use Rattle.leaf_steward.specs.declared.notes.Note.{Note}
 use Rattle.leaf_steward.specs.declared.notes.What.{What}
 use Rattle.leaf_steward.specs.declared.notes.What.TheVariants as what
@@ -13,9 +13,9 @@ use Rattle.leaf_machine.specs.Starts.{IsOpenedNote}
 use Rattle.printed_lines.specs.declared.line.Said.{Said}
 use Rattle.printed_lines.specs.declared.line.Said.TheVariants as said
 use Rattle.transcript.specs.Pieces.{Noted}
-use Rattle.transcript.specs.Life.{Notes, Owed, NotesOf, owed_words}
+use Rattle.transcript.specs.Life.{Notes, NotesOf, owed_words}
+use Rattle.leaf_moves.specs.Modes.{owed_as, owed_of}
 use Rattle.leaf_moves.specs.Steps.{noted, noted_all, said_of_note}
-use Rattle.transcript_leaf.specs.Session.{IsOwedAs}
 
 -- ---- any notes
 
@@ -84,21 +84,19 @@ words_in notes = map (λ (n : Noted). (n.table, n.said)) (noted_all notes)
 words_append : (xs ys : List Note) → words_in (xs ++ ys) ≡ words_in xs ++ words_in ys
 words_append xs ys = ap (λ (ns : List Noted). map (λ (n : Noted). (n.table, n.said)) ns) (noted_append xs ys) ∙ map-append (λ (n : Noted). (n.table, n.said)) (noted_all xs) (noted_all ys)
 
-owed_told : (told : Option Owed) (o : Owing) (notes : List Note) → IsOwedAs told o → OwedNotes o.log.owed o notes → words_in notes ≡ owed_words told
-owed_told None o notes is owes = ap words_in (subst (λ (owed : Option LogRecord). OwedNotes owed o notes) is owes)
-owed_told (Some told) o notes is owes =
-    let one = some is.0 (subst (λ (owed : Option LogRecord). OwedNotes owed o notes) is.1 owes) in
-    ap words_in one.1 ∙ ap₂ (λ (place writes : ℕ). let w : ℕ × Said = (place, said.Flushed writes) in w ∷ []) is.2 is.3
+owed_told : (o : Owing) (notes : List Note) → OwedNotes o.log.owed o notes → words_in notes ≡ owed_words (owed_of o)
+owed_told o notes owes = by o.log.owed owes
   where
-    some : (r : LogRecord) → OwedNotes (Some r) o notes → (number : ℕ) × (notes ≡ flushed_note o number ∷ [])
-    some r h = h
+    by : (r : Option LogRecord) → OwedNotes r o notes → words_in notes ≡ owed_words (owed_as o r)
+    by None none = ap words_in none
+    by (Some r) one = ap words_in one.1
 
 -- behind its entry a table is told with these words
-pub tells : (told : Option Owed) (o : Owing) (notes first own : List Note) (table : ℕ) (saids : List Said) → IsOwedAs told o → OwedNotes o.log.owed o first → notes ≡ first ++ own
-    → words_in own ≡ map (λ (s : Said). (table, s)) saids → NotesOf told table saids (noted_all notes)
-tells told o notes first own table saids is owes notes_are words =
-    ap words_in notes_are ∙ (words_append first own ∙ ap₂ (λ (xs ys : List (ℕ × Said)). xs ++ ys) (owed_told told o first is owes) words)
+pub tells : (o : Owing) (notes first own : List Note) (table : ℕ) (saids : List Said) → OwedNotes o.log.owed o first → notes ≡ first ++ own
+    → words_in own ≡ map (λ (s : Said). (table, s)) saids → NotesOf (owed_of o) table saids (noted_all notes)
+tells o notes first own table saids owes notes_are words =
+    ap words_in notes_are ∙ (words_append first own ∙ ap₂ (λ (xs ys : List (ℕ × Said)). xs ++ ys) (owed_told o first owes) words)
 
 -- or alone
-pub tells_owed : (told : Option Owed) (o : Owing) (notes : List Note) (table : ℕ) → IsOwedAs told o → OwedNotes o.log.owed o notes → NotesOf told table [] (noted_all notes)
-tells_owed told o notes table is owes = owed_told told o notes is owes ∙ sym (append-nil (owed_words told))
+pub tells_owed : (o : Owing) (notes : List Note) (table : ℕ) → OwedNotes o.log.owed o notes → NotesOf (owed_of o) table [] (noted_all notes)
+tells_owed o notes table owes = owed_told o notes owes ∙ sym (append-nil (owed_words (owed_of o)))

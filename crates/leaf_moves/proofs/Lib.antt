@@ -1,0 +1,3 @@
+pub mod NoteLines
+pub mod Modes
+pub mod Drains
