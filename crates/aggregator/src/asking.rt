@@ -5,8 +5,7 @@ ghost use Rattle.aggregator.specs.Asks.{IsSeatAt, IsAsked, Asked};
 ghost use Rattle.aggregator.specs.Halves.{MayAsk};
 
 use berth_face::Gate;
-use leaf_model::Query;
-use leaf_table::{FleetTables, Reply, Seat};
+use leaf_table::{FleetTables, LentQuery, Reply, Seat};
 use std::sync::Wait;
 use std::thread::{Threads, join_mut};
 
@@ -16,7 +15,7 @@ const FEW_ROWS: u64 = 16_384;
 /// What is asked of which table of each leaf.
 #[derive(Clone, Copy)]
 pub struct Question<'q> {
-    pub query: &'q Query,
+    pub query: &'q LentQuery<'q>,
     pub fleet: &'q FleetTables,
     pub table: u32,
 }
@@ -122,5 +121,5 @@ fn ask_leaf<'q, R: Wait + Threads + Sync, G: Gate>(
 {
     let tables = question.fleet.leaf(leaf);
     let table = question.table as usize;
-    tables[table].ask(rt, seat, question.query, gate)
+    tables[table].ask_lent(rt, seat, question.query, gate)
 }

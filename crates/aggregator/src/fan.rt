@@ -2,7 +2,8 @@
 ghost use Rattle.std.specs.Prelude.{◌≡◌, ◌⊎◌, ℕ, List, length, IfOk, IsErr};
 ghost use Rattle.leaf_model.specs.Groups.{groups};
 ghost use Rattle.leaf_history.specs.History.{Entry};
-ghost use Rattle.aggregator.specs.Asks.{AreSeatsAt, AllAsked};
+ghost use Rattle.aggregator.specs.Asks.{AreSeatsAt, AllAsked, Asked};
+ghost use Rattle.aggregator.specs.Halves.{MayAsk};
 ghost use Rattle.aggregator.specs.Sorts.{Divides};
 ghost use Rattle.aggregator.specs.Partial.{bases_in, partial, GoOn};
 
@@ -11,7 +12,7 @@ use crate::fanned::Fanned;
 use crate::sorting::sort_all;
 use berth_face::Gate;
 use leaf_model::Query;
-use leaf_table::{FleetTables, Reply, Seat};
+use leaf_table::{FleetTables, LentQuery, Reply, Seat};
 use std::alloc::{AllocError, Global};
 use std::sync::Wait;
 use std::thread::Threads;
@@ -36,13 +37,31 @@ pub fn ask_all<R: Threads + Wait + Sync, G: Gate>(
     ensures groups { (histories : ℕ → List Entry) → GoOn seats.new histories → IfOk result (λ f. f.groups ≡ groups query.now (partial (bases_in fleet.now table) histories f.named)) }
 {
     let mut replies = unasked(alloc, seats.len())?;
+    ask_by_copy(rt, alloc, fleet, table, seats, query, gate, &mut replies);
+    sort_all(alloc, replies)
+}
+
+// Asks each leaf. The query is copied once, for all of them.
+fn ask_by_copy<R: Threads + Wait + Sync, G: Gate>(
+    rt: &R,
+    alloc: Global,
+    fleet: &FleetTables,
+    table: u32,
+    seats: &mut [Seat],
+    query: &Query,
+    gate: &G,
+    replies: &mut [Reply],
+)
+    requires { MayAsk fleet.now table 0 seats.old replies.old }
+    ensures { Asked query.now fleet.now table 0 seats.old replies.new seats.new }
+{
+    let lent = LentQuery::of(alloc, query);
     let question = Question {
-        query,
+        query: &lent,
         fleet,
         table,
     };
-    ask_each(rt, gate, &question, 0, seats, &mut replies);
-    sort_all(alloc, replies)
+    ask_each(rt, gate, &question, 0, seats, replies);
 }
 
 // Room for so many replies.

@@ -150,5 +150,9 @@ pub fn fold_onto(
     ensures value { (xs : List Row) → start ≡ groups query.now xs → IfOk result (λ gs. gs ≡ groups query.now (xs ++ rows_from horizon (lent_rows rows.now))) }
     ensures within { (m : ℕ) → AllByRecursion (IsWithin m) start → IfOk result (λ gs. AllByRecursion (IsWithin (m + length (rows_from horizon (lent_rows rows.now)))) gs) }
 {
+    // What a query looks for may be long, and is listed only if a row is looked at.
+    if rows.len() == 0 {
+        return Ok(start);
+    }
     fold_within(alloc, query, start, rows, Some(horizon), LIMITS)
 }

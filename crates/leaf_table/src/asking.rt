@@ -5,8 +5,9 @@ ghost use Rattle.leaf_model.specs.Groups.{groups};
 ghost use Rattle.group_table.specs.Joined.{IsWithin};
 ghost use Rattle.table_state.specs.Tables.{IsHeld};
 
+use crate::shared_query::SharedQuery;
 use block_scan::scan;
-use leaf_model::{Groups, Query, Steps};
+use leaf_model::{Groups, Steps};
 use std::alloc::{AllocError, Global};
 use std::sync::ledger::{Blank, Ledger};
 use std::thread::Threads;
@@ -16,7 +17,7 @@ use table_state::TableState;
 pub(crate) fn groups_of<L: Ledger, R: Threads + Sync>(
     rt: &R,
     alloc: Global,
-    query: &Query,
+    query: &SharedQuery,
     table: &TableState,
     blank: Blank,
 ) -> Result<Groups, AllocError>
@@ -32,7 +33,7 @@ pub(crate) fn groups_of<L: Ledger, R: Threads + Sync>(
     scan(
         rt,
         alloc,
-        query,
+        query.as_query(),
         table.blocks(),
         &table.tail_rows(),
         table.skip(),

@@ -4,9 +4,10 @@ ghost use Rattle.std.specs.List.{AllByRecursion};
 ghost use Rattle.turnstile.specs.Seats.{IsSeatOf};
 ghost use Rattle.leaf_model.specs.Values.{IsRow, IsTime};
 ghost use Rattle.leaf_history.specs.Calls as call;
-ghost use Rattle.leaf_table.specs.Turns.{IsAddOf, IsAsk};
+ghost use Rattle.leaf_table.specs.Turns.{IsAddOf};
 ghost use Rattle.leaf_table.specs.Calls.{base_seen, IsCaller, SameSeat, Answered};
 
+use crate::lent_query::LentQuery;
 use crate::replies::{Reply, numbered};
 use crate::shared::{Seat, SharedTable};
 use crate::turns::Turn;
@@ -123,10 +124,28 @@ impl SharedTable {
         ensures same { SameSeat seat.old seat.new }
         ensures made { Answered (base_seen self.now) seat.old (call.Ask query.now) result seat.new }
     {
+        let lent = self.lend(query);
+        self.ask_lent(rt, seat, &lent, gate)
+    }
+
+    /// Asks the table a query that other tables are asked too, where it is open.
+    pub fn ask_lent<R: Wait + Threads + Sync, G: Gate>(
+        &self,
+        rt: &R,
+        seat: &mut Seat,
+        query: &LentQuery<'_>,
+        gate: &G,
+    ) -> Reply
+        requires seat { IsSeatOf seat.old self.now.site }
+        requires caller { IsCaller seat.old }
+        ensures seat { IsSeatOf seat.new self.now.site }
+        ensures same { SameSeat seat.old seat.new }
+        ensures made { Answered (base_seen self.now) seat.old (call.Ask query.now) result seat.new }
+    {
         if seat.seen() >= WORN {
             return Reply::Worn;
         }
-        let asking = ask_turn(query);
+        let asking = query.asking();
         let answer = self.turn::<Brand, R, G>(rt, seat, asking, gate);
         numbered(seat.seen(), answer)
     }
@@ -142,20 +161,6 @@ fn add_turn(rows: &Rows) -> Turn
     };
     Turn::AddCopy {
         rows: Snapshot::of(rows),
-        copy,
-    }
-}
-
-// The turn that asks.
-fn ask_turn(query: &Query) -> Turn
-    ensures { IsAsk query.now result }
-{
-    let copy = match query.copy() {
-        Ok(copy) => Some(copy),
-        Err(_) => None,
-    };
-    Turn::Ask {
-        query: Snapshot::of(query),
         copy,
     }
 }

@@ -5,10 +5,11 @@ ghost use Rattle.leaf_table.specs.Turns.{is_founded, MayNow};
 ghost use Rattle.leaf_table.specs.Calls.{base_seen, name_of, state_seen, IsSteward, SeesShut, MadeTurn};
 
 use crate::base::{Founds, origin_of};
+use crate::lent_query::LentQuery;
 use crate::turns::{Answer, Turn};
 use crate::value::LeafTable;
 use berth_face::{Berth, Gate};
-use leaf_model::Text;
+use leaf_model::{Query, Text};
 use std::alloc::{AllocError, Global};
 use std::marker::{Brand, Model};
 use std::sync::Wait;
@@ -23,6 +24,7 @@ pub type Seat = turnstile::Seat<LeafTable>;
 /// A table of a leaf. Its callers add, expire, keep and ask; the leaf's steward, whose seat has the id 0, takes, flushes, shuts and opens.
 #[derive(Drop)]
 pub struct SharedTable {
+    alloc: Global,
     pub(crate) leaf: u32,
     pub(crate) table: u32,
     pub(crate) name: Text,
@@ -70,6 +72,7 @@ impl SharedTable {
         };
         let (turns, steward, caller) = Turnstile::new(alloc, value, share, origin)?;
         let shared = SharedTable {
+            alloc,
             leaf,
             table,
             name: name.copy()?,
@@ -118,6 +121,13 @@ impl SharedTable {
         ensures done { IsOk result }
     {
         self.turns.meet(a, b)
+    }
+
+    // The query, lent to this table alone.
+    pub(crate) fn lend<'q>(&self, query: &'q Query) -> LentQuery<'q>
+        ensures { result ≡ query.now }
+    {
+        LentQuery::of(self.alloc, query)
     }
 
     // Takes one turn.

@@ -1,4 +1,5 @@
 // What is handed in and out in one turn.
+use crate::shared_query::SharedQuery;
 use leaf_model::{Groups, Query, Rows};
 use row_records::Pending;
 use std::snapshot::Snapshot;
@@ -18,7 +19,7 @@ pub enum Turn {
     /// `copy` is missing where it was refused memory.
     Ask {
         query: Snapshot<Query>,
-        copy: Option<Query>,
+        copy: Option<SharedQuery>,
     },
     Take,
     Flushed(u64),

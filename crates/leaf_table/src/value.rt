@@ -9,8 +9,9 @@ ghost use Rattle.leaf_table.specs.Steps.{AddsTo, RemovesFrom, AsksOf, TakesFrom,
 
 use crate::asking::groups_of;
 use crate::base::Origin;
+use crate::shared_query::SharedQuery;
 use crate::turns::{Answer, Turn};
-use leaf_model::{Query, Rows, Text};
+use leaf_model::{Rows, Text};
 use std::alloc::Global;
 use std::marker::Brand;
 use std::mem::replace;
@@ -89,7 +90,7 @@ impl LeafTable {
         }
     }
 
-    fn ask<R: Threads + Sync>(&self, rt: &R, copy: Option<Query>) -> Answer
+    fn ask<R: Threads + Sync>(&self, rt: &R, copy: Option<SharedQuery>) -> Answer
         ensures { AsksOf self.now copy result }
     {
         if !self.live {
