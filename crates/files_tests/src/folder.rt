@@ -50,6 +50,7 @@ fn a_berth_over_a_folder_gives_back_what_was_written(rt: HostRuntime) -> Result<
 
     // A cut after the end changes nothing.
     assert_eq!(rt; berth.region_cut(20), Ok(()));
+    assert_eq!(rt; berth.region_len(), Ok(12));
     assert_eq!(rt; berth.region_cut(4), Ok(()));
     assert_eq!(rt; berth.disk_write(0, b"log"), Ok(()));
     assert_eq!(rt; berth.disk_sync(), Ok(()));
