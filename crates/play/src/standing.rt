@@ -194,18 +194,24 @@ fn tell<'t, R: Wait + Threads + Sync, B: Berth, G: Gate>(
 }
 
 // What a fresh state tells.
-fn tell_fresh(alloc: Global, follower: &Follower, standing: u32) -> Result<Vec<Line>, AllocError>
-    requires fresh { follower.now.standing.stale ≡ false }
-    ensures { IfOk result (λ lines. TellsLine standing follower.now lines.items) }
+fn tell_fresh(
+    alloc: Global,
+    follower: &mut Follower,
+    standing: u32,
+) -> Result<Vec<Line>, AllocError>
+    requires fresh { follower.old.standing.stale ≡ false }
+    ensures same { follower.new ≡ follower.old }
+    ensures told { IfOk result (λ lines. TellsLine standing follower.old lines.items) }
 {
     let mut lines = Vec::with_capacity(alloc, 1)?;
     lines.push_reserved(told_line(alloc, follower, standing)?);
     Ok(lines)
 }
 
-fn told_line(alloc: Global, follower: &Follower, standing: u32) -> Result<Line, AllocError>
-    requires fresh { follower.now.standing.stale ≡ false }
-    ensures { IfOk result (TellsState standing follower.now) }
+fn told_line(alloc: Global, follower: &mut Follower, standing: u32) -> Result<Line, AllocError>
+    requires fresh { follower.old.standing.stale ≡ false }
+    ensures same { follower.new ≡ follower.old }
+    ensures told { IfOk result (TellsState standing follower.old) }
 {
     let rows = follower.tell(alloc)?;
     Ok(Line::Told {

@@ -4,10 +4,10 @@ ghost use Rattle.standing_feed.specs.Following.{FollowAll, new_follower, noted, 
 
 use crate::follower::Follower;
 use crate::meant::Meant;
+use crate::teller::Teller;
 use leaf_model::Query;
 use printed_lines::Line;
 use script_text::Item;
-use standing_query::Standing;
 use std::alloc::{AllocError, Global};
 use std::collections::VecDeque;
 
@@ -46,7 +46,7 @@ impl Followers {
         ensures declared { OnOk result (self.new.list.items ≡ self.old.list.items ++ new_follower leaf table query ∷ []) }
         ensures refused { OnErr result (self.new.list.items ≡ self.old.list.items) }
     {
-        let standing = Standing::new(alloc, query, 0)?;
+        let standing = Teller::new(alloc, query)?;
         self.list.push(Follower {
             leaf,
             table,

@@ -1,11 +1,7 @@
 // How a standing query follows its leaf's table.
-ghost use Rattle.std.specs.Prelude.{◌≡◌, ◌<◌, true, false, IfOk, List, OnOk};
-ghost use Rattle.std.specs.List.{AllByRecursion};
-ghost use Rattle.leaf_model.specs.declared.rows.Row.{Row};
-ghost use Rattle.leaf_model.specs.Groups.{groups};
-ghost use Rattle.leaf_model.specs.Values.{IsTime};
-ghost use Rattle.answer_text.specs.Answer.{answer_lines};
-ghost use Rattle.standing_query.specs.States.{IsSpread, Means};
+ghost use Rattle.std.specs.Prelude.{◌≡◌, ◌<◌, true, false, IfOk, OnOk};
+ghost use Rattle.standing_query.specs.States.{IsSpread};
+ghost use Rattle.standing_feed.specs.Answering.{IsAnswerOf};
 ghost use Rattle.standing_feed.specs.Hearing.{place_in};
 ghost use Rattle.standing_feed.specs.Following.{Follows, Heeds, HeedsAll, noted, place_of, settled};
 
@@ -15,11 +11,11 @@ use crate::hearing::{hear_all, in_order};
 use crate::meaning::meant_in;
 use crate::meant::Meant;
 use crate::place::Place;
-use answer_text::lines;
+use crate::teller::Teller;
 use leaf_model::{Groups, Texts};
 use printed_lines::Line;
 use script_text::Item;
-use standing_query::{Fed, Standing};
+use standing_query::Fed;
 use std::alloc::{AllocError, Global};
 use std::collections::VecDeque;
 
@@ -70,26 +66,21 @@ impl Follower {
         requires spread { IsSpread self.old.standing.query groups }
         ensures { self.new ≡ settled number groups self.old }
     {
-        self.standing.pass(number - 1);
-        match self.standing.settle(number, groups) {
-            Ok(()) => {}
-            Err(_) => unreachable!(),
-        }
+        self.standing.settle(number, groups);
     }
 
     /// The lines that a fresh state tells.
-    pub fn tell(&self, alloc: Global) -> Result<Texts, AllocError>
-        requires fresh { self.now.standing.stale ≡ false }
-        ensures { (rows : List Row) → Means self.now.standing rows → AllByRecursion (λ (row : Row). IsTime row.time) rows
-            → IfOk result (λ texts. texts ≡ answer_lines self.now.standing.query (groups self.now.standing.query rows)) }
+    pub fn tell(&mut self, alloc: Global) -> Result<Texts, AllocError>
+        requires fresh { self.old.standing.stale ≡ false }
+        ensures same { self.new ≡ self.old }
+        ensures told { IfOk result (IsAnswerOf self.old.standing) }
     {
-        let groups = self.standing.groups()?;
-        Ok(Texts::of(lines(alloc, self.standing.query(), &groups)?.into_inner()))
+        self.standing.tell(alloc)
     }
 }
 
 // Entries in the order of their numbers.
-fn heed_all(standing: &mut Standing, heard: Vec<Heard>) -> Result<(), AllocError>
+fn heed_all(standing: &mut Teller, heard: Vec<Heard>) -> Result<(), AllocError>
     ensures query { standing.new.query ≡ standing.old.query }
     ensures heeds { OnOk result (HeedsAll standing.old heard.items standing.new) }
 {
@@ -101,7 +92,7 @@ fn heed_all(standing: &mut Standing, heard: Vec<Heard>) -> Result<(), AllocError
 }
 
 // An entry that the state knows already changes nothing. A state that missed an entry is stale.
-fn heed(standing: &mut Standing, heard: Heard) -> Result<(), AllocError>
+fn heed(standing: &mut Teller, heard: Heard) -> Result<(), AllocError>
     ensures query { standing.new.query ≡ standing.old.query }
     ensures heeds { OnOk result (Heeds standing.old heard standing.new) }
 {

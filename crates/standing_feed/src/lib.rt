@@ -10,8 +10,10 @@ mod hearing;
 mod meaning;
 mod meant;
 mod place;
+mod teller;
 
 pub use follower::Follower;
 pub use followers::Followers;
 pub use heard::Heard;
 pub use meant::Meant;
+pub use teller::Teller;

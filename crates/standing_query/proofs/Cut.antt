@@ -18,7 +18,7 @@ abbrev Ascends : List ℤ → Type 0
 Ascends [] = ⊤
 Ascends (x ∷ xs) = AllByRecursion (λ (y : ℤ). int_le x y ≡ true) xs × Ascends xs
 
-chain : (a b c : ℤ) → int_le a b ≡ true → int_le b c ≡ true → int_le a c ≡ true
+pub chain : (a b c : ℤ) → int_le a b ≡ true → int_le b c ≡ true → int_le a c ≡ true
 chain a b c h k = true_from_ne_false (int_le a c) (λ no. omega (arith, ints, h, k, no))
 
 itself : (a : ℤ) → int_le a a ≡ true

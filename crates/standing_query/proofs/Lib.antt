@@ -12,5 +12,6 @@ mod Telling
 mod Counted
 mod Expired
 mod Held
+mod Falling
 mod Going
 mod Feeding

@@ -35,12 +35,18 @@ once_value q row n once o some = ap (map (group_times n)) o.value ∙ times_are 
 pub once_within : (q : Query) (row : Row) (n : ℕ) (once : List Group) → IsOnce q row once → 0 < n → AllByRecursion (IsWithin n) (map (group_times n) once)
 once_within q row n once o some = subst (AllByRecursion (IsWithin n)) (sym (once_value q row n once o some)) (times_within q row n some o.within)
 
--- ---- two halves
+-- ---- the front and the back of some groups
 
-module _ (names : List (List ℕ)) (gs front back : List Group) (k : ℕ) (is_front : front ≡ take k gs) (is_back : back ≡ drop k gs) where
+pub apart : (gs front back : List Group) (k : ℕ) → front ≡ take k gs → back ≡ drop k gs → front ++ back ≡ gs
+apart gs front back k is_front is_back =
+    ap (λ (fs : List Group). fs ++ back) is_front ∙ ap (λ (bs : List Group). take k gs ++ bs) is_back ∙ take-append-drop k gs
+
+pub alone : (gs front back : List Group) → front ++ back ≡ gs → back ≡ [] → front ≡ gs
+alone gs front back are none = sym (append-nil front) ∙ ap (λ (bs : List Group). front ++ bs) (sym none) ∙ are
+
+module _ (names : List (List ℕ)) (gs front back : List Group) (are : front ++ back ≡ gs) where
   pub halves : rows_shown names front ++ rows_shown names back ≡ rows_shown names gs
-  halves =
-      sym (flat_map-append _ front back) ∙ ap (rows_shown names) (ap (λ (fs : List Group). fs ++ back) is_front ∙ ap (λ (bs : List Group). take k gs ++ bs) is_back ∙ take-append-drop k gs)
+  halves = sym (flat_map-append _ front back) ∙ ap (rows_shown names) are
 
   pub halves_count : length (rows_shown names front) + length (rows_shown names back) ≡ length (rows_shown names gs)
   halves_count = sym (length-append (rows_shown names front) (rows_shown names back)) ∙ ap (λ (rows : List Row). length rows) halves

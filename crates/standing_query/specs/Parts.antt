@@ -1,5 +1,6 @@
 -- Groups in parts: each has those of some rows, and all rows stand in the order of the parts.
-use Rattle.std.specs.Prelude.{◌≡◌, ℕ, ◌+◌, ◌<◌, ◌≤◌, ◌^◌, Bool, true, List, [], ◌∷◌, length, ◌++◌, ℤ, int_le, filter}
+use Rattle.std.specs.Prelude.{◌≡◌, ℕ, ◌+◌, ◌<◌, ◌≤◌, ◌^◌, Bool, true, List, [], ◌∷◌, length, ◌++◌, ℤ, int_le, filter, ⊤}
+use Rattle.std.specs.List.{AllByRecursion}
 use Rattle.leaf_model.specs.declared.rows.Row.{Row}
 use Rattle.leaf_model.specs.declared.queries.Agg.TheVariants.{Count}
 use Rattle.leaf_model.specs.declared.queries.Query.{Query}
@@ -42,6 +43,16 @@ pub record AreCounted (parts : List (List Group)) : Type 0 where
 -- the groups whose time is not below the horizon
 abbrev pub groups_from : ℤ → List Group → List Group
 groups_from horizon gs = filter (λ (g : Group). int_le horizon (time_in g.keys)) gs
+
+-- no group's time is below that of one before it
+abbrev pub NeverFall : List Group → Type 0
+NeverFall [] = ⊤
+NeverFall (g ∷ gs) = AllByRecursion (λ (h : Group). int_le (time_in g.keys) (time_in h.keys) ≡ true) gs × NeverFall gs
+
+-- whether the first group's time is not below the horizon
+abbrev pub begins_from : ℤ → List Group → Bool
+begins_from horizon [] = true
+begins_from horizon (g ∷ gs) = int_le horizon (time_in g.keys)
 
 -- rows without so many late ones, where a horizon cuts off so many
 abbrev pub IsCut : List Row → ℕ → List Row → Type 0

@@ -1,12 +1,12 @@
 -- What the state of a standing query means, and what entries of its table's history make of it.
-use Rattle.std.specs.Prelude.{◌≡◌, ℕ, ◌+◌, ◌<◌, ◌≤◌, ◌^◌, Bool, true, false, nat_lt, List, length, ◌++◌, ℤ}
+use Rattle.std.specs.Prelude.{◌≡◌, ℕ, ◌+◌, ◌<◌, ◌≤◌, ◌^◌, ◌==◌, Bool, true, false, nat_lt, List, length, ◌++◌, ℤ}
 use Rattle.leaf_model.specs.declared.rows.Row.{Row}
 use Rattle.leaf_model.specs.declared.queries.Query.{Query}
 use Rattle.leaf_model.specs.declared.groups.Group.{Group}
 use Rattle.leaf_model.specs.Content.{rows_from}
 use Rattle.leaf_model.specs.Groups.{groups}
 use Rattle.standing_query.specs.declared.fed.Fed.{Fed}
-use Rattle.standing_query.specs.declared.fed.Fed.TheVariants.{Added, Expired, Kept, Opened, Closed}
+use Rattle.standing_query.specs.declared.fed.Fed.TheVariants.{Added, Expired, Kept, Opened, Closed, Other}
 use Rattle.standing_query.specs.Spread.{spread}
 
 -- a query, the number of the last entry that was fed, whether it is unknown which rows there are, and the groups of the spread
@@ -32,6 +32,12 @@ is_end Opened = true
 is_end Closed = true
 is_end (Kept removed) = nat_lt 0 removed
 is_end _ = false
+
+-- an entry that leaves the rows as they are
+abbrev pub is_idle : Fed → Bool
+is_idle Other = true
+is_idle (Kept removed) = removed == 0
+is_idle _ = false
 
 -- nothing but an add of rows that were not all late takes memory
 abbrev pub TakesMemory : Fed → Type 0

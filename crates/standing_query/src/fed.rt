@@ -1,4 +1,7 @@
 // What a state is fed.
+ghost use Rattle.std.specs.Prelude.{◌≡◌};
+ghost use Rattle.standing_query.specs.States.{is_idle};
+
 use leaf_model::Rows;
 
 /// What an entry of a table's history tells: rows that were added, of which so many with the least times were late; a horizon below which rows
@@ -11,4 +14,17 @@ pub enum Fed {
     Opened,
     Closed,
     Other,
+}
+
+impl Fed {
+    /// Whether it leaves the table's rows as they are.
+    pub fn is_idle(&self) -> bool
+        ensures { result ≡ is_idle self.now }
+    {
+        match self {
+            Fed::Other => true,
+            Fed::Kept { removed } => *removed == 0,
+            Fed::Added { .. } | Fed::Expired { .. } | Fed::Opened | Fed::Closed => false,
+        }
+    }
 }

@@ -1,19 +1,18 @@
 // Groups of a spread in parts.
-ghost use Rattle.std.specs.Prelude.{◌≡◌, ◌≢◌, ℕ, ◌+◌, ◌<◌, ◌≤◌, ◌^◌, ◌==◌, List, [], ◌∷◌, ◌++◌, length, map, not, IfOk, IfErr, OnOk, OnSome, option_to_list};
-ghost use Rattle.std.specs.List.{list_all};
+ghost use Rattle.std.specs.Prelude.{◌≡◌, ◌≢◌, ℕ, ◌+◌, ◌<◌, ◌≤◌, ◌^◌, ◌==◌, List, [], ◌∷◌, ◌++◌, length, map, not, IfOk, IfErr, OnOk, OnSome, option_to_list, true};
+ghost use Rattle.std.specs.List.{AllByRecursion, list_all};
 ghost use Rattle.std.specs.Vec.{vec_len, vec_capacity};
 ghost use Rattle.leaf_model.specs.declared.rows.Row.{Row};
 ghost use Rattle.leaf_model.specs.declared.queries.Query.{Query};
-ghost use Rattle.standing_query.specs.Parts.{AreCounted, AreParts, GoesOn, Holds, IsCut, SpreadsSome, groups_from};
-ghost use Rattle.standing_query.specs.States.{TakesMemory, is_end};
+ghost use Rattle.standing_query.specs.Parts.{AreCounted, AreParts, GoesOn, Holds, IsCut, NeverFall, SpreadsSome, groups_from};
+ghost use Rattle.standing_query.specs.States.{TakesMemory, is_end, is_idle};
 
 use crate::fed::Fed;
 use crate::late::without_late;
-use crate::shown::time_in;
+use crate::part::Part;
 use group_table::{fold_rows, merge};
 use leaf_model::{Groups, LentRows, Query, Row, Rows};
 use std::alloc::{AllocError, Global};
-use std::mem::replace;
 
 /// More rows than this are not added to the parts, so that their groups fit.
 const MOST_ROWS: u64 = 1 << 62;
@@ -21,25 +20,36 @@ const MOST_ROWS: u64 = 1 << 62;
 /// Groups in parts, of at most so many rows. Each had more than twice as many groups as the next one had when that came.
 #[derive(Drop)]
 pub struct Parts {
-    pub list: Vec<Groups>,
+    pub list: Vec<Part>,
     pub rows: u64,
 }
 
+fn pop_groups(list: &mut Vec<Part>) -> Option<Groups>
+    ensures items { list.old.items ≡ list.new.items ++ option_to_list result }
+    ensures fewer { OnSome result (vec_len list.new < vec_len list.old) }
+    ensures room { vec_capacity list.new ≡ vec_capacity list.old }
+{
+    match list.pop() {
+        None => None,
+        Some(part) => Some(part.into_groups()),
+    }
+}
+
 /// The last part, where it has at most about twice as many groups.
-fn pop_short(list: &mut Vec<Groups>, groups: usize) -> Option<Groups>
+fn pop_short(list: &mut Vec<Part>, groups: usize) -> Option<Groups>
     ensures items { list.old.items ≡ list.new.items ++ option_to_list result }
     ensures fewer { OnSome result (vec_len list.new < vec_len list.old) }
     ensures room { vec_capacity list.new ≡ vec_capacity list.old }
 {
     let is_short = match list.as_slice().last() {
         None => false,
-        Some(last) => last.as_slice().len() / 2 <= groups,
+        Some(last) => last.len() / 2 <= groups,
     };
-    if is_short { list.pop() } else { None }
+    if is_short { pop_groups(list) } else { None }
 }
 
 /// A part more, which takes up those before it that are short beside it.
-fn put_part(alloc: Global, list: &mut Vec<Groups>, part: Groups) -> Result<(), AllocError>
+fn put_part(alloc: Global, list: &mut Vec<Part>, part: Groups) -> Result<(), AllocError>
     requires { AreCounted (list.old.items ++ part ∷ []) }
     ensures rows { (q : Query) (rows : List Row) → AreParts q rows (list.old.items ++ part ∷ []) → OnOk result (AreParts q rows list.new.items) }
     ensures room { vec_capacity list.old ≤ vec_capacity list.new }
@@ -48,42 +58,28 @@ fn put_part(alloc: Global, list: &mut Vec<Groups>, part: Groups) -> Result<(), A
     while let Some(before) = pop_short(list, last.as_slice().len()) {
         last = merge(alloc, before, last)?;
     }
-    list.push(last)?;
+    list.push(Part::of(last))?;
     Ok(())
 }
 
-fn retain_from(groups: Groups, horizon: &i64) -> Groups
-    ensures { result ≡ groups_from horizon.now groups }
-{
-    let mut inner = groups.into_inner();
-    inner.retain(|group| time_in(group.keys.as_slice()) >= *horizon);
-    Groups::of(inner)
-}
-
-fn forget_in(alloc: Global, part: &mut Groups, horizon: &i64)
-    ensures { part.new ≡ groups_from horizon.now part.old }
-{
-    let groups = replace(part, Groups::of(Vec::new(alloc)));
-    *part = retain_from(groups, horizon);
-}
-
 /// The groups of times below the horizon go, in each part.
-fn forget(alloc: Global, list: &mut Vec<Groups>, horizon: &i64)
+fn forget(list: &mut Vec<Part>, horizon: &i64)
+    requires { AllByRecursion NeverFall list.old.items }
     ensures groups { list.new.items ≡ map (groups_from horizon.now) list.old.items }
     ensures room { vec_capacity list.new ≡ vec_capacity list.old }
 {
     let mut i: usize = 0;
     while i < list.len() {
-        forget_in(alloc, &mut list[i], horizon);
+        list[i].forget(horizon);
         i += 1;
     }
 }
 
 /// Whether no part has a group.
-pub fn are_empty(parts: &[Groups]) -> bool
+pub fn are_empty(parts: &[Part]) -> bool
     ensures { result ≡ list_all (λ part. length part == 0) parts.now }
 {
-    parts.iter().all(|part| part.as_slice().is_empty())
+    parts.iter().all(|part| part.is_empty())
 }
 
 impl Parts {
@@ -107,7 +103,7 @@ impl Parts {
         ensures room { vec_capacity self.new.list ≡ vec_capacity self.old.list }
     {
         self.list.clear();
-        self.list.push_reserved(groups);
+        self.list.push_reserved(Part::of(groups));
         self.rows = 1 << 40;
     }
 
@@ -163,6 +159,7 @@ impl Parts {
         ensures known { IfOk result (λ known. known ≡ not (is_end fed)) }
         ensures rows { (before : List Row) → Holds spread.now self.old.list.items self.old.rows before → IfOk result (λ _. (now : List Row) × GoesOn fed before now × Holds spread.now self.new.list.items self.new.rows now) }
         ensures memory { IfErr result (λ _. TakesMemory fed) }
+        ensures idle { is_idle fed ≡ true → self.new.list.items ≡ self.old.list.items }
         ensures room { vec_capacity self.old.list ≤ vec_capacity self.new.list }
     {
         match fed {
@@ -171,8 +168,7 @@ impl Parts {
                 Ok(true)
             }
             Fed::Expired { horizon } => {
-                let alloc = *self.list.allocator();
-                forget(alloc, &mut self.list, &horizon);
+                forget(&mut self.list, &horizon);
                 Ok(true)
             }
             Fed::Kept { removed } => Ok(removed == 0),

@@ -5,7 +5,7 @@ ghost use Rattle.leaf_model.specs.declared.rows.Row.{Row};
 ghost use Rattle.leaf_model.specs.Groups.{groups};
 ghost use Rattle.leaf_model.specs.Values.{IsTime};
 ghost use Rattle.standing_query.specs.Spread.{spread};
-ghost use Rattle.standing_query.specs.States.{FedTo, IsSpread, Means, TakesMemory, is_end};
+ghost use Rattle.standing_query.specs.States.{FedTo, IsSpread, Means, TakesMemory, is_end, is_idle};
 
 use crate::fed::Fed;
 use crate::parts::Parts;
@@ -89,6 +89,7 @@ impl Standing {
         ensures none { self.new.stale ≡ true → self.new.groups ≡ [] }
         // What a fresh state means goes on by the entry, for all rows that it may mean.
         ensures fed { (rows now : List Row) → Means self.old rows → FedTo fed rows now → self.new.stale ≡ false → Means self.new now }
+        ensures idle { is_idle fed ≡ true → self.new.groups ≡ self.old.groups }
         ensures memory { IfErr result (λ _. (self.old.stale ≡ false) × TakesMemory fed) }
     {
         self.upto = number;

@@ -6,6 +6,7 @@ ghost use Rattle.group_table.specs.Joined.{IsWithin};
 ghost use Rattle.standing_query.specs.Parts.{all_joined};
 ghost use Rattle.standing_query.specs.Spread.{back, cells_read, row_shown, rows_shown};
 
+use crate::part::Part;
 use crate::parts::are_empty;
 use crate::shown::row_shown;
 use crate::times::groups_times;
@@ -56,19 +57,39 @@ pub fn told(
     merge(alloc, mine, theirs)
 }
 
-/// The same of spreads that stand behind one another.
+/// The same of a part.
+fn told_part(
+    alloc: Global,
+    query: &Query,
+    names: &[Text],
+    part: &Part,
+) -> Result<Groups, AllocError>
+    requires { length (rows_shown names.now part.now) ≤ 2 ^ 62 }
+    ensures value { IfOk result (λ gs. gs ≡ groups query.now (rows_shown names.now part.now)) }
+    ensures within { IfOk result (λ gs. AllByRecursion (IsWithin (length (rows_shown names.now part.now))) gs) }
+{
+    let (front, back) = part.as_slices();
+    let mine = told(alloc, query, names, front)?;
+    if back.is_empty() {
+        return Ok(mine);
+    }
+    let theirs = told(alloc, query, names, back)?;
+    merge(alloc, mine, theirs)
+}
+
+/// The same of parts that stand behind one another.
 pub fn told_parts(
     alloc: Global,
     query: &Query,
     names: &[Text],
-    parts: &[Groups],
+    parts: &[Part],
 ) -> Result<Groups, AllocError>
     requires { length (flat_map (rows_shown names.now) parts.now) ≤ 2 ^ 62 }
     ensures { IfOk result (λ gs. gs ≡ groups query.now (flat_map (rows_shown names.now) parts.now)) }
 {
     let mut all = Groups::of(Vec::new(alloc));
     for part in parts {
-        let more = told(alloc, query, names, part.as_slice())?;
+        let more = told_part(alloc, query, names, part)?;
         all = merge(alloc, all, more)?;
     }
     Ok(all)
@@ -79,7 +100,7 @@ pub fn tell(
     alloc: Global,
     query: &Query,
     names: &[Text],
-    parts: &[Groups],
+    parts: &[Part],
 ) -> Result<Groups, AllocError>
     requires names { names.now ≡ cells_read query.now }
     requires few { length (flat_map (rows_shown names.now) parts.now) ≤ 2 ^ 62 }

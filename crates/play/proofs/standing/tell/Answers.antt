@@ -15,5 +15,6 @@ returns-else-stale-clause-plays g c =
     let olds = c.args.followers.now.list.items in
     let f = c.index_mut-follower.result.now in
     let at = slice_get_read olds (length olds) c.args.standing f refl c.requires.there c.index_mut-follower.ensures.value in
-    one_told g.B.Berth.meaning c.args.crew.now.fleet c.args.standing olds _ f f c.args.crew.now.holds c.args.crew.now.holds c.tell_fresh.result at refl
-    (tells_fresh g.B.Berth.meaning c.args.crew.now.fleet c.args.standing f f c.args.crew.now.holds c.tell_fresh.result (sym c.if-stale.ensures) refl c.tell_fresh.ensures)
+    let now = c.tell_fresh.new.follower in
+    one_told g.B.Berth.meaning c.args.crew.now.fleet c.args.standing olds _ f now c.args.crew.now.holds c.args.crew.now.holds c.tell_fresh.result at refl
+    (tells_fresh g.B.Berth.meaning c.args.crew.now.fleet c.args.standing f now c.args.crew.now.holds c.tell_fresh.result (sym c.if-stale.ensures) c.tell_fresh.ensures.same c.tell_fresh.ensures.told)

@@ -1,6 +1,11 @@
 use Rattle.std.proofs.Common.{rules}
 use Rattle.standing_query.proofs.Going.{expired_goes}
+use Rattle.standing_query.proofs.Falling.{parts_never_fall}
 use Rattle.standing_query.proofs.parts.Parts.go_on.Goals as goal
+
+pub forget-requires : goal.forget-requires
+forget-requires c =
+    parts_never_fall c.args.spread.now c.requires.of.query c.requires.of.is c.args.self.now.list.items c.requires.held.0 c.requires.held.1.are
 
 pub returns-in-Expired-clause-rows : goal.returns-in-Expired-clause-rows
 returns-in-Expired-clause-rows c = λ before held.
