@@ -1,4 +1,4 @@
--- Rows, cells and values that are lent.
+-- What borrowed rows, cells and values mean.
 use Rattle.std.specs.Prelude.{ℕ, List, [], ◌∷◌, map, Option, Some, None, option_map}
 use Rattle.std.specs.Borrow.{Bor}
 use Rattle.leaf_model.specs.declared.rows.Value.{Value}
@@ -23,7 +23,7 @@ use Rattle.leaf_model.specs.Fronts.{front_of, any_cells_at}
 
 -- ---- what is lent
 
--- texts that stand at the front of bytes, and texts whichever way they stand
+-- texts spelled at the start of bytes, and texts in either form
 abbrev pub spelled_texts : SpelledTexts → List (List ℕ)
 spelled_texts t = front_of (texts_at t.count t.bytes.now)
 
@@ -41,7 +41,7 @@ lent_value (lent.Set members) = values.Set (lent_texts members)
 abbrev pub lent_cell : LentCell → Cell
 lent_cell c = record { name = c.name.now; value = lent_value c.value }
 
--- cells that stand at the front of bytes, and cells whichever way they stand
+-- cells spelled at the start of bytes, and cells in either form
 abbrev pub spelled_cells : SpelledCells → List Cell
 spelled_cells c = front_of (any_cells_at c.count c.bytes.now)
 
@@ -53,7 +53,7 @@ lent_cells (cells.Spelled cells) = spelled_cells cells
 abbrev pub lent_row : LentRow → Row
 lent_row row = record { time = row.time; cells = lent_cells row.cells }
 
--- rows that stand at the front of bytes, and rows whichever way they stand
+-- rows spelled at the start of bytes, and rows in either form
 abbrev pub spelled_rows : SpelledRows → List Row
 spelled_rows r = front_of (rows_at r.count r.bytes.now)
 
@@ -63,11 +63,11 @@ lent_rows (rows.Spelled rows) = spelled_rows rows
 
 -- ---- lists of what is lent
 
--- values, where there are some
+-- the values, each of them present or not
 abbrev pub each_value : List (Option LentValue) → List (Option Value)
 each_value cells = map (option_map lent_value) cells
 
--- the cells of some rows
+-- the cells of each row
 abbrev pub each_cells : List LentCells → List (List Cell)
 each_cells rests = map lent_cells rests
 

@@ -1,4 +1,4 @@
-// Rows as bytes, at the end of what was written before.
+// Appends rows to bytes.
 ghost use Rattle.std.specs.Prelude.{◌≡◌, ◌≤◌, ◌++◌, length, OnOk, OnErr};
 ghost use Rattle.std.specs.List.{flat_map, AllByRecursion};
 ghost use Rattle.leaf_model.specs.Values.{IsSet, IsValue, IsCell, IsRow};
@@ -10,7 +10,7 @@ use crate::lent_rows::LentRow;
 use crate::lent_texts::LentTexts;
 use std::alloc::AllocError;
 
-/// Puts the row's bytes at the end.
+/// Appends the row's bytes. After Err the bytes begin with what was there.
 pub(crate) fn put_row(out: &mut Vec<u8>, row: &LentRow) -> Result<(), AllocError>
     requires { IsRow (lent_row row.now) }
     ensures put { OnOk result (out.new.items ≡ out.old.items ++ row_bytes (lent_row row.now)) }
@@ -20,7 +20,7 @@ pub(crate) fn put_row(out: &mut Vec<u8>, row: &LentRow) -> Result<(), AllocError
     put_cells(out, &row.cells)
 }
 
-/// Puts a name behind its length at the end.
+/// Appends a length byte and the name. After Err the bytes begin with what was there.
 pub fn put_name(out: &mut Vec<u8>, name: &str) -> Result<(), AllocError>
     requires { length name.now ≤ 255 }
     ensures put { OnOk result (out.new.items ≡ out.old.items ++ name_bytes name.now) }
