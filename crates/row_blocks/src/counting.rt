@@ -1,4 +1,4 @@
-// How many cells there are at each place of a block, counted column by column.
+// Counts the cells at each place of a block, column by column.
 ghost use Rattle.std.specs.Prelude.{◌≡◌, ◌↔◌, ℕ, ◌^◌, ◌<◌, ◌≤◌, length, IfOk, IsTrue, MatchBool, is_some, slice_index};
 ghost use Rattle.std.specs.List.{AllByRecursion};
 ghost use Rattle.column_bytes.specs.Cells.{cell_at};
@@ -19,7 +19,7 @@ fn no_counts(alloc: Global, rows: u32) -> Result<Vec<u32>, AllocError>
     vec![in alloc; 0u32; rows as usize]
 }
 
-/// Counts the cells of a column, each at its place. It stops with false at one more than a row may have.
+/// Adds the cells of a column to the counts of their places. False, and an early stop, if a count would pass 1,024.
 fn count_column(view: &ColumnView, counts: &mut [u32]) -> bool
     requires rows { length counts.old < 2 ^ 32 }
     requires same { length counts.old ≡ length view.now.codes }
@@ -38,7 +38,7 @@ fn count_column(view: &ColumnView, counts: &mut [u32]) -> bool
     true
 }
 
-/// Whether there are at most 1,024 cells at each place, by counts that begin at 0.
+/// Whether no place has more than 1,024 cells. `counts` has a 0 for each row at the start.
 fn are_few(columns: &[BlockColumn], views: &[ColumnView], rows: u32, counts: &mut [u32]) -> bool
     requires each { AllByRecursion (IsOther rows) columns.now }
     requires seen { AreSeen views.now columns.now }
@@ -54,7 +54,7 @@ fn are_few(columns: &[BlockColumn], views: &[ColumnView], rows: u32, counts: &mu
     true
 }
 
-/// Whether there are at most 1,024 cells at each place.
+/// Whether no place has more than 1,024 cells. Err if memory runs out.
 pub(crate) fn have_few_cells(
     alloc: Global,
     columns: &[BlockColumn],

@@ -1,4 +1,4 @@
-// Columns that are taken off the rows: the cells at the fronts of the rows under one heading, in one walk.
+// Takes a column off the rows: in one walk, the first cell of each row, if it has the heading.
 ghost use Rattle.std.specs.Prelude.{◌≡◌, ℕ, ◌<◌, ◌≤◌, List, [], length, is_some, map, option_map, slice_index_or, IfOk, IfSome, OnOk};
 ghost use Rattle.leaf_model.specs.Lent.{each_cells, each_value, lent_cell, lent_cells, lent_value};
 ghost use Rattle.column_bytes.specs.Cells.{Entries};
@@ -18,8 +18,8 @@ use leaf_model::{LentCell, LentCells, LentValue, Text};
 use std::alloc::{AllocError, Global};
 use std::cmp::Ordering;
 
-/// The value of a row's first cell, where it comes under the heading of another cell, and the cells that are then left.
-/// None where the first cell comes under an earlier heading.
+/// The value of a row's first cell if it has the heading of `like`, and the cells that are then left. None if the first
+/// cell has an earlier heading.
 fn split_under<'a>(
     like: &LentCell,
     rest: &LentCells<'a>,
@@ -38,15 +38,15 @@ fn split_under<'a>(
     }
 }
 
-/// The integers of a column, one for each row, and which rows have one.
+/// A column of integers: one for each row, and which rows have one.
 #[derive(Drop)]
 struct Numbers {
     integers: Vec<i64>,
     present: Vec<bool>,
 }
 
-/// The integers under a heading, and in `nexts` what is then left of the rows' cells. None where a row has a cell
-/// under an earlier heading.
+/// The integers under the heading of `like`. `nexts` gets the cells that are then left of each row. None if a row has a
+/// cell with an earlier heading.
 fn numbers_under<'a>(
     alloc: Global,
     like: &LentCell,
@@ -75,15 +75,15 @@ fn numbers_under<'a>(
     Ok(Some(Numbers { integers, present }))
 }
 
-/// The codes of a column of texts, one for each row, and which rows have one.
+/// A column of text codes: one for each row, and which rows have one.
 #[derive(Drop)]
 struct TextCodes {
     codes: Vec<u64>,
     present: Vec<bool>,
 }
 
-/// The codes of the texts under a heading, and in `nexts` what is then left of the rows' cells. None where a row has a
-/// cell under an earlier heading.
+/// The codes of the texts under the heading of `like`. `nexts` gets the cells that are then left of each row. None if a
+/// row has a cell with an earlier heading.
 fn codes_under<'a>(
     alloc: Global,
     like: &LentCell,
@@ -115,8 +115,8 @@ fn codes_under<'a>(
     Ok(Some(TextCodes { codes, present }))
 }
 
-/// The values under a heading, and in `nexts` what is then left of the rows' cells. None where a row has a cell under
-/// an earlier heading.
+/// The values under the heading of `like`. `nexts` gets the cells that are then left of each row. None if a row has a
+/// cell with an earlier heading.
 fn values_under<'a>(
     alloc: Global,
     like: &LentCell,
@@ -138,7 +138,7 @@ fn values_under<'a>(
     Ok(Some(values))
 }
 
-/// The column of the integers under a heading.
+/// The column of the integers under the heading of `like`. None if a row has a cell with an earlier heading.
 fn integer_column<'a>(
     alloc: Global,
     like: &LentCell,
@@ -161,7 +161,7 @@ fn integer_column<'a>(
     Ok(Some(column))
 }
 
-/// The column of the texts under a heading.
+/// The column of the texts under the heading of `like`. None if a row has a cell with an earlier heading.
 fn text_column<'a>(
     alloc: Global,
     like: &LentCell,
@@ -184,7 +184,7 @@ fn text_column<'a>(
     Ok(Some(column))
 }
 
-/// The column of the sets under a heading.
+/// The column of the sets under the heading of `like`. None if a row has a cell with an earlier heading.
 fn set_column<'a>(
     alloc: Global,
     like: &LentCell,
@@ -206,7 +206,7 @@ fn set_column<'a>(
     Ok(Some(column))
 }
 
-/// The column under the heading of a cell.
+/// The column under the heading of `like`, by its kind. None if a row has a cell with an earlier heading.
 fn column_under<'a>(
     alloc: Global,
     like: &LentCell<'a>,
@@ -228,7 +228,7 @@ fn column_under<'a>(
     }
 }
 
-/// A column and its name.
+/// A column with its name, which is copied.
 fn with_name(alloc: Global, name: &str, column: Column) -> Result<BlockColumn, AllocError>
     ensures name { IfOk result (λ made. made.name ≡ name.now) }
     ensures bytes { IfOk result (λ made. made.bytes ≡ column) }
@@ -239,8 +239,8 @@ fn with_name(alloc: Global, name: &str, column: Column) -> Result<BlockColumn, A
     })
 }
 
-/// The column under the heading of a first cell, and in `nexts` what is then left of the rows' cells. None where a row
-/// has a cell under an earlier heading.
+/// The column under the heading of `like`, with its name. `nexts` gets the cells that are then left of each row. None
+/// if a row has a cell with an earlier heading.
 fn take_column<'a>(
     alloc: Global,
     like: &LentCell<'a>,
@@ -260,7 +260,7 @@ fn take_column<'a>(
     Ok(Some(with_name(alloc, like.name, column)?))
 }
 
-/// The first cell of the first row that has one.
+/// The first cell of the first row that has a cell.
 fn first_of<'a>(rests: &[LentCells<'a>]) -> Option<LentCell<'a>>
     ensures { IfSome result (λ like. HasFront (lent_cell like) (each_cells rests.now)) }
 {
@@ -272,7 +272,7 @@ fn first_of<'a>(rests: &[LentCells<'a>]) -> Option<LentCell<'a>>
     None
 }
 
-/// The first cell of a row, where it comes under an earlier heading than the one so far, if there is one.
+/// Replaces `earliest` by the first cell of a row, if that has an earlier heading.
 fn look<'a>(earliest: &mut Option<LentCell<'a>>, rest: &LentCells<'a>)
     ensures { option_map lent_cell earliest.new ≡ earlier (option_map lent_cell earliest.old) (front (lent_cells rest.now)) }
 {
@@ -289,7 +289,7 @@ fn look<'a>(earliest: &mut Option<LentCell<'a>>, rest: &LentCells<'a>)
     }
 }
 
-/// A first cell under the earliest heading, or None where no cells are left.
+/// A first cell with the earliest heading. None if no cells are left.
 fn earliest_of<'a>(rests: &[LentCells<'a>]) -> Option<LentCell<'a>>
     ensures { IsEarliest (option_map lent_cell result) (each_cells rests.now) }
 {
@@ -300,7 +300,7 @@ fn earliest_of<'a>(rests: &[LentCells<'a>]) -> Option<LentCell<'a>>
     earliest
 }
 
-/// The next column, where a walk over all rows finds the earliest heading first.
+/// The next column, if a first walk over all rows has to find the earliest heading.
 fn search_column<'a>(
     alloc: Global,
     rests: &[LentCells<'a>],
@@ -317,9 +317,9 @@ fn search_column<'a>(
     take_column(alloc, &like, rests, nexts)
 }
 
-/// The next column of the rows, and in `nexts` what is then left of their cells. None where nothing was taken.
-/// The heading that is met first is mostly the earliest: the walk begins with it, and ends at a row that has an
-/// earlier one.
+/// The next column. `nexts` gets the cells that are then left of each row. None if no cell was left. The first cell
+/// that is met mostly has the earliest heading. So a walk begins with its heading, and ends at a row with an earlier
+/// one.
 pub(crate) fn next_column<'a>(
     alloc: Global,
     rests: &[LentCells<'a>],
