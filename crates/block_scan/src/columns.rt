@@ -1,4 +1,4 @@
-// A query over the columns of one block: by slots where it can, and else row by row.
+// A query over the columns of one block: slot by slot if possible, else row by row.
 ghost use Rattle.std.specs.Prelude.{◌≡◌, ◌<◌, ◌≤◌, ◌∷◌, true, length, map, IfOk};
 ghost use Rattle.std.specs.List.{AllByRecursion};
 ghost use Rattle.leaf_model.specs.Groups.{groups, passes};
@@ -39,7 +39,7 @@ fn fold_places(
     fold_rows(alloc, query, &LentRows::Owned(found.as_slice()))
 }
 
-/// The groups of the rows at places that all pass, slot by slot, where what the aggregates look at is decoded.
+/// The groups of the rows at places that all pass, slot by slot; row by row if two columns have an aggregate's name.
 fn fold_slots(
     alloc: Global,
     query: &Query,
@@ -70,7 +70,7 @@ fn fold_slots(
     }
 }
 
-/// Where fewer than one row of so many passes, rows are made: to decode a column takes as long as some cells.
+/// If fewer than one row in 32 passes, rows are made, as to decode a column costs as much as to read some cells.
 const FEW: usize = 32;
 
 /// The groups of the rows at places that all pass.
@@ -98,7 +98,7 @@ fn fold_passing(
     }
 }
 
-/// The groups of the rows at the wanted places of these times.
+/// The groups of the rows at the places whose times are wanted.
 fn fold_wanted(
     alloc: Global,
     query: &Query,
@@ -123,7 +123,7 @@ fn fold_wanted(
     }
 }
 
-/// The groups of the rows of these columns, behind the first `skip` and from the horizon on. All times lie between two of them.
+/// The groups of the rows of these columns, from place `skip` and from the horizon on. All times lie in `from..=to`.
 pub(crate) fn fold_columns(
     alloc: Global,
     query: &Query,

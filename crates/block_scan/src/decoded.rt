@@ -1,4 +1,4 @@
-// What the columns of a name mean at each place.
+// Decodes the column of a name: its cell at each place.
 ghost use Rattle.std.specs.Prelude.{◌≡◌, ℕ, ◌<◌, ◌≤◌, true, false, length, pos, slice_index, slice_index_or, IfOk, IfSome, Some, None, if◌then◌else◌};
 ghost use Rattle.std.specs.List.{AllByRecursion};
 ghost use Rattle.leaf_model.specs.declared.rows.Value.TheVariants as cells;
@@ -15,14 +15,14 @@ use column_bytes::{ColumnView, Kind};
 use leaf_model::Text;
 use std::alloc::{AllocError, Global};
 
-/// Which cells are there, and their integers.
+/// For each place whether its cell is there, and its integer.
 #[derive(Drop)]
 pub struct Integers {
     pub present: Vec<bool>,
     pub values: Vec<i64>,
 }
 
-/// Which cells are there, and the codes of their texts or sets.
+/// For each place whether its cell is there, and the code of its text or set.
 #[derive(Drop)]
 pub struct EntryCodes<'b, 'a> {
     pub present: Vec<bool>,
@@ -30,7 +30,7 @@ pub struct EntryCodes<'b, 'a> {
     pub view: &'b ColumnView<'a>,
 }
 
-/// What a name means at each place: nothing, integers, or texts or sets by their codes.
+/// The cells of a name at all places: missing, integers, or texts or sets by their codes.
 #[derive(Drop)]
 pub enum Decoded<'b, 'a> {
     Missing,
@@ -141,7 +141,7 @@ fn own_times(alloc: Global, times: &[i64]) -> Result<Integers, AllocError>
     Ok(Integers { present, values })
 }
 
-/// What a name means at each place, or None where two columns have it.
+/// Decodes the cells of a name at all places. None if two columns have the name.
 pub(crate) fn decode<'b, 'a>(
     alloc: Global,
     name: &Text,

@@ -1,4 +1,4 @@
-// The groups of places, slot by slot.
+// Makes the groups of places, slot by slot.
 ghost use Rattle.std.specs.Prelude.{◌≡◌, ℕ, ◌<◌, ◌≤◌, List, [], ◌∷◌, length, map, IfOk};
 ghost use Rattle.std.specs.List.{AllByRecursion};
 ghost use Rattle.leaf_model.specs.declared.rows.Row.{Row};
@@ -23,7 +23,7 @@ fn only(alloc: Global, group: Group) -> Result<Groups, AllocError>
     Ok(Groups::of(groups))
 }
 
-/// The group of places in one slot.
+/// The group of the places in one slot.
 fn fold_slot(
     alloc: Global,
     query: &Query,
@@ -47,7 +47,7 @@ fn fold_slot(
     only(alloc, Group { keys, count, folds })
 }
 
-/// The groups of places in one slot: one, or none where there are no places.
+/// The groups of the places in one slot: one, or none if there are no places.
 fn fold_list(
     alloc: Global,
     query: &Query,
@@ -72,7 +72,7 @@ fn fold_list(
     fold_slot(alloc, query, rows, slots, decoded, slot, places)
 }
 
-/// The groups of the places of some slots.
+/// The groups of the places in some slots, in the order of these slots.
 fn fold_lists(
     alloc: Global,
     query: &Query,

@@ -1,4 +1,4 @@
-// Places laid out by slot, and the slots that have some, in the order of their keys.
+// Lays places out by slot, and puts the slots that have places into the order of their keys.
 ghost use Rattle.std.specs.Prelude.{◌≡◌, ℕ, ◌<◌, ◌^◌, ◌++◌, [], ◌∷◌, length, map, set, if◌then◌else◌, IfOk};
 ghost use Rattle.std.specs.List.{AllByRecursion};
 ghost use Rattle.std.specs.List.Sorted.{IsPermutation};
@@ -48,7 +48,7 @@ fn put(lists: &mut Vec<Vec<u32>>, slot: usize, place: u32) -> Result<(), AllocEr
     Ok(())
 }
 
-/// For each slot the places that stand in it, in their order.
+/// For each slot its places, ascending.
 pub(crate) fn lay_out(
     alloc: Global,
     rows: u32,
@@ -68,7 +68,8 @@ pub(crate) fn lay_out(
     Ok(lists)
 }
 
-/// The text of a slot's key, or none where it is no text. It says where the slot is looked at, and nothing of what is found there.
+/// The text of a slot's key, or an empty one if it is no text. It decides only the order of the slots, not what they
+/// hold.
 fn text_of<'a>(slots: &Slots<'_, 'a>, slot: u64) -> &'a str
     requires { slot < slots_in slots.now }
 {
@@ -86,7 +87,7 @@ fn text_of<'a>(slots: &Slots<'_, 'a>, slot: u64) -> &'a str
     }
 }
 
-/// The slot and its text behind the others, where it has places.
+/// Appends the slot with its text, if it has places.
 fn push_used<'a>(
     slots: &Slots<'_, 'a>,
     slot: usize,

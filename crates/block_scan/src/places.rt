@@ -1,4 +1,4 @@
-// The places of a block that a query asks for.
+// The places of a block whose times a query wants.
 ghost use Rattle.std.specs.Prelude.{◌≡◌, ◌≤◌, ◌<◌, ℕ, List, [], ◌∷◌, ◌++◌, length, pos, slice_index_or, if◌then◌else◌, IfOk};
 ghost use Rattle.row_blocks.specs.Blocks.{AreTimes, time_of, value_in};
 ghost use Rattle.block_scan.specs.Reads.{IsRead, is_wanted, wanted_places};
@@ -65,7 +65,7 @@ fn push_wanted(
     Ok(())
 }
 
-/// The places behind the first `skip` whose times are at or after the horizon and in the query's range.
+/// The places from `skip` on whose times are at or after the horizon and in the query's range.
 pub(crate) fn wanted_places(
     alloc: Global,
     query: &Query,

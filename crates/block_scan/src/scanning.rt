@@ -1,4 +1,4 @@
-// A query over blocks and a tail.
+// Answers a query over blocks and a tail.
 ghost use Rattle.std.specs.Prelude.{◌≡◌, ◌+◌, ◌≤◌, ◌^◌, length, IfOk};
 ghost use Rattle.std.specs.List.{AllByRecursion};
 ghost use Rattle.leaf_model.specs.Groups.{groups};
@@ -16,8 +16,9 @@ use std::alloc::{AllocError, Global};
 use std::sync::ledger::Ledger;
 use std::thread::Threads;
 
-/// The groups of the rows that pass, without the first `skip` rows of the blocks and without those below the horizon.
-/// Columns are read in the caller's thread, a step each; then the blocks are folded in threads, and the tail onto their groups.
+/// The groups of the rows that pass, without the first `skip` rows of the blocks and the rows below the horizon. The
+/// caller's thread reads the columns, one step each. Then threads fold the blocks, and the tail is folded onto their
+/// groups. Err if memory runs out.
 pub fn scan<L: Ledger, R: Threads + Sync>(
     rt: &R,
     alloc: Global,
