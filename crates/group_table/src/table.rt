@@ -1,4 +1,4 @@
-// One row more in an ascending table of groups, in place.
+// Adds a row to an ascending table of groups, in place.
 ghost use Rattle.std.specs.Prelude.{◌≡◌, IfOk, List, [], ◌∷◌, ◌++◌, ◌≤◌, ◌<◌, ◌-◌, ◌^◌, length, map, take, drop, true, option_map};
 ghost use Rattle.std.specs.List.{AllByRecursion};
 ghost use Rattle.std.specs.Vec.{vec_len};
@@ -18,7 +18,7 @@ use leaf_model::{Agg, Fold, Folds, Group, LentValue, Query};
 use std::alloc::{AllocError, Global};
 use std::cmp::Ordering;
 
-/// A place in a table, and whether the keys that were looked for stand there.
+/// A place in a table, and whether the group there has the keys that were looked for.
 #[derive(Clone, Copy)]
 pub struct Place {
     pub at: usize,
@@ -35,7 +35,7 @@ fn stands_at(table: &[Group], place: usize, keys: &[Option<LentValue>]) -> bool
     }
 }
 
-/// Past the groups whose keys are below these.
+/// The number of groups whose keys are less than these.
 fn search_for(table: &[Group], keys: &[Option<LentValue>]) -> usize
     requires { Ascends (keys_in table.now) }
     ensures bound { result ≤ length table.now }
@@ -44,7 +44,7 @@ fn search_for(table: &[Group], keys: &[Option<LentValue>]) -> usize
     table.partition_point(|group| compare_with(group.keys.as_slice(), keys) == Ordering::Less)
 }
 
-/// Where those keys stand, or would stand, in an ascending table.
+/// The place where these keys stand in an ascending table, or would stand.
 pub fn place_of(table: &[Group], keys: &[Option<LentValue>]) -> Place
     requires { Ascends (keys_in table.now) }
     ensures bound { result.at ≤ length table.now }
@@ -57,7 +57,7 @@ pub fn place_of(table: &[Group], keys: &[Option<LentValue>]) -> Place
     Place { at, is_there }
 }
 
-/// Where those keys stand. With no guess they are not looked for.
+/// Finds the place of these keys, at the guess first. Without a guess they are taken as not there.
 pub fn find(table: &[Group], keys: &[Option<LentValue>], guess: Option<usize>) -> Place
     requires { Ascends (keys_in table.now) }
     ensures there { result.is_there ≡ true → is_first (map seen_key keys.now) (drop result.at table.now) ≡ true }
@@ -111,7 +111,7 @@ fn add_folds(folds: Vec<Fold>, query: &Query, row: &SeenRow) -> Vec<Fold>
     add_cells(folds, query.aggs.as_slice(), row.aggs)
 }
 
-/// A row more in the group of its keys.
+/// Adds a row to the group of its keys.
 pub fn add_to(alloc: Global, group: &mut Group, query: &Query, row: &SeenRow)
     requires seen { AreSeen query.now row.now }
     requires same { length group.old.folds ≡ length query.now.aggs }
@@ -124,7 +124,7 @@ pub fn add_to(alloc: Global, group: &mut Group, query: &Query, row: &SeenRow)
     group.folds = Folds::of(add_folds(folds.into_inner(), query, row));
 }
 
-/// A row at the place of its keys.
+/// Adds a row at the place of its keys: to the group there, or as a new group.
 pub fn put_row(
     alloc: Global,
     query: &Query,
