@@ -1,4 +1,4 @@
-// All cells in order: each difference is added once, and no text is looked at.
+// Decodes all cells in order. Each difference is added once, and no text is read.
 ghost use Rattle.std.specs.Prelude.{◌≡◌, ℕ, ◌+◌, ◌-◌, ◌*◌, ◌/◌, ◌%◌, ◌<◌, ◌≤◌, length, pos, ◌+ℤ◌, FitsSigned, slice_index, slice_index_or, IfSome, None};
 ghost use Rattle.std.specs.Int.{w64, div_ceil};
 ghost use Rattle.bit_columns.specs.Bits.{presence};
@@ -42,7 +42,7 @@ pub(crate) fn fill_present(presence: &Option<PresenceBits>, present: &mut [bool]
     }
 }
 
-// The base and what is to be added to it. Where the cell is missing, that may be no i64.
+// The base plus an offset. That of a missing cell may overflow.
 pub(crate) fn offset_sum(base: i64, code: u64) -> i64
     ensures { FitsSigned w64 (base +ℤ pos code) → result ≡ base +ℤ pos code }
 {
@@ -59,7 +59,7 @@ pub(crate) fn fill_offsets(base: i64, codes: &[u64], values: &mut [i64])
     }
 }
 
-// The slot at a place, given the one before.
+// The integer at place i in the delta form, given the one before.
 fn next_slot(extra: &[u8], codes: &[u64], i: usize, before: i64) -> i64
     requires within { i < length codes.now }
     requires anchored { length extra.now ≡ 8 * div_ceil (length codes.now) 64 }
@@ -86,7 +86,7 @@ pub(crate) fn fill_slots(extra: &[u8], codes: &[u64], values: &mut [i64])
     }
 }
 
-/// Writes the integers of a column of integers. Where a cell is missing, any integer stands.
+/// Writes the integers of a column of integers, and any integer for a missing cell.
 pub(crate) fn fill_values(form: Form, extra: &[u8], codes: &[u64], values: &mut [i64])
     requires same { length values.old ≡ length codes.now }
     requires extra { IsExtra form (length codes.now) extra.now }

@@ -1,4 +1,4 @@
-// Coding integers: by offsets from the least, or by the differences between neighbours.
+// Codes integers as offsets from the least, or as differences from the one before.
 ghost use Rattle.std.specs.Prelude.{◌≡◌, ℕ, ◌+◌, ◌*◌, ◌<◌, ◌≤◌, ◌^◌, length, map, List, is_some, IfOk, IfSome, Some, option_map, pos, ◌+ℤ◌, ◌≤ℤ◌, FitsSigned, slice_index, slice_index_or, Option};
 ghost use Rattle.std.specs.Int.{w64};
 ghost use Rattle.leaf_model.specs.Lent.{each_value, lent_value};
@@ -16,7 +16,7 @@ use delta_codes::{delta, zigzag};
 use leaf_model::LentValue;
 use std::alloc::{AllocError, Global};
 
-// The integer that a value is.
+// The integer of a value.
 fn integer_of(value: &LentValue) -> i64
     requires { IsOfKind Ints (lent_value value.now) }
     ensures { lent_value value.now ≡ Int result }
@@ -27,7 +27,7 @@ fn integer_of(value: &LentValue) -> i64
     }
 }
 
-// The first integer that is there, or 0.
+// The first integer that is there; 0 if there is none.
 fn first_integer(cells: &[Option<LentValue>]) -> i64 {
     for cell in cells {
         if let Some(LentValue::Int(integer)) = cell {
@@ -37,7 +37,7 @@ fn first_integer(cells: &[Option<LentValue>]) -> i64 {
     0
 }
 
-/// The integer of a cell, or the one before where it is missing.
+/// The integer of a cell; `before` if it is missing.
 pub fn integer_or(cell: &Option<LentValue>, before: i64) -> i64
     requires { IfSome (option_map lent_value cell.now) (IsOfKind Ints) }
     ensures { (value : Value) → option_map lent_value cell.now ≡ Some value → value ≡ Int result }
@@ -48,7 +48,7 @@ pub fn integer_or(cell: &Option<LentValue>, before: i64) -> i64
     }
 }
 
-// An integer for each cell. A missing one has that of the cell before, so that it makes no code longer.
+// One integer for each cell. A missing one gets that of the cell before, so that no code becomes wider.
 pub(crate) fn integers_of(
     alloc: Global,
     cells: &[Option<LentValue>],
@@ -101,7 +101,7 @@ fn integer_bytes(alloc: Global, integers: &[i64]) -> Result<Vec<u8>, AllocError>
     Ok(bytes)
 }
 
-// The codes of some integers, and what stands behind them.
+// The codes of integers, and the extra part: the base or the anchors.
 #[derive(Drop)]
 pub(crate) struct Coding {
     pub codes: Vec<u64>,
@@ -132,7 +132,7 @@ pub(crate) fn delta_coding(alloc: Global, integers: &[i64]) -> Result<Coding, Al
     })
 }
 
-// The column of the integers in one form.
+// Writes the column of the integers in the given form.
 pub(crate) fn write_integers(
     alloc: Global,
     form: Form,
@@ -152,14 +152,14 @@ pub(crate) fn write_integers(
     write(alloc, form, present, &coding.codes, &coding.extra)
 }
 
-// How many bits a number takes.
+// The bits that a number takes.
 fn bits_of(number: u64) -> usize
     ensures { result ≤ 64 }
 {
     (64 - number.leading_zeros()) as usize
 }
 
-// How many bytes codes of a width take.
+// The bytes that `count` codes of `width` bits take.
 fn packed_len(count: usize, width: usize) -> usize
     requires count { count ≤ 65536 }
     requires width { width ≤ 64 }
@@ -168,7 +168,7 @@ fn packed_len(count: usize, width: usize) -> usize
     (count * width).div_ceil(8)
 }
 
-// Whether the differences between neighbours take fewer bytes than the offsets from the least: both are measured in one walk.
+// Whether the delta form takes fewer bytes than the offset form. One walk measures both.
 fn is_delta_shorter(integers: &[i64]) -> bool
     requires some { 0 < length integers.now }
     requires few { length integers.now ≤ 65536 }
@@ -192,7 +192,7 @@ fn is_delta_shorter(integers: &[i64]) -> bool
     delta < offset
 }
 
-/// The bytes of a column of integers, in the form that takes fewer: one for each cell, and where none is there any stands.
+/// The bytes of a column of integers, in the form that takes fewer: one for each cell, and any for a missing one.
 pub(crate) fn integer_column(
     alloc: Global,
     integers: &[i64],
@@ -213,7 +213,7 @@ pub(crate) fn integer_column(
     }
 }
 
-/// The bytes of a column of integers.
+/// The bytes of a column of integers, of borrowed cells.
 pub(crate) fn encode_integers(
     alloc: Global,
     cells: &[Option<LentValue>],

@@ -1,4 +1,4 @@
-// Coding sets: each text once, each set once as the numbers of its texts, and a code for each cell.
+// Codes sets: each distinct text once, each distinct set once as indices of its texts, and a code for each cell.
 ghost use Rattle.std.specs.Prelude.{◌≡◌, ℕ, ◌+◌, ◌*◌, ◌<◌, ◌≤◌, ◌^◌, ◌++◌, List, [], length, map, slice_index_or, IfOk, IfSome, OnOk, Some, option_map};
 ghost use Rattle.std.specs.List.{All};
 ghost use Rattle.leaf_model.specs.Lent.{each_value, lent_texts, lent_value};
@@ -21,7 +21,7 @@ use crate::writer::{present_in, put_u32, write};
 use leaf_model::{LentTexts, LentValue};
 use std::alloc::{AllocError, Global};
 
-// The numbers of the texts of a set, in the set's order.
+// The indices of the texts of a set, in the order of the set. New texts are appended to `texts`.
 fn numbers_of<'a>(
     alloc: Global,
     members: &LentTexts<'a>,
@@ -70,7 +70,7 @@ fn set_code<'a>(
     }
 }
 
-// The code of a cell's set, or the one before where the cell is missing.
+// The code of a cell's set; the one before if the cell is missing.
 fn code_or<'a>(
     alloc: Global,
     cell: &Option<LentValue<'a>>,
@@ -97,7 +97,7 @@ fn code_or<'a>(
     }
 }
 
-// A code for each cell. A missing one has that of the cell before, so that it makes no code longer.
+// A code for each cell. A missing one gets that of the cell before, so that no code becomes wider.
 fn cell_codes<'a>(
     alloc: Global,
     cells: &[Option<LentValue<'a>>],
@@ -123,7 +123,7 @@ fn cell_codes<'a>(
     Ok(codes)
 }
 
-// The number of sets, and where each ends among all members.
+// The number of sets, and for each set the number of members up to its end.
 fn set_ends(alloc: Global, sets: &[Vec<u32>]) -> Result<Vec<u8>, AllocError>
     requires few { length sets.now ≤ 65536 }
     requires small { length (joined (numbers_in sets.now)) < 4294967296 }
@@ -141,7 +141,7 @@ fn set_ends(alloc: Global, sets: &[Vec<u32>]) -> Result<Vec<u8>, AllocError>
     Ok(bytes)
 }
 
-// The numbers of a set, four bytes each.
+// Appends the members of a set, four bytes each.
 #[tactic(auto, using(crate::proofs::SetBytes::numbers_more))]
 fn put_numbers(out: &mut Vec<u8>, numbers: &[u32]) -> Result<(), AllocError>
     ensures { OnOk result (out.new.items ≡ out.old.items ++ number_bytes numbers.now) }
@@ -161,7 +161,7 @@ fn put_sets(out: &mut Vec<u8>, sets: &[Vec<u32>]) -> Result<(), AllocError>
     Ok(())
 }
 
-// A dictionary of the sets as bytes.
+// The bytes of a dictionary of sets.
 fn set_dictionary_bytes(
     alloc: Global,
     texts: &[&str],
@@ -182,7 +182,7 @@ fn set_dictionary_bytes(
     Ok(bytes)
 }
 
-/// The bytes of a column of sets.
+/// The bytes of a column of sets, of borrowed cells.
 pub(crate) fn encode_sets(alloc: Global, cells: &[Option<LentValue>]) -> Result<Vec<u8>, AllocError>
     requires some { 0 < length cells.now }
     requires few { length cells.now ≤ 65536 }

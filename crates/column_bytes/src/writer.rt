@@ -1,4 +1,4 @@
-// Writing a column: the header, and the three parts behind it.
+// Writes a column: the header, then the three parts.
 ghost use Rattle.std.specs.Prelude.{◌≡◌, ◌+◌, ◌*◌, ◌<◌, ◌≤◌, ◌^◌, ◌++◌, [], length, map, List, Bool, true, IfOk, OnOk, Option, is_some, if◌then◌else◌};
 ghost use Rattle.std.specs.Int.{div_ceil};
 ghost use Rattle.byteorder.specs.Endian.{little_bytes};
@@ -101,7 +101,7 @@ fn form_byte(form: Form) -> u8
     }
 }
 
-// Kind, form, width, and whether presence bits follow.
+// The first four bytes of the header: kind, form, width, and whether presence bits follow.
 fn front_of(form: Form, width: u8, all_there: bool) -> [u8; 4]
     ensures { result ≡ front_bytes form width (if all_there then 0 else 1) }
 {
@@ -120,7 +120,7 @@ fn are_all_there(present: &[bool]) -> bool
     true
 }
 
-/// Which of the cells are there.
+/// For each cell whether it is there.
 pub(crate) fn present_in(
     alloc: Global,
     cells: &[Option<LentValue>],
@@ -130,7 +130,7 @@ pub(crate) fn present_in(
     cells.iter().map(|cell| cell.is_some()).collect(alloc)
 }
 
-/// The presence part of a column, which is left out where all cells are there.
+/// The presence part of a column. It is empty if all cells are there.
 #[derive(Drop)]
 struct Presence {
     all_there: bool,
@@ -154,7 +154,7 @@ fn presence_of(alloc: Global, present: &[bool]) -> Result<Presence, AllocError>
     }
 }
 
-/// The bytes of a column whose cells are there as said, with a code for each, and what the codes stand for.
+/// The bytes of a column, given which cells are there, a code for each cell, and what the codes stand for.
 pub(crate) fn write(
     alloc: Global,
     form: Form,
