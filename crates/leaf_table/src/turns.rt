@@ -1,21 +1,21 @@
-// What is handed in and out in one turn.
+// What a turn takes in and gives out.
 use leaf_model::{Groups, Query, Rows};
 use row_records::Pending;
 use std::snapshot::Snapshot;
 use table_state::TableState;
 
-/// What one turn asks of the table.
+/// A call, as it takes its turn.
 #[derive(Drop)]
 pub enum Turn {
     Add(Rows),
-    /// `copy` is missing where it was refused memory.
+    /// `copy` is None if memory for it ran out.
     AddCopy {
         rows: Snapshot<Rows>,
         copy: Option<Rows>,
     },
     Expire(i64),
     Keep(u64),
-    /// `copy` is missing where it was refused memory.
+    /// `copy` is None if memory for it ran out.
     Ask {
         query: Snapshot<Query>,
         copy: Option<Query>,
@@ -30,7 +30,7 @@ pub enum Turn {
     },
 }
 
-/// What one turn answers. A reply without its number, and what is handed out to the steward.
+/// The answer of a turn: a reply without its number, or what goes to the steward.
 #[derive(Drop)]
 pub enum Answer {
     Added { kept: u64, late: u64 },
