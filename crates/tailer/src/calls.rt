@@ -13,7 +13,7 @@ use leaf_table::{FleetTables, Reply, Seat};
 use std::sync::Wait;
 use std::thread::Threads;
 
-/// What is asked and added, and at which table of each leaf.
+/// What a tail asks and adds, and the table that it asks at each leaf.
 #[derive(Clone, Copy)]
 pub(crate) struct Tail<'t> {
     pub(crate) fleet: &'t FleetTables,
@@ -22,7 +22,7 @@ pub(crate) struct Tail<'t> {
     pub(crate) rows: &'t Rows,
 }
 
-/// Asks a leaf for the count of its rows.
+/// Asks a leaf for the number of its rows.
 pub(crate) fn ask_at<'t, R: Wait + Threads + Sync, G: Gate>(
     rt: &R,
     gate: &G,
@@ -42,7 +42,7 @@ pub(crate) fn ask_at<'t, R: Wait + Threads + Sync, G: Gate>(
     shared.ask(rt, seat, tail.query, gate)
 }
 
-/// Asks the second leaf of a try, where it is another than the first.
+/// Asks the second leaf of a try, if it is another than the first.
 pub(crate) fn ask_other<'t, R: Wait + Threads + Sync, G: Gate>(
     rt: &R,
     gate: &G,

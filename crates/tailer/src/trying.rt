@@ -1,4 +1,4 @@
-// The tries of a tail, one after another.
+// Makes the tries of a tail, one after another.
 ghost use Rattle.std.specs.Prelude.{◌≡◌, ◌<◌, ◌≤◌, ◌==◌, [], length, not, is_some, vec_capacity};
 ghost use Rattle.std.specs.List.{AllByRecursion};
 ghost use Rattle.rand_core.specs.Steps.{first_words};
@@ -19,7 +19,7 @@ use std::sync::Wait;
 use std::thread::Threads;
 use tail_picks::next_leaves;
 
-/// How many tries a tail has.
+/// The most tries of a tail.
 pub(crate) const TRIES: usize = 16;
 
 // One try over two leaves.
@@ -54,7 +54,7 @@ fn try_once<'t, R: Wait + Threads + Sync, G: Gate>(
     }
 }
 
-/// Tries until an add is taken, and puts down each try, for which there is room.
+/// Tries until an add is accepted, and appends each try to a list that has room for all.
 pub(crate) fn try_all<'t, R: Wait + Threads + Sync, G: Gate>(
     rt: &R,
     gate: &G,
