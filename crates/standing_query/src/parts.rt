@@ -1,4 +1,4 @@
-// Groups of a spread in parts.
+// The groups of a spread, kept in parts.
 ghost use Rattle.std.specs.Prelude.{◌≡◌, ◌≢◌, ℕ, ◌+◌, ◌<◌, ◌≤◌, ◌^◌, ◌==◌, List, [], ◌∷◌, ◌++◌, length, map, not, IfOk, IfErr, OnOk, OnSome, option_to_list};
 ghost use Rattle.std.specs.List.{list_all};
 ghost use Rattle.std.specs.Vec.{vec_len, vec_capacity};
@@ -15,17 +15,18 @@ use leaf_model::{Groups, LentRows, Query, Row, Rows};
 use std::alloc::{AllocError, Global};
 use std::mem::replace;
 
-/// More rows than this are not added to the parts, so that their groups fit.
+/// The most rows of all parts, so that their groups fit.
 const MOST_ROWS: u64 = 1 << 62;
 
-/// Groups in parts, of at most so many rows. Each had more than twice as many groups as the next one had when that came.
+/// Groups in parts, of at most `rows` rows together. When a part was appended, the one before it had more than twice as
+/// many groups.
 #[derive(Drop)]
 pub struct Parts {
     pub list: Vec<Groups>,
     pub rows: u64,
 }
 
-/// The last part, where it has at most about twice as many groups.
+/// Removes the last part, if it has at most about twice as many groups as the new one.
 fn pop_short(list: &mut Vec<Groups>, groups: usize) -> Option<Groups>
     ensures items { list.old.items ≡ list.new.items ++ option_to_list result }
     ensures fewer { OnSome result (vec_len list.new < vec_len list.old) }
@@ -38,7 +39,7 @@ fn pop_short(list: &mut Vec<Groups>, groups: usize) -> Option<Groups>
     if is_short { list.pop() } else { None }
 }
 
-/// A part more, which takes up those before it that are short beside it.
+/// Appends a part, after it was merged with each last part that is short beside it.
 fn put_part(alloc: Global, list: &mut Vec<Groups>, part: Groups) -> Result<(), AllocError>
     requires { AreCounted (list.old.items ++ part ∷ []) }
     ensures rows { (q : Query) (rows : List Row) → AreParts q rows (list.old.items ++ part ∷ []) → OnOk result (AreParts q rows list.new.items) }
@@ -67,7 +68,7 @@ fn forget_in(alloc: Global, part: &mut Groups, horizon: &i64)
     *part = retain_from(groups, horizon);
 }
 
-/// The groups of times below the horizon go, in each part.
+/// Removes the groups of times below the horizon from each part.
 fn forget(alloc: Global, list: &mut Vec<Groups>, horizon: &i64)
     ensures groups { list.new.items ≡ map (groups_from horizon.now) list.old.items }
     ensures room { vec_capacity list.new ≡ vec_capacity list.old }
@@ -87,7 +88,7 @@ pub fn are_empty(parts: &[Groups]) -> bool
 }
 
 impl Parts {
-    /// No part, and room for one.
+    /// No part, with room for one. Err if memory runs out.
     pub fn new(alloc: Global) -> Result<Parts, AllocError>
         ensures list { IfOk result (λ parts. parts.list.items ≡ []) }
         ensures rows { IfOk result (λ parts. parts.rows ≡ 0) }
@@ -99,7 +100,7 @@ impl Parts {
         })
     }
 
-    /// One part, of at most 2^40 rows, in the room of those that were there.
+    /// Replaces all parts by one, of at most 2^40 rows, without memory.
     pub fn settle(&mut self, groups: Groups)
         requires { 0 < vec_capacity self.old.list }
         ensures list { self.new.list.items ≡ groups ∷ [] }
@@ -111,7 +112,7 @@ impl Parts {
         self.rows = 1 << 40;
     }
 
-    /// No part is left; the room stays.
+    /// Removes all parts. Their room stays allocated.
     pub fn clear(&mut self)
         ensures list { self.new.list.items ≡ [] }
         ensures rows { self.new.rows ≡ 0 }
@@ -121,7 +122,7 @@ impl Parts {
         self.rows = 0;
     }
 
-    /// Rows behind those that are held.
+    /// Appends rows to those that are held.
     fn put(&mut self, spread: &Query, rows: &[Row]) -> Result<(), AllocError>
         requires of { SpreadsSome spread.now }
         requires held { (before : List Row) × Holds spread.now self.old.list.items self.old.rows before }
@@ -139,7 +140,7 @@ impl Parts {
         Ok(())
     }
 
-    /// Adds rows without the late ones.
+    /// Appends the rows that are not late.
     fn add(&mut self, spread: &Query, rows: Rows, late: u64) -> Result<(), AllocError>
         requires of { SpreadsSome spread.now }
         requires held { (before : List Row) × Holds spread.now self.old.list.items self.old.rows before }
@@ -156,7 +157,7 @@ impl Parts {
         self.put(spread, kept.as_slice())
     }
 
-    /// What an entry makes of the parts, and whether it is known then which rows there are.
+    /// Feeds an entry to the parts. Gives whether the rows are still known. Err if memory runs out.
     pub fn go_on(&mut self, spread: &Query, fed: Fed) -> Result<bool, AllocError>
         requires of { SpreadsSome spread.now }
         requires held { (before : List Row) × Holds spread.now self.old.list.items self.old.rows before }
