@@ -1,4 +1,4 @@
--- What the deeds of one leaf do, by the notes that they make.
+-- What a deed does to one leaf, by its notes.
 use Rattle.std.specs.Prelude.{◌≡◌, ◌⊎◌, ℕ, suc, ◌+◌, ◌<◌, ◌≤◌, true, List, [], ◌++◌, length, slice_get, slice_set, Option, Some, Result, Vec, IsTrue, ⊤}
 use Rattle.std.specs.Global.{Global}
 use Rattle.std.specs.List.{AllByRecursion}
@@ -29,7 +29,7 @@ use Rattle.leaf_deeds.specs.Steps.{AreLeft, copy_left}
 
 -- ---- what callers know of how a command ended
 
--- a fault of the region or of the disk is told only where the count of its faults rose
+-- a fault of region or disk is told only if the count of its faults rose
 abbrev pub FaultRose : Ending → Meaning → Meaning → Type 0
 FaultRose ending.FaultRegion m m' = Rose m.region_faults m'.region_faults
 FaultRose ending.FaultDisk m m' = Rose m.disk_faults m'.disk_faults
@@ -37,7 +37,7 @@ FaultRose _ m m' = ⊤
 
 -- ---- drains
 
--- what region and disk hold of a leaf that copies its tables
+-- region and disk hold what belongs to a leaf that copies its tables
 abbrev pub CopyStands : Copying → Meaning → Type 0
 CopyStands c m = (writes : List ℕ → List Write) × Copies (watched_by c.seated) c.drain writes m
 
@@ -47,7 +47,7 @@ pub record CarriesCopy (x : Shutting) (c : Copying) (notes : List Note) (m m' : 
   pub stands : (base : NamedStates) → IsTrue m.tells → AreFounded x.serving.seated → Stands base (IsPreparing x) m
       → CopyStands c m' × moments.Told base (watched_by x.serving.seated) (watched_by c.seated) m m'
 
--- a leaf that copied its tables comes to rest; its disk was not read
+-- a leaf that copied its tables comes to rest, and its disk was not read
 pub record CopyRests (c : Copying) (y : Seated) (notes : List Note) (m m' : Meaning) : Type 0 where
   pub made : Makes m.clock m'.clock c.seated notes y
   pub reads : m'.disk_reads ≡ m.disk_reads
@@ -58,7 +58,7 @@ pub record CopyRests (c : Copying) (y : Seated) (notes : List Note) (m m' : Mean
 abbrev pub SameRegion : Meaning → Meaning → Type 0
 SameRegion m m' = IsTrue m.tells → m'.held.region ≡ m.held.region
 
--- all tables that were left were treated, by these notes, and the copy of them is planned
+-- all tables that were left were treated, with these notes, and their copy is planned
 pub record IsCopyReady (x : Shutting) (m : Meaning) (stop : Option ℕ) (notes : List Note) (c : Copying) (m' : Meaning) (left : Option ℕ) : Type 0 where
   pub whole : Shutting
   pub made : ℕ
@@ -68,7 +68,7 @@ pub record IsCopyReady (x : Shutting) (m : Meaning) (stop : Option ℕ) (notes :
   pub carries : CarriesCopy x c notes m m'
   pub region : SameRegion m m'
 
--- as many steps were made as may be
+-- all steps that were allowed are made
 pub record IsStopped (x : Shutting) (m : Meaning) (stop : Option ℕ) (notes : List Note) (y : Shutting) (m' : Meaning) : Type 0 where
   pub made : ℕ
   pub all : stop ≡ Some made
@@ -90,7 +90,7 @@ pub record IsHalted (x : Shutting) (m : Meaning) (stop : Option ℕ) (notes : Li
   pub carries : Carries (IsPreparing x) (IsPreparing z) notes m m'
   pub region : SameRegion m m'
 
--- there was no memory to seal a table, or for the copy
+-- memory ran out, to seal a table or to plan the copy
 pub record IsStarved (x : Shutting) (m : Meaning) (stop : Option ℕ) (notes : List Note) (z : Shutting) (m' : Meaning) : Type 0 where
   pub half : Shutting
   pub made : ℕ
@@ -104,7 +104,7 @@ pub record IsStarved (x : Shutting) (m : Meaning) (stop : Option ℕ) (notes : L
   pub carries : Carries (IsPreparing x) (IsPreparing z) notes m m'
   pub region : SameRegion m m'
 
--- all tables that were left were treated, and the copy of them has no room
+-- all tables that were left were treated, and their copy has no room
 pub record IsRoomless (x : Shutting) (m : Meaning) (stop : Option ℕ) (notes : List Note) (y : Shutting) (m' : Meaning) : Type 0 where
   pub made : ℕ
   pub steps : MakesSteps made (step.Shuts x) notes (step.Shuts y)
@@ -115,7 +115,7 @@ pub record IsRoomless (x : Shutting) (m : Meaning) (stop : Option ℕ) (notes : 
   pub carries : Carries (IsPreparing x) (IsPreparing y) notes m m'
   pub region : SameRegion m m'
 
--- how the shutting of a leaf's tables ends, and how many steps are left then
+-- how the shutting of the tables ended, and how many steps are then left
 abbrev pub ShutEnds : {B : Type 0} → (B → Meaning) → Shutting → Meaning → Option ℕ → List Note → Shut B → Option ℕ → Type 0
 ShutEnds meaning x m stop notes (shut.Ready leaf) left = IsCopyReady x m stop notes leaf.0 (meaning leaf.1) left
 ShutEnds meaning x m stop notes (shut.Stopped leaf) left = IsStopped x m stop notes leaf.0 (meaning leaf.1)
@@ -131,17 +131,17 @@ berth_left (shut.Halted leaf) = leaf.1
 berth_left (shut.Starved leaf) = leaf.1
 berth_left (shut.Roomless leaf) = leaf.1
 
--- a fault of the disk is told only where the count of its faults rose
+-- a fault of the disk is told only if the count of its faults rose
 abbrev pub RoseShut : {B : Type 0} → ℕ → ℕ → Shut B → Type 0
 RoseShut before now (shut.Halted leaf) = Rose before now
 RoseShut before now _ = ⊤
 
--- tables were shut, by these notes, and how that ended; the disk was not read
+-- tables were shut, with these notes, and how that ended; the disk was not read
 pub record ShutsTables {B : Type 0} (meaning : B → Meaning) (x : Shutting) (m : Meaning) (stop : Option ℕ) (notes : List Note) (result : Shut B) (left : Option ℕ) : Type 0 where
   pub ends : ShutEnds meaning x m stop notes result left
   pub reads : (meaning (berth_left result)).disk_reads ≡ m.disk_reads
 
--- so many steps of a copy that takes so many, none of them the last, of whichever tables
+-- of the `copy` steps of a copy, whatever its tables, `made` are made, and none of them is the last
 abbrev pub MakesCopies : ℕ → ℕ → Type 0
 MakesCopies copy made = (x : Shutting) → MakesSteps made (step.Copies x copy 0) [] (step.Copies x copy made)
 
@@ -149,7 +149,8 @@ MakesCopies copy made = (x : Shutting) → MakesSteps made (step.Copies x copy 0
 abbrev pub IsCopied : Copying → Meaning → Type 0
 IsCopied c m = IsClosed m.held.region ⊎ (m.held.region ≡ c.drain.image)
 
--- How a copy ends: each table is handed over, and the region is the image; or the region failed; or as many steps were made as may be, none of them the last.
+-- How a copy ends: each table is handed over, and the region is the image; or the region failed; or all steps that were
+-- allowed are made, and none was the last.
 pub data CopyEnds (c : Copying) (stop : Option ℕ) (m m' : Meaning) (notes : List Note) (ends : Ending) (y : Seated) : Type 0 where
   done : (made : ℕ)
       → MakesCopies (copy_left c) made
@@ -177,14 +178,14 @@ pub data CopyEnds (c : Copying) (stop : Option ℕ) (m m' : Meaning) (notes : Li
       → ends ≡ ending.Stopped
       → CopyEnds c stop m m' notes ends y
 
--- a leaf that shuts its tables is killed: each that is open is closed
+-- a leaf that shuts its tables is killed: each open table is closed
 pub record IsKilled (x : Shutting) (y : Seated) (notes : List Note) (m m' : Meaning) : Type 0 where
   pub count : ℕ
   pub all : length x.closed + count ≡ length x.serving.seated.tables
   pub each : EachNoted IsClosedNote (length x.closed) count notes
   pub carries : Carries (IsPreparing x) (IsDown y) notes m m'
 
--- what a drain does to a leaf, by these notes; it does not read the disk
+-- what a drain does to a leaf, with these notes; it does not read the disk
 pub record Drains (m m' : Meaning) (leaf : Leaf) (stop : Option ℕ) (notes : List Note) (ends : Ending) (leaf' : Leaf) : Type 0 where
   pub moves : DrainMoves m m' leaf stop notes ends leaf'
   pub carries : Carries leaf leaf' notes m m'

@@ -1,4 +1,5 @@
--- What each command does to the leaves of a fleet and their callers' seats as the program holds them: the pieces that it prints, and what stands behind it.
+-- What each command does to the leaves and callers' seats that a player holds: the pieces that it prints, and what then
+-- holds.
 use Rattle.std.specs.Prelude.{◌≡◌, ◌≢◌, ℕ, zero, suc, ◌+◌, ◌<◌, ◌≤◌, true, List, [], ◌++◌, length, map, Option, Some, None, Ok, slice_get, slice_set, IsTrue, ⊤}
 use Rattle.berth_face.specs.Berth.{Meaning}
 use Rattle.leaf_history.specs.Calls.{Call}
@@ -41,7 +42,7 @@ use Rattle.leaf_moves.specs.Stage.{Leaf, IsDown, IsUp, IsPreparing, seated_of, S
 
 -- ---- the calls of callers
 
--- the piece of a call that had this reply
+-- the piece of a call with this reply
 abbrev pub IsReplyPiece : ℕ → ℕ → Call → Reply → Piece → Type 0
 IsReplyPiece leaf table c (told.Added number kept late) p = p ≡ Called leaf table c number (said.Added kept late)
 IsReplyPiece leaf table c (told.Removed number rows) p = p ≡ Called leaf table c number (said.Removed rows)
@@ -51,7 +52,7 @@ IsReplyPiece leaf table c (told.Full number) p = p ≡ Called leaf table c numbe
 IsReplyPiece leaf table c (told.NoMemory number) p = p ≡ Called leaf table c number said.RefusedMemory
 IsReplyPiece leaf table c told.Worn p = p ≡ Worn leaf table
 
--- a caller's call of a leaf's table in that place, and its piece
+-- a caller's call at a table of a leaf, and its piece
 pub record CallStep (leaf table : ℕ) (c : Call) (tables : List Shared) (callers : List (Option SeatView)) (p : Piece) (callers' : List (Option SeatView)) : Type 0 where
   pub shared : Shared
   pub before : SeatView
@@ -65,7 +66,7 @@ pub record CallStep (leaf table : ℕ) (c : Call) (tables : List Shared) (caller
 
 -- ---- notes, as they are told
 
--- what a note's line says
+-- what the line of a note says
 abbrev pub said_of_note : What → Said
 said_of_note (what.Opened writes) = said.Opened writes
 said_of_note (what.Took writes) = said.Took writes
@@ -97,7 +98,7 @@ IsUpLeaf (IsDown x) = ⊥
 IsUpLeaf (IsUp x) = ⊤
 IsUpLeaf (IsPreparing x) = ⊥
 
--- how a refused start is told
+-- the ending that tells a refused start
 abbrev pub ending_of : StartFault → Ending
 ending_of fault.RegionFault = ending.FaultRegion
 ending_of fault.DiskFault = ending.FaultDisk
@@ -106,7 +107,8 @@ ending_of (fault.Stranger name) = ending.FaultStranger name
 ending_of fault.NoMemory = ending.FaultMemory
 ending_of (fault.Worn table) = ending.FaultWorn table
 
--- a start is refused for a worn seat only where that seat is worn, and for a stranger only by a name
+-- a start that is refused for a worn seat has that seat worn, and one that is refused for a stranger names a table's
+-- name
 abbrev pub IsTrueOf : Seated → StartFault → Type 0
 IsTrueOf x (fault.Worn table) = WornAt x table
 IsTrueOf x fault.RegionFault = ⊤
@@ -115,7 +117,8 @@ IsTrueOf x fault.DiskDamaged = ⊤
 IsTrueOf x (fault.Stranger name) = IsName name
 IsTrueOf x fault.NoMemory = ⊤
 
--- what a refused start leaves of the region: what it was for a worn seat, and else, unless the region failed, an open flag closed
+-- the region after a refused start: as it was, if a seat is worn; else with an open flag closed, unless the region
+-- failed
 abbrev pub RegionRefused : StartFault → Meaning → Meaning → Type 0
 RegionRefused fault.RegionFault m m' = IsBroken m.held.region m'.held.region
 RegionRefused (fault.Worn table) m m' = m'.held.region ≡ m.held.region
@@ -128,7 +131,7 @@ pub record RefusalTold (x : Seated) (m m' : Meaning) (f : StartFault) : Type 0 w
   pub region : RegionRefused f m m'
   pub disk : BeginsScan (length m.held.disk) m.held.disk m'.held.disk
 
--- a start that is not refused, over a berth that tells its contents
+-- a start, over a berth that tells its contents
 pub record StartsTold (x : Seated) (m m' : Meaning) (s : Serving) (notes : List Note) (way : Way) : Type 0 where
   pub came : CameUp x.names m m' notes s way
   pub way_is : IsWayOf m.held.region way
@@ -165,7 +168,7 @@ ending_of_flush reply.Flushed = ending.Done
 ending_of_flush reply.DiskFault = ending.FaultDisk
 ending_of_flush reply.Worn = ending.Worn
 
--- a flush of a leaf that is up, or of another
+-- a flush of a leaf that is up, and of one that is not
 pub data FlushMoves (table : ℕ) (m m' : Meaning) (leaf : Leaf) (notes : List Note) (ends : Ending) (leaf' : Leaf) : Type 0 where
   flushed : (s s' : Serving) (r : FlushReply)
       → leaf ≡ IsUp s
@@ -181,7 +184,7 @@ pub data FlushMoves (table : ℕ) (m m' : Meaning) (leaf : Leaf) (notes : List N
       → leaf' ≡ leaf
       → FlushMoves table m m' leaf notes ends leaf'
 
--- a kill closes each open table
+-- a kill: each open table is closed
 pub data KillMoves (m m' : Meaning) (leaf : Leaf) (notes : List Note) (ends : Ending) (leaf' : Leaf) : Type 0 where
   up : (s : Serving) (y : Seated)
       → leaf ≡ IsUp s
@@ -207,13 +210,14 @@ pub data KillMoves (m m' : Meaning) (leaf : Leaf) (notes : List Note) (ends : En
 
 -- ---- drains
 
--- a leaf that begins to shut its tables, or goes on
+-- the leaf begins to shut its tables, or goes on
 abbrev pub BeginsShutting : Leaf → Shutting → Type 0
 BeginsShutting (IsDown x) y = ⊥
 BeginsShutting (IsUp s) y = y ≡ begins s
 BeginsShutting (IsPreparing x) y = y ≡ x
 
--- how far a drain has come: it shuts the tables, or all are treated and it has made so many of the steps that their copy takes
+-- how far a drain has come: it shuts the tables; or all are treated, and of the `copy` steps of their copy `made` are
+-- made
 pub data At : Type 0 where
   Shuts : (x : Shutting) → At
   Copies : (x : Shutting) (copy made : ℕ) → At
@@ -222,13 +226,15 @@ pub data At : Type 0 where
 abbrev pub AreShut : Seated → Type 0
 AreShut x = AtEach (λ place t v. SeesShut t v) x
 
--- the copy of its tables takes that many steps: the begin, the columns, the directory, and the flag. There are at least the columns that the rows ask for, and of founded tables at most
--- one for each row and each cell that was added; and each table is shut.
+-- The copy takes `copy` steps: to begin, one for each column, to write the directory, and to open the flag. It has at
+-- least the columns that the rows need, and of founded tables at most one for each row and each cell that was added.
+-- Each table is shut.
 abbrev pub HasCopyLength : Shutting → ℕ → Type 0
 HasCopyLength x copy = (3 + columns_seen x.serving.seated.tables x.serving.seated.seats ≤ copy)
     × (AreFounded x.serving.seated → copy ≤ 3 + columns_added x.serving.seated.tables x.serving.seated.seats) × AreShut x.serving.seated
 
--- One step that neither ends the drain nor fails: one table more is treated; or all are, and their copy is planned; or a step of the copy is made.
+-- One step that neither ends the drain nor fails: one more table is treated; or all are, and their copy is planned; or
+-- a step of the copy is made.
 pub data MakesStep (s : At) (notes : List Note) (t : At) : Type 0 where
   treats : (x y : Shutting)
       → s ≡ Shuts x
@@ -251,7 +257,7 @@ pub data MakesStep (s : At) (notes : List Note) (t : At) : Type 0 where
       → t ≡ Copies x copy (suc made)
       → MakesStep s notes t
 
--- so many of them
+-- n such steps
 pub data MakesSteps : ℕ → At → List Note → At → Type 0 where
   none : (n : ℕ) (s : At) (notes : List Note) (t : At)
       → n ≡ 0
@@ -265,13 +271,14 @@ pub data MakesSteps : ℕ → At → List Note → At → Type 0 where
       → notes ≡ first ++ others
       → MakesSteps n s notes t
 
--- what the region is of a leaf that was killed behind so many steps of the copy: untouched, or begun and closed
+-- the region of a leaf that was killed after this many steps of the copy: untouched after none, else begun and closed
 abbrev pub RegionStopped : ℕ → Meaning → Meaning → Type 0
 RegionStopped zero m m' = m'.held.region ≡ m.held.region
 RegionStopped (suc made) m m' = IsWayOf m'.held.region (Disk (why.Closed 0))
 
--- A drain makes its steps until one is the last and each table is handed over; or the region fails, and the leaf is down; or the copy has no room; or there is no memory; or the disk
--- fails; or it has made as many steps as it was to make, and the leaf is killed; or the leaf is down. What a copy leaves that ended or failed names no stranger.
+-- How a drain ends. All steps are made, and each table is handed over; or the region fails, and the leaf is down; or
+-- the copy has no room; or memory runs out; or the disk fails; or `stop` steps are made, and the leaf is killed; or the
+-- leaf was down. The region after a copy that ended or failed names no stranger.
 pub data DrainMoves (m m' : Meaning) (leaf : Leaf) (stop : Option ℕ) (notes : List Note) (ends : Ending) (leaf' : Leaf) : Type 0 where
   done : (x y : Shutting) (z : Seated) (treating handing : List Note) (n copy made : ℕ)
       → BeginsShutting leaf x
@@ -356,14 +363,14 @@ pub data DrainMoves (m m' : Meaning) (leaf : Leaf) (stop : Option ℕ) (notes : 
 
 -- ---- deeds
 
--- what a deed does to a leaf, with its notes and how it ended
+-- what a deed does to a leaf, with its notes and its ending
 abbrev pub Moves : Deed → Meaning → Meaning → Leaf → List Note → Ending → Leaf → Type 0
 Moves Start m m' leaf notes ends leaf' = StartMoves m m' leaf notes ends leaf'
 Moves (Flush table) m m' leaf notes ends leaf' = FlushMoves table m m' leaf notes ends leaf'
 Moves (Drain stop) m m' leaf notes ends leaf' = DrainMoves m m' leaf stop notes ends leaf'
 Moves Kill m m' leaf notes ends leaf' = KillMoves m m' leaf notes ends leaf'
 
--- a deed of the steward of the leaf with this number, between two meetings of all seats
+-- a deed of the steward of leaf `number`, between two meetings of all seats
 pub record DeedStep (number : ℕ) (deed : Deed) (m m' : Meaning) (leaf : Leaf) (callers : List (Option SeatView)) (p : Piece) (leaf' : Leaf) (callers' : List (Option SeatView)) : Type 0 where
   pub met : Leaf
   pub met_callers : List (Option SeatView)

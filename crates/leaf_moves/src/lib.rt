@@ -1,2 +1,3 @@
-//! How a run moves the seats and leaves that it holds: what a call, a deed and a meeting make of them, what a command does, and how lanes are cut off and taken back. Definitions alone.
+//! How the leaves and seats of a run change: by a call, a deed, a meeting, a command, and when lanes are cut off and
+//! taken back. Definitions alone.
 #![tactic(auto)]
