@@ -51,7 +51,7 @@ Stands base (IsDown x) m = (least : List ℕ → List Write) × (next : Option L
 Stands base (IsUp x) m = ServingStands x m
 Stands base (IsPreparing x) m = ServingStands x.serving m
 
--- for each name the base is a table that has not been opened
+-- the base of each name is that of a table to which nothing was handed in
 abbrev pub AreHandedNothing : NamedStates → Type 0
 AreHandedNothing base = (name : List ℕ) → IsFoundation (base name)
 
