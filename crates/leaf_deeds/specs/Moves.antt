@@ -27,7 +27,7 @@ use Rattle.leaf_deeds.specs.declared.drain.Shut.{Shut}
 use Rattle.leaf_deeds.specs.declared.drain.Shut.TheVariants as shut
 use Rattle.leaf_deeds.specs.Steps.{AreLeft, copy_left}
 
--- ---- what callers know of how a command ended
+-- ---- what the ending of a deed tells
 
 -- a fault of region or disk is told only if the count of its faults rose
 abbrev pub FaultRose : Ending → Meaning → Meaning → Type 0

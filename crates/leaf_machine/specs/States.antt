@@ -37,7 +37,7 @@ pub record Copying : Type 0 where
 abbrev pub treated : Shutting → ℕ
 treated x = if x.waits then length x.closed - 1 else length x.closed
 
--- ---- how many columns tables have at least, and at most
+-- ---- bounds on the columns of tables
 
 -- the least number of columns of all tables, as their seats have last seen them
 abbrev pub columns_seen : List Shared → List SeatView → ℕ
@@ -57,7 +57,7 @@ bulk_added [] vs = 0
 bulk_added (t ∷ ts) [] = 0
 bulk_added (t ∷ ts) (v ∷ vs) = length (state_seen (base_seen t) v).writes + added_count (state_seen (base_seen t) v).writes + bulk_added ts vs
 
--- ---- what region and disk hold, where the tables are founded
+-- ---- what region and disk hold of founded tables
 
 abbrev pub DownStands : Seated → Meaning → Type 0
 DownStands x m = AreFounded x → IsTrue m.tells × ((others : NamedStates) × (least : List ℕ → List Write) × (next : Option LogRecord) × Rests (watched_by x) others least next m)
@@ -68,7 +68,7 @@ UpStands x m = AreFounded x.seated → IsTrue m.tells × ((writes : List ℕ →
 abbrev pub CopyStands : Copying → Meaning → Type 0
 CopyStands x m = AreFounded x.seated → IsTrue m.tells × ((writes : List ℕ → List Write) × Copies (watched_by x.seated) x.drain writes m)
 
--- ---- what every leaf is
+-- ---- invariants of the states
 
 -- at rest: each table is shut
 pub record IsDown (x : Seated) (m : Meaning) : Type 0 where

@@ -21,7 +21,7 @@ use Rattle.leaf_model.specs.declared.lent_rows.LentRows.TheVariants as rows
 use Rattle.leaf_model.specs.Reading.{texts_at, rows_at}
 use Rattle.leaf_model.specs.Fronts.{front_of, any_cells_at}
 
--- ---- what is lent
+-- ---- what borrowed values mean
 
 -- texts spelled at the start of bytes, and texts in either form
 abbrev pub spelled_texts : SpelledTexts → List (List ℕ)
@@ -61,7 +61,7 @@ abbrev pub lent_rows : LentRows → List Row
 lent_rows (rows.Owned rows) = rows.now
 lent_rows (rows.Spelled rows) = spelled_rows rows
 
--- ---- lists of what is lent
+-- ---- lists of borrowed values
 
 -- the values, each of them present or not
 abbrev pub each_value : List (Option LentValue) → List (Option Value)
@@ -75,7 +75,7 @@ each_cells rests = map lent_cells rests
 abbrev pub each_row : List LentRow → List Row
 each_row rows = map lent_row rows
 
--- ---- the first of a list and the others, or nothing of an empty one
+-- ---- lists from their first element and the others, or from None
 
 abbrev pub texts_before : Option (Bor (List ℕ) × SpelledTexts) → List (List ℕ)
 texts_before None = []

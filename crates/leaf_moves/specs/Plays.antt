@@ -19,7 +19,7 @@ use Rattle.leaf_moves.specs.Holds.{Hold, GoOn, grounds_in, with_callers, with_le
 use Rattle.leaf_moves.specs.Stage.{Leaf}
 use Rattle.leaf_moves.specs.Steps.{CallStep, DeedStep}
 
--- ---- several of them
+-- ---- steps of several leaves
 
 -- The steps of callers and stewards, piece by piece. A call changes the callers' seat at one table. A deed changes one
 -- leaf, its seats and its berth. A line changes nothing.

@@ -39,7 +39,7 @@ with_seats (IsDown x) seats = IsDown (seated_with x seats)
 with_seats (IsUp x) seats = IsUp (serving_with x seats)
 with_seats (IsPreparing x) seats = IsPreparing (record { serving = serving_with x.serving seats; closed = x.closed; waits = x.waits })
 
--- ---- what stands of it
+-- ---- what region and disk hold of a leaf
 
 -- region and disk hold what belongs to a leaf that serves its tables
 abbrev pub ServingStands : Serving → Meaning → Type 0

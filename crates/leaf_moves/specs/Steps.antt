@@ -64,7 +64,7 @@ pub record CallStep (leaf table : ℕ) (c : Call) (tables : List Shared) (caller
   pub now : callers' ≡ slice_set callers table (Some after)
   pub says : IsReplyPiece leaf table c reply p
 
--- ---- notes, as they are told
+-- ---- the lines of notes
 
 -- what the line of a note says
 abbrev pub said_of_note : What → Said

@@ -74,7 +74,7 @@ abbrev pub ArePartsOf : {E : Type 0} → Result (Vec (Vec Line Global) Global) E
 ArePartsOf (Ok before) pieces after = lines_of after ≡ lines_of before.items ++ map piece_lines pieces
 ArePartsOf (Err e) pieces after = ⊥
 
--- ---- a chain of them
+-- ---- chains of deeds
 
 -- the piece of a drain with this answer
 abbrev pub IsDrained : ℕ → Drained → Piece → Type 0

@@ -79,7 +79,7 @@ pub record IsBlock (b : Block) : Type 0 where
   pub ascend : IsStrictlySortedBy heading_cmp (map heading others)
   pub rows_are : AllByRecursion IsRow (rows_in b)
 
--- ---- what is asked of a block
+-- ---- what callers ask of a block
 
 abbrev pub times_of : List Row → List ℤ
 times_of rows = map (λ (row : Row). row.time) rows

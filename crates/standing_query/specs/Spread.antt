@@ -56,7 +56,7 @@ cells_read q = names_before (names_read q) []
 abbrev pub spread : Query → Query
 spread q = record { table = q.table; from = pos 0; to = pos (2 ^ 63 - 1); conds = []; keys = time_name ∷ cells_read q; aggs = Count ∷ []; order = None; limit = 100000 }
 
--- ---- and back
+-- ---- from the spread back to the query
 
 abbrev pub value_shown : Key → Option Value
 value_shown key.Missing = None

@@ -98,7 +98,7 @@ abbrev pub CallsOn : List (List Shared) → ℕ → List SeatView → List LeafC
 CallsOn fleet table vs [] ws = ws ≡ vs
 CallsOn fleet table vs (c ∷ cs) ws = (between : List SeatView) × CallAt fleet table vs c between × CallsOn fleet table between cs ws
 
--- ---- what they saw
+-- ---- the rows that the calls saw
 
 -- an answer counts the rows before its entry, by the bases and histories of the leaves
 abbrev pub IsOverRows : (ℕ → Option TableBase) → (ℕ → List Entry) → LeafCall → Type 0

@@ -47,7 +47,7 @@ IsKnown None m None = ⊤
 IsKnown (Some base) m (Some k) = (k.base ≡ base) × (k.held ≡ m.held) × IsWayOf m.held.region k.way × ((name : List ℕ) → LogHas m.held.disk name (k.read name))
 IsKnown _ m _ = ⊥
 
--- ---- all of them
+-- ---- all berths
 
 module _ {B : Type 0} (meaning : B → Meaning) (olds news : List B) where
   -- P holds of the leaf's berth, as it was and as it is

@@ -42,7 +42,7 @@ pub record Life : Type 0 where
   -- the leaf was up before
   pub begun : Bool
 
--- ---- entries, but for their numbers
+-- ---- entries without their numbers
 
 -- the notes say this, one of each table from `place` on
 abbrev pub Notes : ℕ → List Said → List Noted → Type 0
@@ -247,7 +247,7 @@ OfKill tables life notes ends.Done next = (p : Progress) × BeginsAt life.mode p
 OfKill tables life notes ends.NotUp next = (life.mode ≡ Down) × (notes ≡ []) × (next ≡ life)
 OfKill tables life notes _ next = ⊥
 
--- ---- all of it
+-- ---- a whole life
 
 -- what a deed prints and leaves, of a leaf with this many tables, whose base is known or not
 abbrev pub Does : Bool → ℕ → Columns → Deed → Life → List Noted → Ending → Life → Type 0

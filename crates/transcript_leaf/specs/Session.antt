@@ -137,7 +137,7 @@ pub record AreInPlace (names : List (List ℕ)) (x : Seated) : Type 0 where
   pub seats : length x.seats ≡ length names
   pub distinct : AreDistinct names
 
--- ---- what stands of a leaf with a base
+-- ---- a leaf with a known base
 
 -- the berth tells its contents, and region and disk hold what belongs to the leaf
 pub record StandsKnown (k : Known) (leaf : Leaf) (m : Meaning) : Type 0 where

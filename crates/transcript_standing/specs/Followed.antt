@@ -27,7 +27,7 @@ use Rattle.transcript.specs.Shapes.{CallPiece}
 use Rattle.transcript.specs.Histories.{Ground}
 use Rattle.transcript.specs.Telling.{why_untold}
 
--- ---- which items
+-- ---- commands that may be played
 
 -- each row has a valid time
 abbrev pub AreTimes : List Row → Type 0
@@ -48,7 +48,7 @@ abbrev pub IsPlayable : PlayedItem → Type 0
 IsPlayable (One p) = HasTimes p.command
 IsPlayable (Burst lanes) = AllByRecursion (λ (p : Played). IsOfLane p.command) (plays_of (Burst lanes))
 
--- ---- which standing queries
+-- ---- standing queries of the fleet
 
 -- a standing query of a table of the fleet
 abbrev pub IsFollower : Fleet → Follower → Type 0
@@ -57,7 +57,7 @@ IsFollower fleet f = (f.leaf < leaf_count fleet) × (f.table < length fleet.name
 abbrev pub AreFollowers : Fleet → List Follower → Type 0
 AreFollowers fleet followers = AllByRecursion (IsFollower fleet) followers
 
--- ---- what they themselves did
+-- ---- what the queries did themselves
 
 -- what a fresh state tells: the answer over the rows that it stands for
 abbrev pub TellsState : ℕ → Follower → Line → Type 0
