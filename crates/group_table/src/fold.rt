@@ -71,9 +71,11 @@ fn fill<'a>(
     requires start { MayGrow query.now (length (kept horizon (lent_rows rows.now))) start }
     ensures bound { IfOk result (λ first. first.rows ≤ length (lent_rows rows.now)) }
     ensures some { IfOk result (λ first. 0 < length (lent_rows rows.now) → 0 < first.rows) }
-    ensures value { (xs : List Row) → start ≡ groups query.now xs → IfOk result (λ first. first.table ≡ groups query.now (xs ++ kept horizon (take first.rows (lent_rows rows.now)))) }
+    ensures value { (xs : List Row) → start ≡ groups query.now xs → IfOk result (λ first.
+        first.table ≡ groups query.now (xs ++ kept horizon (take first.rows (lent_rows rows.now)))) }
     ensures left { IfOk result (λ first. lent_rows first.left ≡ drop first.rows (lent_rows rows.now)) }
-    ensures within { (m : ℕ) → AllByRecursion (IsWithin m) start → IfOk result (λ first. AllByRecursion (IsWithin (m + length (kept horizon (take first.rows (lent_rows rows.now))))) first.table) }
+    ensures within { (m : ℕ) → AllByRecursion (IsWithin m) start → IfOk result (λ first.
+        AllByRecursion (IsWithin (m + length (kept horizon (take first.rows (lent_rows rows.now))))) first.table) }
 {
     let sought = sought_by(alloc, query)?;
     let mut seen = room_for(alloc, sought.len())?;
@@ -112,8 +114,10 @@ pub fn fold_within(
     limits: Limits,
 ) -> Result<Groups, AllocError>
     requires start { MayGrow query.now (length (kept horizon (lent_rows rows.now))) start }
-    ensures value { (xs : List Row) → start ≡ groups query.now xs → IfOk result (λ gs. gs ≡ groups query.now (xs ++ kept horizon (lent_rows rows.now))) }
-    ensures within { (m : ℕ) → AllByRecursion (IsWithin m) start → IfOk result (λ gs. AllByRecursion (IsWithin (m + length (kept horizon (lent_rows rows.now)))) gs) }
+    ensures value { (xs : List Row) → start ≡ groups query.now xs
+        → IfOk result (λ gs. gs ≡ groups query.now (xs ++ kept horizon (lent_rows rows.now))) }
+    ensures within { (m : ℕ) → AllByRecursion (IsWithin m) start
+        → IfOk result (λ gs. AllByRecursion (IsWithin (m + length (kept horizon (lent_rows rows.now)))) gs) }
 {
     let first = fill(alloc, query, start, rows, horizon, limits)?;
     if first.rows == rows.len() {
@@ -147,8 +151,10 @@ pub fn fold_onto(
     horizon: i64,
 ) -> Result<Groups, AllocError>
     requires { MayGrow query.now (length (rows_from horizon (lent_rows rows.now))) start }
-    ensures value { (xs : List Row) → start ≡ groups query.now xs → IfOk result (λ gs. gs ≡ groups query.now (xs ++ rows_from horizon (lent_rows rows.now))) }
-    ensures within { (m : ℕ) → AllByRecursion (IsWithin m) start → IfOk result (λ gs. AllByRecursion (IsWithin (m + length (rows_from horizon (lent_rows rows.now)))) gs) }
+    ensures value { (xs : List Row) → start ≡ groups query.now xs
+        → IfOk result (λ gs. gs ≡ groups query.now (xs ++ rows_from horizon (lent_rows rows.now))) }
+    ensures within { (m : ℕ) → AllByRecursion (IsWithin m) start
+        → IfOk result (λ gs. AllByRecursion (IsWithin (m + length (rows_from horizon (lent_rows rows.now)))) gs) }
 {
     fold_within(alloc, query, start, rows, Some(horizon), LIMITS)
 }

@@ -83,8 +83,10 @@ fn join_group(mine: Group, theirs: &Group) -> Group
 /// Takes the least group off both tables, joined if both have its keys.
 fn take_first(mine: &mut VecDeque<Group>, theirs: &mut VecDeque<Group>) -> Option<Group>
     requires { AllByRecursion FitsGroup (joined mine.old.items theirs.old.items) }
-    ensures taken { joined mine.old.items theirs.old.items ≡ option_to_list result ++ joined mine.new.items theirs.new.items }
-    ensures fewer { OnSome result (deque_len mine.new + deque_len theirs.new < deque_len mine.old + deque_len theirs.old) }
+    ensures taken { joined mine.old.items theirs.old.items
+        ≡ option_to_list result ++ joined mine.new.items theirs.new.items }
+    ensures fewer { OnSome result
+        (deque_len mine.new + deque_len theirs.new < deque_len mine.old + deque_len theirs.old) }
     ensures all { IfNone result (joined mine.old.items theirs.old.items ≡ []) }
 {
     let order = match mine.front() {
@@ -135,8 +137,10 @@ pub fn join_tables(alloc: Global, a: Groups, b: Groups) -> Result<Groups, AllocE
 /// Merges the groups of two lists of rows into those of both. Err if memory runs out.
 pub fn merge(alloc: Global, a: Groups, b: Groups) -> Result<Groups, AllocError>
     requires { AllByRecursion FitsGroup (joined a b) }
-    ensures within { (m n : ℕ) → AllByRecursion (IsWithin m) a → AllByRecursion (IsWithin n) b → IfOk result (λ gs. AllByRecursion (IsWithin (m + n)) gs) }
-    ensures both { (q : Query) → (xs ys : List Row) → a ≡ groups q xs → b ≡ groups q ys → IfOk result (λ gs. gs ≡ groups q (xs ++ ys)) }
+    ensures within { (m n : ℕ) → AllByRecursion (IsWithin m) a
+        → AllByRecursion (IsWithin n) b → IfOk result (λ gs. AllByRecursion (IsWithin (m + n)) gs) }
+    ensures both { (q : Query) → (xs ys : List Row)
+        → a ≡ groups q xs → b ≡ groups q ys → IfOk result (λ gs. gs ≡ groups q (xs ++ ys)) }
 {
     Ok(join_tables(alloc, a, b)?)
 }

@@ -69,7 +69,8 @@ fn folds_of(alloc: Global, aggs: &[Agg], seen: &[Option<LentValue>]) -> Result<F
 
 pub fn folds_of_row(alloc: Global, query: &Query, row: &SeenRow) -> Result<Folds, AllocError>
     requires { AreSeen query.now row.now }
-    ensures value { IfOk result (λ fs. fs ≡ map (λ agg. fold_of (agg_ints agg (seen_row row.now ∷ []))) query.now.aggs) }
+    ensures value { IfOk result (λ fs.
+        fs ≡ map (λ agg. fold_of (agg_ints agg (seen_row row.now ∷ []))) query.now.aggs) }
     ensures within { IfOk result (λ fs. AllByRecursion (IsFoldWithin 1) fs) }
 {
     folds_of(alloc, query.aggs.as_slice(), row.aggs)

@@ -42,7 +42,8 @@ impl<'s, 'a> SeenRow<'s, 'a> {
 }
 
 fn look_for_conds<'q>(sought: &mut Vec<Sought<'q>>, conds: &'q [Cond]) -> Result<(), AllocError>
-    ensures { (row : Row) → IfOk result (λ done. map (sought_in row) sought.new.items ≡ map (sought_in row) sought.old.items ++ values_in row (map (λ (c : Cond). c.name) conds.now)) }
+    ensures { (row : Row) → IfOk result (λ done. map (sought_in row) sought.new.items
+        ≡ map (sought_in row) sought.old.items ++ values_in row (map (λ (c : Cond). c.name) conds.now)) }
 {
     for cond in conds {
         sought.push(Sought::of(&cond.name))?;
@@ -51,7 +52,8 @@ fn look_for_conds<'q>(sought: &mut Vec<Sought<'q>>, conds: &'q [Cond]) -> Result
 }
 
 fn look_for_keys<'q>(sought: &mut Vec<Sought<'q>>, names: &'q [Text]) -> Result<(), AllocError>
-    ensures { (row : Row) → IfOk result (λ done. map (sought_in row) sought.new.items ≡ map (sought_in row) sought.old.items ++ values_in row names.now) }
+    ensures { (row : Row) → IfOk result (λ done.
+        map (sought_in row) sought.new.items ≡ map (sought_in row) sought.old.items ++ values_in row names.now) }
 {
     for name in names {
         sought.push(Sought::of(name))?;
@@ -72,7 +74,8 @@ fn sought_for<'q>(agg: &'q Agg) -> Sought<'q>
 }
 
 fn look_for_aggs<'q>(sought: &mut Vec<Sought<'q>>, aggs: &'q [Agg]) -> Result<(), AllocError>
-    ensures { (row : Row) → IfOk result (λ done. map (sought_in row) sought.new.items ≡ map (sought_in row) sought.old.items ++ values_in row (map agg_name aggs.now)) }
+    ensures { (row : Row) → IfOk result (λ done. map (sought_in row) sought.new.items
+        ≡ map (sought_in row) sought.old.items ++ values_in row (map agg_name aggs.now)) }
 {
     for agg in aggs {
         sought.push(sought_for(agg))?;
@@ -82,7 +85,8 @@ fn look_for_aggs<'q>(sought: &mut Vec<Sought<'q>>, aggs: &'q [Agg]) -> Result<()
 
 /// What a query looks up in a row: the names of its conditions, then of its keys, then of its aggregates.
 pub fn sought_by<'q>(alloc: Global, query: &'q Query) -> Result<Vec<Sought<'q>>, AllocError>
-    ensures { (row : Row) → IfOk result (λ sought. map (sought_in row) sought.items ≡ values_in row (names_in query.now)) }
+    ensures { (row : Row) → IfOk result (λ sought.
+        map (sought_in row) sought.items ≡ values_in row (names_in query.now)) }
 {
     let mut sought = Vec::new(alloc);
     look_for_conds(&mut sought, query.conds.as_slice())?;

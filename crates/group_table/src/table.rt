@@ -39,7 +39,8 @@ fn stands_at(table: &[Group], place: usize, keys: &[Option<LentValue>]) -> bool
 fn search_for(table: &[Group], keys: &[Option<LentValue>]) -> usize
     requires { Ascends (keys_in table.now) }
     ensures bound { result ≤ length table.now }
-    ensures place { (g : Group) → g.keys ≡ map seen_key keys.now → joined table.now (g ∷ []) ≡ take result table.now ++ put_first g (drop result table.now) }
+    ensures place { (g : Group) → g.keys ≡ map seen_key keys.now
+        → joined table.now (g ∷ []) ≡ take result table.now ++ put_first g (drop result table.now) }
 {
     table.partition_point(|group| compare_with(group.keys.as_slice(), keys) == Ordering::Less)
 }
@@ -50,7 +51,8 @@ pub fn place_of(table: &[Group], keys: &[Option<LentValue>]) -> Place
     ensures bound { result.at ≤ length table.now }
     ensures there { result.is_there ≡ is_first (map seen_key keys.now) (drop result.at table.now) }
     ensures inside { result.is_there ≡ true → result.at < length table.now }
-    ensures place { (g : Group) → g.keys ≡ map seen_key keys.now → joined table.now (g ∷ []) ≡ take result.at table.now ++ put_first g (drop result.at table.now) }
+    ensures place { (g : Group) → g.keys ≡ map seen_key keys.now
+        → joined table.now (g ∷ []) ≡ take result.at table.now ++ put_first g (drop result.at table.now) }
 {
     let at = search_for(table, keys);
     let is_there = stands_at(table, at, keys);
@@ -105,8 +107,10 @@ fn add_folds(folds: Vec<Fold>, query: &Query, row: &SeenRow) -> Vec<Fold>
     requires seen { AreSeen query.now row.now }
     requires same { vec_len folds ≡ length query.now.aggs }
     requires within { AllByRecursion (IsFoldWithin (2 ^ 64 - 2)) folds.items }
-    ensures value { result.items ≡ joined_folds folds.items (map (λ agg. fold_of (agg_ints agg (seen_row row.now ∷ []))) query.now.aggs) }
-    ensures row { AllByRecursion (IsFoldWithin 1) (map (λ agg. fold_of (agg_ints agg (seen_row row.now ∷ []))) query.now.aggs) }
+    ensures value { result.items
+        ≡ joined_folds folds.items (map (λ agg. fold_of (agg_ints agg (seen_row row.now ∷ []))) query.now.aggs) }
+    ensures row { AllByRecursion (IsFoldWithin 1)
+        (map (λ agg. fold_of (agg_ints agg (seen_row row.now ∷ []))) query.now.aggs) }
 {
     add_cells(folds, query.aggs.as_slice(), row.aggs)
 }
@@ -116,7 +120,8 @@ pub fn add_to(alloc: Global, group: &mut Group, query: &Query, row: &SeenRow)
     requires seen { AreSeen query.now row.now }
     requires same { length group.old.folds ≡ length query.now.aggs }
     requires within { IsWithin (2 ^ 64 - 2) group.old }
-    ensures value { (ks : List Key) → group.new ≡ joined_group group.old (group_of query.now ks (seen_row row.now ∷ [])) }
+    ensures value { (ks : List Key)
+        → group.new ≡ joined_group group.old (group_of query.now ks (seen_row row.now ∷ [])) }
     ensures row { (ks : List Key) → IsWithin 1 (group_of query.now ks (seen_row row.now ∷ [])) }
 {
     let folds = std::mem::replace(&mut group.folds, Folds::of(Vec::new(alloc)));
@@ -138,8 +143,10 @@ pub fn put_row(
     requires inside { place.is_there ≡ true → place.at < vec_len table }
     requires same { AllByRecursion (λ (g : Group). length g.folds ≡ length query.now.aggs) table.items }
     requires within { AllByRecursion (IsWithin (2 ^ 64 - 2)) table.items }
-    ensures value { IfOk result (λ gs. gs.items ≡ take place.at table.items ++ put_first (group_of query.now (map seen_key row.now.keys.now) (seen_row row.now ∷ [])) (drop place.at table.items)) }
-    ensures row { IfOk result (λ gs. AllByRecursion (IsWithin 1) (group_of query.now (map seen_key row.now.keys.now) (seen_row row.now ∷ []) ∷ [])) }
+    ensures value { IfOk result (λ gs. gs.items ≡ take place.at table.items ++ put_first
+        (group_of query.now (map seen_key row.now.keys.now) (seen_row row.now ∷ [])) (drop place.at table.items)) }
+    ensures row { IfOk result (λ gs.
+        AllByRecursion (IsWithin 1) (group_of query.now (map seen_key row.now.keys.now) (seen_row row.now ∷ []) ∷ [])) }
 {
     if place.is_there {
         add_to(alloc, &mut table[place.at], query, row);

@@ -64,8 +64,10 @@ fn add_row(
 ) -> Result<Tables, AllocError>
     requires seen { AreSeen query.now row.now }
     requires split { IsSplit (2 ^ 64 - 2) query.now tables.settled.items tables.fresh.items }
-    ensures value { IfOk result (λ ts. joined ts.settled.items ts.fresh.items ≡ joined (joined tables.settled.items tables.fresh.items) (groups query.now (seen_row row.now ∷ []))) }
-    ensures split { IfOk result (λ ts. (n : ℕ) → IsSplit n query.now tables.settled.items tables.fresh.items → IsSplit (n + 1) query.now ts.settled.items ts.fresh.items) }
+    ensures value { IfOk result (λ ts. joined ts.settled.items ts.fresh.items
+        ≡ joined (joined tables.settled.items tables.fresh.items) (groups query.now (seen_row row.now ∷ []))) }
+    ensures split { IfOk result (λ ts. (n : ℕ) → IsSplit n query.now tables.settled.items tables.fresh.items
+        → IsSplit (n + 1) query.now ts.settled.items ts.fresh.items) }
 {
     if !is_passing(query, row) {
         return Ok(tables);
@@ -101,8 +103,10 @@ fn make_room(
     most: usize,
 ) -> Result<Tables, AllocError>
     requires { AllByRecursion FitsGroup (joined tables.settled.items tables.fresh.items) }
-    ensures value { IfOk result (λ ts. joined ts.settled.items ts.fresh.items ≡ joined tables.settled.items tables.fresh.items) }
-    ensures split { IfOk result (λ ts. (n : ℕ) → (q : Query) → IsSplit n q tables.settled.items tables.fresh.items → IsSplit n q ts.settled.items ts.fresh.items) }
+    ensures value { IfOk result (λ ts.
+        joined ts.settled.items ts.fresh.items ≡ joined tables.settled.items tables.fresh.items) }
+    ensures split { IfOk result (λ ts. (n : ℕ) → (q : Query)
+        → IsSplit n q tables.settled.items tables.fresh.items → IsSplit n q ts.settled.items ts.fresh.items) }
 {
     if !guessed.is_due(tables.settled.len(), most) {
         return Ok(tables);
@@ -136,9 +140,12 @@ pub fn take_row(
     most: usize,
 ) -> Result<Tables, AllocError>
     requires seen { AreSeen query.now row.now }
-    requires split { is_kept horizon (seen_row row.now) ≡ true → IsSplit (2 ^ 64 - 2) query.now tables.settled.items tables.fresh.items }
-    ensures value { IfOk result (λ ts. joined ts.settled.items ts.fresh.items ≡ joined (joined tables.settled.items tables.fresh.items) (groups query.now (kept horizon (seen_row row.now ∷ [])))) }
-    ensures split { IfOk result (λ ts. (n : ℕ) → IsSplit n query.now tables.settled.items tables.fresh.items → IsSplit (n + length (kept horizon (seen_row row.now ∷ []))) query.now ts.settled.items ts.fresh.items) }
+    requires split { is_kept horizon (seen_row row.now) ≡ true
+        → IsSplit (2 ^ 64 - 2) query.now tables.settled.items tables.fresh.items }
+    ensures value { IfOk result (λ ts. joined ts.settled.items ts.fresh.items ≡ joined
+        (joined tables.settled.items tables.fresh.items) (groups query.now (kept horizon (seen_row row.now ∷ [])))) }
+    ensures split { IfOk result (λ ts. (n : ℕ) → IsSplit n query.now tables.settled.items tables.fresh.items
+        → IsSplit (n + length (kept horizon (seen_row row.now ∷ []))) query.now ts.settled.items ts.fresh.items) }
 {
     if !is_kept(row.row, horizon) {
         return Ok(tables);

@@ -74,8 +74,12 @@ fn place_from(sought: &[Sought], from: usize, name: &str) -> usize
     requires { from ≤ length sought.now }
     ensures bound { result ≤ length sought.now }
     ensures onward { from ≤ result }
-    ensures hit { result < length sought.now → (s : Sought) → is_sought (slice_index_or sought.now result s) name.now ≡ true }
-    ensures passed { (items : List (Option LentValue)) (value : Value) (others : List Cell) → length items ≡ length sought.now → filled_from sought.now items result (record { name = name.now; value = value }) others ≡ filled_from sought.now items from (record { name = name.now; value = value }) others }
+    ensures hit { result < length sought.now
+        → (s : Sought) → is_sought (slice_index_or sought.now result s) name.now ≡ true }
+    ensures passed { (items : List (Option LentValue)) (value : Value) (others : List Cell)
+        → length items ≡ length sought.now
+        → filled_from sought.now items result (record { name = name.now; value = value }) others
+        ≡ filled_from sought.now items from (record { name = name.now; value = value }) others }
 {
     let mut i = from;
     while i < sought.len() {
@@ -90,7 +94,9 @@ fn place_from(sought: &[Sought], from: usize, name: &str) -> usize
 /// Sets `seen` to the value, if it is None.
 #[inline(always)]
 fn note_one<'b>(value: LentValue<'b>, seen: &mut Option<LentValue<'b>>)
-    ensures { (s : Sought) (name : List ℕ) (others : List Cell) → is_sought s name ≡ true → filled_one s (option_map lent_value seen.new) others ≡ filled_one s (option_map lent_value seen.old) (record { name = name; value = lent_value value.entry } ∷ others) }
+    ensures { (s : Sought) (name : List ℕ) (others : List Cell)
+        → is_sought s name ≡ true → filled_one s (option_map lent_value seen.new) others ≡ filled_one s
+        (option_map lent_value seen.old) (record { name = name; value = lent_value value.entry } ∷ others) }
 {
     if seen.is_none() {
         *seen = Some(value);
@@ -108,9 +114,11 @@ fn note_from<'b>(
 )
     requires same { vec_len seen.old ≡ length sought.now }
     requires bound { from ≤ length sought.now }
-    requires hit { from < length sought.now → (s : Sought) → is_sought (slice_index_or sought.now from s) name.now ≡ true }
+    requires hit { from < length sought.now → (s : Sought)
+        → is_sought (slice_index_or sought.now from s) name.now ≡ true }
     ensures same { vec_len seen.new ≡ length sought.now }
-    ensures filled { (others : List Cell) → filled sought.now (each_value seen.new.items) others ≡ filled_from sought.now seen.old.items from (record { name = name.now; value = lent_value value.entry }) others }
+    ensures filled { (others : List Cell) → filled sought.now (each_value seen.new.items) others ≡ filled_from
+        sought.now seen.old.items from (record { name = name.now; value = lent_value value.entry }) others }
 {
     let mut i = from;
     while i < sought.len() {
@@ -123,7 +131,8 @@ fn note_from<'b>(
 fn note<'b>(sought: &[Sought], cell: &LentCell<'b>, seen: &mut Vec<Option<LentValue<'b>>>)
     requires { vec_len seen.old ≡ length sought.now }
     ensures same { vec_len seen.new ≡ length sought.now }
-    ensures filled { (others : List Cell) → filled sought.now (each_value seen.new.items) others ≡ filled sought.now (each_value seen.old.items) (lent_cell cell.now ∷ others) }
+    ensures filled { (others : List Cell) → filled sought.now (each_value seen.new.items) others ≡ filled sought.now
+        (each_value seen.old.items) (lent_cell cell.now ∷ others) }
 {
     let place = place_from(sought, 0, cell.name);
     note_from(sought, place, cell.name, cell.value, seen);
@@ -143,9 +152,12 @@ fn look_value<'b>(
     requires value { IsSome (value_at bytes.now) }
     requires same { vec_len seen.old ≡ length sought.now }
     requires bound { place ≤ length sought.now }
-    requires hit { place < length sought.now → (s : Sought) → is_sought (slice_index_or sought.now place s) name.now ≡ true }
+    requires hit { place < length sought.now
+        → (s : Sought) → is_sought (slice_index_or sought.now place s) name.now ≡ true }
     ensures same { vec_len seen.new ≡ length sought.now }
-    ensures looked { (x : Value × List ℕ) → value_at bytes.now ≡ Some x → (result.now ≡ x.1) × ((others : List Cell) → filled sought.now (each_value seen.new.items) others ≡ filled_from sought.now seen.old.items place (record { name = name.now; value = x.0 }) others) }
+    ensures looked { (x : Value × List ℕ) → value_at bytes.now ≡ Some x
+        → (result.now ≡ x.1) × ((others : List Cell) → filled sought.now (each_value seen.new.items) others
+        ≡ filled_from sought.now seen.old.items place (record { name = name.now; value = x.0 }) others) }
 {
     match bytes {
         [1, rest @ ..] => {
@@ -185,7 +197,9 @@ fn look_cell<'b>(
     requires cell { IsSome (any_cell_at bytes.now) }
     requires same { vec_len seen.old ≡ length sought.now }
     ensures same { vec_len seen.new ≡ length sought.now }
-    ensures looked { (x : Cell × List ℕ) → any_cell_at bytes.now ≡ Some x → (result.now ≡ x.1) × ((others : List Cell) → filled sought.now (each_value seen.new.items) others ≡ filled sought.now (each_value seen.old.items) (x.0 ∷ others)) }
+    ensures looked { (x : Cell × List ℕ) → any_cell_at bytes.now ≡ Some x
+        → (result.now ≡ x.1) × ((others : List Cell) → filled sought.now
+        (each_value seen.new.items) others ≡ filled sought.now (each_value seen.old.items) (x.0 ∷ others)) }
 {
     let (name, after) = name_in(bytes);
     let place = place_from(sought, 0, name);
@@ -232,7 +246,8 @@ fn look_behind<'b>(
     requires same { vec_len seen.old ≡ length sought.now }
     ensures rest { any_cells_at count bytes.now ≡ Some (front_of (any_cells_at count bytes.now), result.now) }
     ensures same { vec_len seen.new ≡ length sought.now }
-    ensures filled { each_value seen.new.items ≡ filled sought.now (each_value seen.old.items) (front_of (any_cells_at count bytes.now)) }
+    ensures filled { each_value seen.new.items
+        ≡ filled sought.now (each_value seen.old.items) (front_of (any_cells_at count bytes.now)) }
 {
     let mut rest = bytes;
     for _ in 0..count {
@@ -287,7 +302,8 @@ impl<'a> SpelledRows<'a> {
         requires { vec_len seen.old ≡ length sought.now }
         ensures parted { rows_before result ≡ spelled_rows self.now }
         ensures same { vec_len seen.new ≡ length sought.now }
-        ensures seen { IfSome result (λ parts. each_value seen.new.items ≡ map (sought_in (lent_row parts.0)) sought.now) }
+        ensures seen { IfSome result (λ parts.
+            each_value seen.new.items ≡ map (sought_in (lent_row parts.0)) sought.now) }
     {
         if self.count == 0 {
             return None;
@@ -309,7 +325,8 @@ impl<'a> LentRows<'a> {
         requires { vec_len seen.old ≡ length sought.now }
         ensures parted { rows_parted result ≡ lent_rows self.now }
         ensures same { vec_len seen.new ≡ length sought.now }
-        ensures seen { IfSome result (λ parts. each_value seen.new.items ≡ map (sought_in (lent_row parts.0)) sought.now) }
+        ensures seen { IfSome result (λ parts.
+            each_value seen.new.items ≡ map (sought_in (lent_row parts.0)) sought.now) }
     {
         match self {
             LentRows::Owned([]) => None,

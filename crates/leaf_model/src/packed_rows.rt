@@ -190,7 +190,8 @@ fn front_len(bytes: &[u8], all: usize, count: usize) -> usize
 /// The time of the first row, and its number of bytes.
 fn first_row(bytes: &[u8]) -> (i64, usize)
     requires { IsSome (row_at bytes.now) }
-    ensures { (row : Row) (rest : List ℕ) → IsRow row → bytes.now ≡ row_bytes row ++ rest → (result.0 ≡ row.time) × (result.1 ≡ length (row_bytes row)) }
+    ensures { (row : Row) (rest : List ℕ) → IsRow row
+        → bytes.now ≡ row_bytes row ++ rest → (result.0 ≡ row.time) × (result.1 ≡ length (row_bytes row)) }
 {
     let (row, rest) = row_in(bytes);
     (row.time, bytes.len() - rest.len())

@@ -93,7 +93,8 @@ fn put_text(out: &mut Vec<u8>, text: &str) -> Result<(), AllocError>
 #[tactic(auto, using(crate::proofs::TextSets::each_short))]
 fn put_set(out: &mut Vec<u8>, members: &LentTexts) -> Result<(), AllocError>
     requires { IsSet (lent_texts members.now) }
-    ensures put { OnOk result (out.new.items ≡ out.old.items ++ (u16_bytes (length (lent_texts members.now)) ++ flat_map text_bytes (lent_texts members.now))) }
+    ensures put { OnOk result (out.new.items ≡ out.old.items
+        ++ (u16_bytes (length (lent_texts members.now)) ++ flat_map text_bytes (lent_texts members.now))) }
     ensures begins { OnErr result (BeginsWith out.old.items out.new.items) }
 {
     out.extend_from_slice(&(members.len() as u16).to_le_bytes())?;
