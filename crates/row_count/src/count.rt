@@ -68,7 +68,8 @@ pub fn count_source<R: Threads + Sync, S: Source, K: Sink>(
     source: &mut S,
     sink: &mut K,
 ) -> Status
-    ensures done { result ≡ Status.Done → IsCounted range (S.left source.old) (S.left source.new) (K.written sink.old) (K.written sink.new) }
+    ensures done { result ≡ Status.Done
+        → IsCounted range (S.left source.old) (S.left source.new) (K.written sink.old) (K.written sink.new) }
     ensures known_words { result ≢ Status.Words }
     ensures script { IfScript result (IsRefused (count_verdict range) (S.left source.old) (S.left source.new)) }
     ensures read_fault { result ≡ Status.ReadFault → Rose (S.faults source.old) (S.faults source.new) }
@@ -77,7 +78,8 @@ pub fn count_source<R: Threads + Sync, S: Source, K: Sink>(
     ensures takes { TakesAtMost (S.left source.old) (S.left source.new) most_taken }
     ensures too_long { TakesText result (S.left source.old) (S.left source.new) }
     ensures unwritten { UnlessWritten result (sink.new ≡ sink.old) }
-    ensures cut_short { result ≡ Status.WriteFault → IsCutShort range (S.left source.old) (S.left source.new) (K.written sink.old) (K.written sink.new) }
+    ensures cut_short { result ≡ Status.WriteFault
+        → IsCutShort range (S.left source.old) (S.left source.new) (K.written sink.old) (K.written sink.new) }
 {
     let count = match count_text(rt, alloc, range, source) {
         Ok(count) => count,
@@ -104,7 +106,8 @@ fn count_text<R: Threads + Sync, S: Source>(
     ensures exact { OnOk result (IfSome (S.left source.old) (λ text. Status.Done ≡ count_verdict range text)) }
     ensures takes { OnOk result (TakesAtMost (S.left source.old) (S.left source.new) longest_text) }
     ensures stopped { IfErr result (λ status. IsStopped range (S.left source.old) (S.left source.new) status) }
-    ensures failed { IfErr result (λ status. status ≡ Status.ReadFault → Rose (S.faults source.old) (S.faults source.new)) }
+    ensures failed { IfErr result (λ status.
+        status ≡ Status.ReadFault → Rose (S.faults source.old) (S.faults source.new)) }
 {
     let mut text = Vec::new(alloc);
     let mut passed = 0usize;
@@ -139,7 +142,8 @@ fn count_text<R: Threads + Sync, S: Source>(
 /// fails, comes before the fault. So the source is read to its end.
 fn refusal<S: Source>(alloc: Global, source: &mut S, taken: usize, error: CountError) -> Status
     requires { taken ≤ LONGEST_TEXT }
-    ensures stopped { (range : Range) (before : Option (List ℕ)) → IsAtFault range before (S.left source.old) taken error → IsStopped range before (S.left source.new) result }
+    ensures stopped { (range : Range) (before : Option (List ℕ))
+        → IsAtFault range before (S.left source.old) taken error → IsStopped range before (S.left source.new) result }
     ensures failed { result ≡ Status.ReadFault → Rose (S.faults source.old) (S.faults source.new) }
     ensures later { S.faults source.old ≤ S.faults source.new }
 {
@@ -227,7 +231,8 @@ fn count_each<R: Threads + Sync>(
     range: &Range,
     parts: &[&[u8]],
 ) -> Result<Vec<Result<PartCount, CountError>>, AllocError>
-    ensures { IfOk result (λ counts. AllZip (λ (part : Bor (List ℕ)) count. IsPartCounted range.now part.now count) parts.now counts.items) }
+    ensures { IfOk result (λ counts.
+        AllZip (λ (part : Bor (List ℕ)) count. IsPartCounted range.now part.now count) parts.now counts.items) }
 {
     parts
         .par_iter()
@@ -299,7 +304,8 @@ fn read_time(
     line: &[u8],
     line_number: u64,
 ) -> Result<i64, CountError>
-    ensures read { IfOk result (λ time. (cells : List Cell) × (row_of line.now ≡ Ok (record { time = time; cells = cells }))) }
+    ensures read { IfOk result (λ time.
+        (cells : List Cell) × (row_of line.now ≡ Ok (record { time = time; cells = cells }))) }
     ensures refused { IfErr result (λ e. IfFault e (λ f. row_of line.now ≡ Err f.fault)) }
     ensures place { IfErr result (λ e. IfFault e (λ f. f.line ≡ line_number)) }
 {

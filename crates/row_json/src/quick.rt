@@ -110,7 +110,8 @@ fn cell_in(name: &str, token: Token<'_>) -> Option<()>
 
 /// The known time after one more member. None if that member is not valid.
 fn with_member(time: Option<i64>, name: &str, token: Token<'_>) -> Option<Option<i64>>
-    ensures { IfSome result (λ now. (d : Data) × (data_of (token_of token.entry) ≡ Some d) × IsFine name.now d × ((old : Members) → Knows time old → Knows now (put name.now d old))) }
+    ensures { IfSome result (λ now. (d : Data) × (data_of (token_of token.entry) ≡ Some d)
+        × IsFine name.now d × ((old : Members) → Knows time old → Knows now (put name.now d old))) }
 {
     if name == "time" {
         let now = time_in(token)?;
@@ -123,7 +124,8 @@ fn with_member(time: Option<i64>, name: &str, token: Token<'_>) -> Option<Option
 /// Reads the members up to the closing brace, and gives their time. None unless each is valid and they are at most
 /// 1,024.
 fn members_time(reader: &mut Reader<'_>) -> Option<i64>
-    ensures { IfSome result (λ time. (all : Members) × (converted (λ ms. of_members ms no_members) (members (value 126) (length reader.old) reader.old) ≡ Some (all, reader.new)) × AreOfRow time all) }
+    ensures { IfSome result (λ time. (all : Members) × (converted (λ ms. of_members ms no_members)
+        (members (value 126) (length reader.old) reader.old) ≡ Some (all, reader.new)) × AreOfRow time all) }
 {
     let mut time = None;
     let mut count = 0usize;
@@ -170,7 +172,8 @@ fn utf8_time(text: &str, scratch: &mut Scratch) -> Option<i64>
 
 /// The time of the row that a text means, if each member is valid as it comes. None says nothing of the text.
 pub fn quick_time(room: &mut RowRoom, text: &[u8]) -> Option<i64>
-    ensures { IfSome result (λ time. (cells : List Cell) × (row_of text.now ≡ Ok (record { time = time; cells = cells }))) }
+    ensures { IfSome result (λ time.
+        (cells : List Cell) × (row_of text.now ≡ Ok (record { time = time; cells = cells }))) }
 {
     match simdutf8::basic::from_utf8(text) {
         Ok(text) => utf8_time(text, &mut room.scratch),

@@ -105,7 +105,8 @@ fn put_member(
 ) -> Option<Option<i64>>
     requires ordered { Ascend cells.old.items }
     requires cells { AllByRecursion IsCell cells.old.items }
-    ensures exact { IfSome result (λ now. (d : Data) × (data_of (token_of token.entry) ≡ Some d) × ((old : Members) → Knows time old → Knows now (put name.now d old)) × Puts name.now d cells.old.items cells.new.items) }
+    ensures exact { IfSome result (λ now. (d : Data) × (data_of (token_of token.entry) ≡ Some d) × ((old : Members)
+        → Knows time old → Knows now (put name.now d old)) × Puts name.now d cells.old.items cells.new.items) }
     ensures are_cells { IfSome result (λ _. AllByRecursion IsCell cells.new.items) }
 {
     if name == "time" {
@@ -136,7 +137,8 @@ fn row_with(time: Option<i64>, mut cells: Vec<Cell>) -> Option<Row>
 
 /// Reads the members up to the closing brace as a row. Room for `room` cells is taken first.
 fn members_row(alloc: Global, reader: &mut Reader<'_>, room: usize) -> Option<Row>
-    ensures exact { IfSome result (λ row. (all : Members) × (converted (λ ms. of_members ms no_members) (members (value 126) (length reader.old) reader.old) ≡ Some (all, reader.new)) × IsMadeOf all row) }
+    ensures exact { IfSome result (λ row. (all : Members) × (converted (λ ms. of_members ms no_members)
+        (members (value 126) (length reader.old) reader.old) ≡ Some (all, reader.new)) × IsMadeOf all row) }
     ensures is_row { IfSome result IsRow }
 {
     let Ok(mut cells) = Vec::with_capacity(alloc, room) else {

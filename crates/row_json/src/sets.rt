@@ -17,7 +17,8 @@ fn texts_in(
     alloc: Global,
     items: Vec<serde_json::Value>,
 ) -> Result<Option<BTreeSet<String>>, RowFault>
-    ensures exact { IfOk result (λ found. option_map (λ texts. map string_bytes texts.keys) found ≡ texts_with [] (items_view items.items)) }
+    ensures exact { IfOk result (λ found.
+        option_map (λ texts. map string_bytes texts.keys) found ≡ texts_with [] (items_view items.items)) }
     ensures refused { IfErr result (λ fault. fault ≡ RowFault.NoMemory) }
     ensures few { IfOk result (λ found. IfSome found (λ texts. length texts.keys ≤ length items.items)) }
 {
@@ -61,7 +62,8 @@ pub(crate) fn set_in(
     alloc: Global,
     items: Vec<serde_json::Value>,
 ) -> Result<Option<Value>, RowFault>
-    ensures exact { IfOk result (λ found. found ≡ option_and_then (set_of (item_count (items_view items.items))) (texts_with [] (items_view items.items))) }
+    ensures exact { IfOk result (λ found. found
+        ≡ option_and_then (set_of (item_count (items_view items.items))) (texts_with [] (items_view items.items))) }
     ensures refused { IfErr result (λ fault. fault ≡ RowFault.NoMemory) }
     ensures is_value { IfOk result (λ found. IfSome found IsValue) }
 {

@@ -188,7 +188,8 @@ fn time_at(text: &[u8]) -> Option<(i64, &[u8])>
 /// value is not valid.
 #[inline(always)]
 fn member_at<'a>(time: Option<i64>, name: &[u8], text: &'a [u8]) -> Option<(Option<i64>, &'a [u8])>
-    ensures { IfSome result (λ cut. (d : Data) × Reads text.now cut.1.now d × IsFine name.now d × ((old : Members) → Knows time old → Knows cut.0 (put name.now d old))) }
+    ensures { IfSome result (λ cut. (d : Data) × Reads text.now cut.1.now d
+        × IsFine name.now d × ((old : Members) → Knows time old → Knows cut.0 (put name.now d old))) }
 {
     if is_time(name) {
         let (now, rest) = time_at(text)?;
@@ -204,7 +205,8 @@ fn member_at<'a>(time: Option<i64>, name: &[u8], text: &'a [u8]) -> Option<(Opti
 /// Reads the members up to the closing brace, which ends the text, and gives their time. None unless each is valid and
 /// they are at most 1,024.
 fn members_time(text: &[u8]) -> Option<i64>
-    ensures { IfSome result (λ time. (all : Members) × (converted (λ ms. of_members ms no_members) (members (value 126) (length (tokens_from fresh text.now)) (tokens_from fresh text.now)) ≡ Some (all, [])) × AreOfRow time all) }
+    ensures { IfSome result (λ time. (all : Members) × (converted (λ ms. of_members ms no_members) (members (value 126)
+        (length (tokens_from fresh text.now)) (tokens_from fresh text.now)) ≡ Some (all, [])) × AreOfRow time all) }
 {
     let mut rest = text;
     let mut time = None;

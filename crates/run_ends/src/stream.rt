@@ -34,8 +34,10 @@ fn make_chunk(alloc: Global) -> Result<Vec<u8>, AllocError>
 pub fn read_all<S: Source>(alloc: Global, source: &mut S) -> Result<Vec<u8>, ReadError>
     ensures read { IfOk result (λ text. ReadsAll (S.left source.old) (S.left source.new) text.items) }
     ensures small { IfOk result (λ text. vec_len text ≤ LONGEST_TEXT) }
-    ensures too_long { IsErrOf result ReadError.TooLong → TakesCount (S.left source.old) (S.left source.new) (LONGEST_TEXT + 1) }
-    ensures takes { ¬ IsErrOf result ReadError.TooLong → TakesAtMost (S.left source.old) (S.left source.new) LONGEST_TEXT }
+    ensures too_long { IsErrOf result ReadError.TooLong
+        → TakesCount (S.left source.old) (S.left source.new) (LONGEST_TEXT + 1) }
+    ensures takes { ¬ IsErrOf result ReadError.TooLong
+        → TakesAtMost (S.left source.old) (S.left source.new) LONGEST_TEXT }
     ensures failed { IsErrOf result ReadError.Failed → Rose (S.faults source.old) (S.faults source.new) }
     ensures later { S.faults source.old ≤ S.faults source.new }
 {
@@ -69,8 +71,10 @@ pub fn read_piece<S: Source>(
     ensures ended { IfOk result (λ ended. IsTrue ended → IsAtEnd (S.left source.new)) }
     ensures more { IfOk result (λ ended. ¬ IsTrue ended → vec_len text.old + PIECE ≤ vec_len text.new) }
     ensures small { IfOk result (λ _. passed + vec_len text.new ≤ LONGEST_TEXT) }
-    ensures too_long { IsErrOf result ReadError.TooLong → TakesCount (S.left source.old) (S.left source.new) (LONGEST_TEXT + 1 - passed - vec_len text.old) }
-    ensures takes { ¬ IsErrOf result ReadError.TooLong → TakesAtMost (S.left source.old) (S.left source.new) (LONGEST_TEXT - passed - vec_len text.old) }
+    ensures too_long { IsErrOf result ReadError.TooLong
+        → TakesCount (S.left source.old) (S.left source.new) (LONGEST_TEXT + 1 - passed - vec_len text.old) }
+    ensures takes { ¬ IsErrOf result ReadError.TooLong
+        → TakesAtMost (S.left source.old) (S.left source.new) (LONGEST_TEXT - passed - vec_len text.old) }
     ensures failed { IsErrOf result ReadError.Failed → Rose (S.faults source.old) (S.faults source.new) }
     ensures later { S.faults source.old ≤ S.faults source.new }
 {
@@ -98,8 +102,10 @@ pub fn read_piece<S: Source>(
 pub fn pass_rest<S: Source>(alloc: Global, source: &mut S, passed: usize) -> Result<(), ReadError>
     requires { passed ≤ LONGEST_TEXT }
     ensures read { OnOk result (PassesAll (S.left source.old) (S.left source.new) (LONGEST_TEXT - passed)) }
-    ensures too_long { IsErrOf result ReadError.TooLong → TakesCount (S.left source.old) (S.left source.new) (LONGEST_TEXT + 1 - passed) }
-    ensures takes { ¬ IsErrOf result ReadError.TooLong → TakesAtMost (S.left source.old) (S.left source.new) (LONGEST_TEXT - passed) }
+    ensures too_long { IsErrOf result ReadError.TooLong
+        → TakesCount (S.left source.old) (S.left source.new) (LONGEST_TEXT + 1 - passed) }
+    ensures takes { ¬ IsErrOf result ReadError.TooLong
+        → TakesAtMost (S.left source.old) (S.left source.new) (LONGEST_TEXT - passed) }
     ensures failed { IsErrOf result ReadError.Failed → Rose (S.faults source.old) (S.faults source.new) }
     ensures later { S.faults source.old ≤ S.faults source.new }
 {
@@ -130,7 +136,8 @@ fn take_more<S: Source>(
     text: &mut Vec<u8>,
 ) -> Result<usize, ReadError>
     requires { 0 < length room.old }
-    ensures took { IfOk result (λ n. TookMore (S.left source.old) (S.left source.new) text.old.items text.new.items n (length room.old)) }
+    ensures took { IfOk result (λ n.
+        TookMore (S.left source.old) (S.left source.new) text.old.items text.new.items n (length room.old)) }
     ensures end { IfOk result (λ n. n ≡ 0 → IsAtEnd (S.left source.new)) }
     ensures err { OnErr result (Keeps (S.left source.old) (S.left source.new)) }
     ensures not_long { ¬ IsErrOf result ReadError.TooLong }
