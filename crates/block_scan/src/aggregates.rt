@@ -20,7 +20,8 @@ fn decode_agg<'b, 'a>(
 ) -> Result<Option<Decoded<'b, 'a>>, AllocError>
     requires few { length times.now ≤ 65536 }
     requires read { AllByRecursion (IsRead (length times.now)) read.now }
-    ensures { IfOk result (λ found. IfSome found (IsOfAgg (length times.now) (row_of times.now (columns_of read.now)) agg.now)) }
+    ensures { IfOk result (λ found.
+        IfSome found (IsOfAgg (length times.now) (row_of times.now (columns_of read.now)) agg.now)) }
 {
     match agg {
         Agg::Count => Ok(Some(Decoded::Missing)),
@@ -40,7 +41,8 @@ pub(crate) fn decode_aggs<'b, 'a>(
 ) -> Result<Option<Vec<Decoded<'b, 'a>>>, AllocError>
     requires few { length times.now ≤ 65536 }
     requires read { AllByRecursion (IsRead (length times.now)) read.now }
-    ensures { IfOk result (λ found. IfSome found (λ all. AreOfAggs (length times.now) (row_of times.now (columns_of read.now)) aggs.now all.items)) }
+    ensures { IfOk result (λ found. IfSome found (λ all.
+        AreOfAggs (length times.now) (row_of times.now (columns_of read.now)) aggs.now all.items)) }
 {
     let mut all = Vec::with_capacity(alloc, aggs.len())?;
     for agg in aggs {

@@ -48,7 +48,8 @@ fn read_columns<'a, L: Ledger>(
     requires timed { AreTimes rows times.now }
     requires between { AreBetween rows times.now from to }
     requires others { AllByRecursion (IsOther rows) others.now }
-    ensures view { IfOk result (λ view. view ≡ seen skip horizon (record { rows = rows; columns = named_columns query.now (times.now ∷ others.now) })) }
+    ensures view { IfOk result (λ view.
+        view ≡ seen skip horizon (record { rows = rows; columns = named_columns query.now (times.now ∷ others.now) })) }
     ensures steps { steps.new ≤ steps.old + length (named_columns query.now (times.now ∷ others.now)) }
 {
     let read_times = read_column(rows, times, steps);

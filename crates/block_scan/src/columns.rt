@@ -32,7 +32,8 @@ fn fold_places(
     requires few { length times.now ≤ 65536 }
     requires read { AllByRecursion (IsRead (length times.now)) others.now }
     requires places { AllByRecursion (λ place. place < length times.now) places.now }
-    ensures groups { IfOk result (λ gs. gs ≡ groups query.now (map (row_of times.now (columns_of others.now)) places.now)) }
+    ensures groups { IfOk result (λ gs.
+        gs ≡ groups query.now (map (row_of times.now (columns_of others.now)) places.now)) }
     ensures within { IfOk result (λ gs. AllByRecursion (IsWithin (length places.now)) gs) }
 {
     let found = rows_at(alloc, times, others, places)?;
@@ -50,11 +51,14 @@ fn fold_slots(
 ) -> Result<Groups, AllocError>
     requires few { length times.now ≤ 65536 }
     requires read { AllByRecursion (IsRead (length times.now)) others.now }
-    requires slots { AreSlots query.now (length times.now) (row_of times.now (columns_of others.now)) slots.now places.now }
+    requires slots { AreSlots query.now (length times.now)
+        (row_of times.now (columns_of others.now)) slots.now places.now }
     requires places { AllByRecursion (λ place. place < length times.now) places.now }
     requires short { length places.now ≤ 65536 }
-    requires passing { AllByRecursion (λ place. passes query.now (row_of times.now (columns_of others.now) place) ≡ true) places.now }
-    ensures groups { IfOk result (λ gs. gs ≡ groups query.now (map (row_of times.now (columns_of others.now)) places.now)) }
+    requires passing { AllByRecursion
+        (λ place. passes query.now (row_of times.now (columns_of others.now) place) ≡ true) places.now }
+    ensures groups { IfOk result (λ gs.
+        gs ≡ groups query.now (map (row_of times.now (columns_of others.now)) places.now)) }
     ensures within { IfOk result (λ gs. AllByRecursion (IsWithin (length places.now)) gs) }
 {
     match decode_aggs(alloc, query.aggs.as_slice(), times, others)? {
@@ -85,8 +89,10 @@ fn fold_passing(
     requires read { AllByRecursion (IsRead (length times.now)) others.now }
     requires places { AllByRecursion (λ place. place < length times.now) places.now }
     requires short { length places.now ≤ 65536 }
-    requires passing { AllByRecursion (λ place. passes query.now (row_of times.now (columns_of others.now) place) ≡ true) places.now }
-    ensures groups { IfOk result (λ gs. gs ≡ groups query.now (map (row_of times.now (columns_of others.now)) places.now)) }
+    requires passing { AllByRecursion
+        (λ place. passes query.now (row_of times.now (columns_of others.now) place) ≡ true) places.now }
+    ensures groups { IfOk result (λ gs.
+        gs ≡ groups query.now (map (row_of times.now (columns_of others.now)) places.now)) }
     ensures within { IfOk result (λ gs. AllByRecursion (IsWithin (length places.now)) gs) }
 {
     if places.len() < times.len() / FEW {
@@ -110,8 +116,10 @@ fn fold_wanted(
     requires few { length times.now ≤ 65536 }
     requires skip { skip ≤ length times.now }
     requires read { AllByRecursion (IsRead (length times.now)) others.now }
-    ensures groups { IfOk result (λ gs. gs ≡ groups query.now (map (row_of times.now (columns_of others.now)) (wanted_places query.now horizon times.now skip))) }
-    ensures within { IfOk result (λ gs. AllByRecursion (IsWithin (length (wanted_places query.now horizon times.now skip))) gs) }
+    ensures groups { IfOk result (λ gs. gs ≡ groups query.now
+        (map (row_of times.now (columns_of others.now)) (wanted_places query.now horizon times.now skip))) }
+    ensures within { IfOk result (λ gs.
+        AllByRecursion (IsWithin (length (wanted_places query.now horizon times.now skip))) gs) }
 {
     let wanted = wanted_places(alloc, query, times, skip, horizon)?;
     match narrow_all(alloc, query.conds.as_slice(), times, others, wanted)? {
@@ -141,8 +149,10 @@ pub(crate) fn fold_columns(
     requires times { IsRead rows times.now }
     requires between { AreBetween rows times.now.column.now from to }
     requires others { AllByRecursion (IsRead rows) others.now }
-    ensures groups { IfOk result (λ gs. gs ≡ groups query.now (live_rows skip horizon (record { rows = rows; columns = times.now.column.now ∷ columns_of others.now }))) }
-    ensures within { IfOk result (λ gs. AllByRecursion (IsWithin (length (live_rows skip horizon (record { rows = rows; columns = times.now.column.now ∷ columns_of others.now })))) gs) }
+    ensures groups { IfOk result (λ gs. gs ≡ groups query.now
+        (live_rows skip horizon (record { rows = rows; columns = times.now.column.now ∷ columns_of others.now }))) }
+    ensures within { IfOk result (λ gs. AllByRecursion (IsWithin (length (live_rows skip horizon
+        (record { rows = rows; columns = times.now.column.now ∷ columns_of others.now })))) gs) }
 {
     let seen = times_seen(alloc, query, rows, times, from, to, skip, horizon)?;
     fold_wanted(alloc, query, seen.as_slice(), others, skip, horizon)

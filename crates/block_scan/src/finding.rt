@@ -18,7 +18,9 @@ pub enum Named<'b, 'a> {
 }
 
 fn with_one<'b, 'a>(column: &'b ReadColumn<'a>, others: Named<'b, 'a>) -> Named<'b, 'a>
-    ensures { (rows : ℕ) (name : List ℕ) (rest : List ReadColumn) → IsRead rows column.now → bytes_eq name column.now.column.now.name ≡ true → IsNamed rows name rest others.entry → IsNamed rows name (column.now ∷ rest) result }
+    ensures { (rows : ℕ) (name : List ℕ) (rest : List ReadColumn)
+        → IsRead rows column.now → bytes_eq name column.now.column.now.name ≡ true
+        → IsNamed rows name rest others.entry → IsNamed rows name (column.now ∷ rest) result }
 {
     match others {
         Named::Nowhere => Named::Once(column),

@@ -38,7 +38,9 @@ fn fold_slot(
     requires slot { slot < slots_in slots.now }
     requires inside { AllByRecursion (λ place. place < rows) places.now }
     requires few { length places.now ≤ 65536 }
-    ensures groups { IfOk result (λ gs. gs ≡ record { keys = keys_at query.now slots.now slot; count = length places.now; folds = map (fold_at places.now) decoded.now } ∷ []) }
+    ensures groups { IfOk result (λ gs. gs
+        ≡ record { keys = keys_at query.now slots.now slot; count = length places.now; folds = map (fold_at places.now) decoded.now }
+        ∷ []) }
     ensures within { IfOk result (λ gs. AllByRecursion (IsWithin (length places.now)) gs) }
 {
     let keys = keys_of_slot(alloc, query, rows, slots, slot)?;
@@ -63,7 +65,9 @@ fn fold_list(
     requires inside { AllByRecursion (λ place. place < rows) places.now }
     requires same { AllByRecursion (λ place. slot_at slots.now place ≡ slot) places.now }
     requires few { length places.now ≤ 65536 }
-    ensures groups { (row : ℕ → Row) → AreOfAggs rows row query.now.aggs decoded.now → AllByRecursion (IsKeyed query.now row slots.now) places.now → IfOk result (λ gs. gs ≡ groups query.now (map row places.now)) }
+    ensures groups { (row : ℕ → Row) → AreOfAggs rows row query.now.aggs decoded.now
+        → AllByRecursion (IsKeyed query.now row slots.now) places.now
+        → IfOk result (λ gs. gs ≡ groups query.now (map row places.now)) }
     ensures within { IfOk result (λ gs. AllByRecursion (IsWithin (length places.now)) gs) }
 {
     if places.is_empty() {
@@ -87,8 +91,11 @@ fn fold_lists(
     requires laid { AreInSlots rows slots.now (lists_in lists.now) }
     requires order { AllByRecursion (λ slot. slot < slots_in slots.now) order.now }
     requires few { length (gathered (lists_in lists.now) order.now) ≤ 65536 }
-    ensures groups { (row : ℕ → Row) → AreOfAggs rows row query.now.aggs decoded.now → AllByRecursion (IsKeyed query.now row slots.now) (gathered (lists_in lists.now) order.now) → IfOk result (λ gs. gs ≡ groups query.now (map row (gathered (lists_in lists.now) order.now))) }
-    ensures within { IfOk result (λ gs. AllByRecursion (IsWithin (length (gathered (lists_in lists.now) order.now))) gs) }
+    ensures groups { (row : ℕ → Row) → AreOfAggs rows row query.now.aggs decoded.now
+        → AllByRecursion (IsKeyed query.now row slots.now) (gathered (lists_in lists.now) order.now)
+        → IfOk result (λ gs. gs ≡ groups query.now (map row (gathered (lists_in lists.now) order.now))) }
+    ensures within { IfOk result (λ gs.
+        AllByRecursion (IsWithin (length (gathered (lists_in lists.now) order.now))) gs) }
 {
     match order {
         [] => Ok(Groups::of(Vec::new(alloc))),
@@ -119,7 +126,9 @@ pub(crate) fn fold_by_slot(
     requires sized { AllByRecursion (λ place. slot_at slots.now place < slots_in slots.now) places.now }
     requires inside { AllByRecursion (λ place. place < rows) places.now }
     requires few { length places.now ≤ 65536 }
-    ensures groups { (row : ℕ → Row) → AreOfAggs rows row query.now.aggs decoded.now → AllByRecursion (IsKeyed query.now row slots.now) places.now → IfOk result (λ gs. gs ≡ groups query.now (map row places.now)) }
+    ensures groups { (row : ℕ → Row) → AreOfAggs rows row query.now.aggs decoded.now
+        → AllByRecursion (IsKeyed query.now row slots.now) places.now
+        → IfOk result (λ gs. gs ≡ groups query.now (map row places.now)) }
     ensures within { IfOk result (λ gs. AllByRecursion (IsWithin (length places.now)) gs) }
 {
     let lists = lay_out(alloc, rows, slots, places)?;

@@ -34,7 +34,8 @@ fn guessed(
     requires firsts { AllByRecursion (λ first. first < rows) firsts.now }
     requires guesses { length guesses.now ≡ 65536 }
     requires place { place < rows }
-    ensures { IfSome result (λ slot. (slot < length firsts.now) × (keys_seen keys.now place ≡ keys_seen keys.now (slice_index firsts.now slot))) }
+    ensures { IfSome result (λ slot.
+        (slot < length firsts.now) × (keys_seen keys.now place ≡ keys_seen keys.now (slice_index firsts.now slot))) }
 {
     for behind in 0..TRIES {
         let slot = guesses[guess_place(mark, behind)];

@@ -44,8 +44,10 @@ fn append(front: Groups, back: Groups) -> Result<Groups, AllocError>
 /// The groups of the rows of both lists together.
 pub(crate) fn join(alloc: Global, front: Groups, back: Groups) -> Result<Groups, AllocError>
     requires { AllByRecursion FitsGroup (joined front back) }
-    ensures within { (m n : ℕ) → AllByRecursion (IsWithin m) front → AllByRecursion (IsWithin n) back → IfOk result (λ gs. AllByRecursion (IsWithin (m + n)) gs) }
-    ensures both { (q : Query) (xs ys : List Row) → front ≡ groups q xs → back ≡ groups q ys → IfOk result (λ gs. gs ≡ groups q (xs ++ ys)) }
+    ensures within { (m n : ℕ) → AllByRecursion (IsWithin m) front
+        → AllByRecursion (IsWithin n) back → IfOk result (λ gs. AllByRecursion (IsWithin (m + n)) gs) }
+    ensures both { (q : Query) (xs ys : List Row)
+        → front ≡ groups q xs → back ≡ groups q ys → IfOk result (λ gs. gs ≡ groups q (xs ++ ys)) }
 {
     if ends_below(front.as_slice(), back.as_slice()) {
         return append(front, back);

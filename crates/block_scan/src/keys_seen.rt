@@ -28,7 +28,8 @@ pub(crate) fn decode_keys<'b, 'a>(
 ) -> Result<Option<Vec<Decoded<'b, 'a>>>, AllocError>
     requires few { length times.now ≤ 65536 }
     requires read { AllByRecursion (IsRead (length times.now)) read.now }
-    ensures { IfOk result (λ found. IfSome found (λ all. AreOfKeys (length times.now) (row_of times.now (columns_of read.now)) names.now all.items)) }
+    ensures { IfOk result (λ found. IfSome found (λ all.
+        AreOfKeys (length times.now) (row_of times.now (columns_of read.now)) names.now all.items)) }
 {
     if names.len() > DECODED_KEYS {
         return Ok(None);

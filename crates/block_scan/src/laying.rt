@@ -42,7 +42,8 @@ fn empty_lists(alloc: Global, count: u64) -> Result<Vec<Vec<u32>>, AllocError>
 
 fn put(lists: &mut Vec<Vec<u32>>, slot: usize, place: u32) -> Result<(), AllocError>
     requires { slot < length (lists_in lists.old.items) }
-    ensures { IfOk result (λ _. lists_in lists.new.items ≡ set (lists_in lists.old.items) slot (list_at (lists_in lists.old.items) slot ++ place ∷ [])) }
+    ensures { IfOk result (λ _. lists_in lists.new.items
+        ≡ set (lists_in lists.old.items) slot (list_at (lists_in lists.old.items) slot ++ place ∷ [])) }
 {
     lists[slot].push(place)?;
     Ok(())
@@ -58,7 +59,8 @@ pub(crate) fn lay_out(
     requires held { IsHeld rows slots.now }
     requires inside { AllByRecursion (λ place. place < rows) places.now }
     requires sized { AllByRecursion (λ place. slot_at slots.now place < slots_in slots.now) places.now }
-    ensures { IfOk result (λ lists. AreLaid (slot_at slots.now) (slots_in slots.now) places.now (lists_in lists.items)) }
+    ensures { IfOk result (λ lists.
+        AreLaid (slot_at slots.now) (slots_in slots.now) places.now (lists_in lists.items)) }
 {
     let mut lists = empty_lists(alloc, slots_in(slots))?;
     for place in places {
@@ -95,7 +97,8 @@ fn push_used<'a>(
     used: &mut Vec<(&'a str, usize)>,
 ) -> Result<(), AllocError>
     requires { slot < slots_in slots.now }
-    ensures { IfOk result (λ _. map (λ u. u.1) used.new.items ≡ map (λ u. u.1) used.old.items ++ (if is_used places.now then slot ∷ [] else [])) }
+    ensures { IfOk result (λ _. map (λ u. u.1) used.new.items
+        ≡ map (λ u. u.1) used.old.items ++ (if is_used places.now then slot ∷ [] else [])) }
 {
     if !places.is_empty() {
         used.push((text_of(slots, slot as u64), slot))?;

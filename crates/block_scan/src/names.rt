@@ -49,7 +49,8 @@ fn is_in_aggs(name: &Text, aggs: &[Agg]) -> bool
 
 /// Whether a condition, a key or an aggregate of the query has this name.
 pub(crate) fn asks_for(query: &Query, name: &Text) -> bool
-    ensures { result ≡ (list_any (is_of_cond name.now) query.now.conds || (list_any (bytes_eq name.now) query.now.keys || list_any (is_of_agg name.now) query.now.aggs)) }
+    ensures { result ≡ (list_any (is_of_cond name.now) query.now.conds || (list_any
+        (bytes_eq name.now) query.now.keys || list_any (is_of_agg name.now) query.now.aggs)) }
 {
     is_in_conds(name, query.conds.as_slice())
         || is_in_keys(name, query.keys.as_slice())

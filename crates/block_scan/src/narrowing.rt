@@ -135,7 +135,8 @@ fn narrow_codes(
 ) -> Result<Vec<u32>, AllocError>
     requires sized { IsSized rows (Codes found.now) }
     requires places { AllByRecursion (λ place. place < rows) places.now }
-    ensures { IfOk result (λ left. left.items ≡ filter (λ i. cond_accepts cond.now (decoded_at (Codes found.now) i)) places.now) }
+    ensures { IfOk result (λ left.
+        left.items ≡ filter (λ i. cond_accepts cond.now (decoded_at (Codes found.now) i)) places.now) }
 {
     let accepted = accepted_entries(alloc, cond, found.view)?;
     let mut left = Vec::new(alloc);
@@ -157,7 +158,8 @@ fn narrow_each(
 ) -> Result<Vec<u32>, AllocError>
     requires sized { IsSized rows decoded.now }
     requires places { AllByRecursion (λ place. place < rows) places.now }
-    ensures { IfOk result (λ left. left.items ≡ filter (λ i. cond_accepts cond.now (decoded_at decoded.now i)) places.now) }
+    ensures { IfOk result (λ left.
+        left.items ≡ filter (λ i. cond_accepts cond.now (decoded_at decoded.now i)) places.now) }
 {
     let mut left = Vec::new(alloc);
     for place in places {
@@ -178,7 +180,8 @@ fn narrow(
 ) -> Result<Vec<u32>, AllocError>
     requires sized { IsSized rows decoded.now }
     requires places { AllByRecursion (λ place. place < rows) places.now }
-    ensures { IfOk result (λ left. left.items ≡ filter (λ i. cond_accepts cond.now (decoded_at decoded.now i)) places.now) }
+    ensures { IfOk result (λ left.
+        left.items ≡ filter (λ i. cond_accepts cond.now (decoded_at decoded.now i)) places.now) }
 {
     match decoded {
         Decoded::Missing | Decoded::Ints(_) => narrow_each(alloc, rows, cond, decoded, places),
@@ -197,7 +200,8 @@ pub(crate) fn narrow_all(
     requires few { length times.now ≤ 65536 }
     requires read { AllByRecursion (IsRead (length times.now)) read.now }
     requires places { AllByRecursion (λ place. place < length times.now) places.items }
-    ensures { IfOk result (λ found. IfSome found (λ left. left.items ≡ filter (λ i. conds_hold conds.now (row_of times.now (columns_of read.now) i)) places.items)) }
+    ensures { IfOk result (λ found. IfSome found (λ left.
+        left.items ≡ filter (λ i. conds_hold conds.now (row_of times.now (columns_of read.now) i)) places.items)) }
 {
     let mut left = places;
     for cond in conds {

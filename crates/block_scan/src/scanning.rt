@@ -31,8 +31,10 @@ pub fn scan<L: Ledger, R: Threads + Sync>(
 ) -> Result<Groups, AllocError>
     requires skip { IsSkip skip blocks.now }
     requires few { length (rows_held blocks.now (lent_rows tail.now) skip horizon) ≤ 2 ^ 40 }
-    ensures groups { IfOk result (λ gs. gs ≡ groups query.now (rows_held blocks.now (lent_rows tail.now) skip horizon)) }
-    ensures within { IfOk result (λ gs. AllByRecursion (IsWithin (length (rows_held blocks.now (lent_rows tail.now) skip horizon))) gs) }
+    ensures groups { IfOk result (λ gs.
+        gs ≡ groups query.now (rows_held blocks.now (lent_rows tail.now) skip horizon)) }
+    ensures within { IfOk result (λ gs.
+        AllByRecursion (IsWithin (length (rows_held blocks.now (lent_rows tail.now) skip horizon))) gs) }
     ensures steps { steps.new ≤ steps.old + most_steps query.now blocks.now }
 {
     let views = read_blocks(alloc, query, blocks.as_slice(), skip, horizon, steps)?;

@@ -48,7 +48,8 @@ fn found_slots<'b, 'a>(
     requires few { length places.now ≤ 65536 }
     ensures keys { IfOk result (λ found. found.keys.items ≡ keys.entry.items) }
     ensures held { IfOk result (λ found. IsHeld rows (Found found)) }
-    ensures placed { IfOk result (λ found. AllByRecursion (IsPlaced keys.entry.items found.firsts.items found.at.items) places.now) }
+    ensures placed { IfOk result (λ found.
+        AllByRecursion (IsPlaced keys.entry.items found.firsts.items found.at.items) places.now) }
 {
     let mut at = vec![in alloc; 0u32; rows as usize]?;
     let mut guesses = no_guesses(alloc)?;
@@ -83,7 +84,8 @@ pub(crate) fn slots_of<'b, 'a>(
     requires read { AllByRecursion (IsRead (length times.now)) read.now }
     requires inside { AllByRecursion (λ place. place < length times.now) places.now }
     requires short { length places.now ≤ 65536 }
-    ensures { IfOk result (λ found. IfSome found (λ slots. AreSlots query.now (length times.now) (row_of times.now (columns_of read.now)) slots places.now)) }
+    ensures { IfOk result (λ found. IfSome found (λ slots.
+        AreSlots query.now (length times.now) (row_of times.now (columns_of read.now)) slots places.now)) }
 {
     match query.keys.as_slice() {
         [] => Ok(Some(Slots::Alone)),

@@ -56,7 +56,8 @@ impl<'a> BlockView<'a> {
         requires times { IsRead rows times }
         requires between { AreBetween rows times.column.now from to }
         requires others { AllByRecursion (IsRead rows) others.items }
-        ensures { result ≡ seen skip horizon (record { rows = rows; columns = times.entry.column.now ∷ columns_of others.entry.items }) }
+        ensures { result ≡ seen skip horizon
+            (record { rows = rows; columns = times.entry.column.now ∷ columns_of others.entry.items }) }
     {
         BlockView {
             rows,

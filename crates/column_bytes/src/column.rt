@@ -112,7 +112,8 @@ pub fn encode_numbers(
     requires some { 0 < length integers.now }
     requires few { length integers.now ≤ 65536 }
     requires same { length present.now ≡ length integers.now }
-    ensures cells { (cells : List (Option Value)) → map is_some cells ≡ present.now → AreIntegers cells integers.now → IfOk result (λ column. HasCells column (length present.now) cells) }
+    ensures cells { (cells : List (Option Value)) → map is_some cells ≡ present.now
+        → AreIntegers cells integers.now → IfOk result (λ column. HasCells column (length present.now) cells) }
     ensures kind { IfOk result (λ column. kind_in column ≡ Ints) }
 {
     let bytes = integer_column(alloc, integers, present)?;
@@ -131,7 +132,9 @@ pub fn encode_codes(
     requires same { length present.now ≡ length codes.now }
     requires texts { AreTexts set.now }
     requires each { length set.now ≤ length codes.now }
-    ensures cells { (cells : List (Option Value)) → map is_some cells ≡ present.now → IsCoding cells codes.now (Entries set.now) → IfOk result (λ column. HasCells column (length present.now) cells) }
+    ensures cells { (cells : List (Option Value))
+        → map is_some cells ≡ present.now → IsCoding cells codes.now (Entries set.now)
+        → IfOk result (λ column. HasCells column (length present.now) cells) }
     ensures kind { IfOk result (λ column. kind_in column ≡ Texts) }
 {
     let bytes = text_column(alloc, set, codes, present)?;

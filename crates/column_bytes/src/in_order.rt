@@ -52,7 +52,8 @@ pub(crate) fn offset_sum(base: i64, code: u64) -> i64
 /// Writes the integers of the offset form.
 pub(crate) fn fill_offsets(base: i64, codes: &[u64], values: &mut [i64])
     requires { length values.old ≡ length codes.now }
-    ensures { (i : ℕ) → i < length codes.now → FitsSigned w64 (base +ℤ pos (slice_index codes.now i)) → slice_index_or values.new i (pos 0) ≡ base +ℤ pos (slice_index codes.now i) }
+    ensures { (i : ℕ) → i < length codes.now → FitsSigned w64 (base +ℤ pos (slice_index codes.now i))
+        → slice_index_or values.new i (pos 0) ≡ base +ℤ pos (slice_index codes.now i) }
 {
     for i in 0..codes.len() {
         values[i] = offset_sum(base, codes[i]);
@@ -77,7 +78,8 @@ fn next_slot(extra: &[u8], codes: &[u64], i: usize, before: i64) -> i64
 pub(crate) fn fill_slots(extra: &[u8], codes: &[u64], values: &mut [i64])
     requires same { length values.old ≡ length codes.now }
     requires anchored { length extra.now ≡ 8 * div_ceil (length codes.now) 64 }
-    ensures { (i : ℕ) → i < length codes.now → slice_index_or values.new i (pos 0) ≡ slot (anchors_at (length codes.now) extra.now) codes.now i }
+    ensures { (i : ℕ) → i < length codes.now
+        → slice_index_or values.new i (pos 0) ≡ slot (anchors_at (length codes.now) extra.now) codes.now i }
 {
     let mut before = 0;
     for i in 0..codes.len() {
@@ -91,7 +93,8 @@ pub(crate) fn fill_values(form: Form, extra: &[u8], codes: &[u64], values: &mut 
     requires same { length values.old ≡ length codes.now }
     requires extra { IsExtra form (length codes.now) extra.now }
     requires kind { kind_of (book_of form (length codes.now) extra.now) ≡ Ints }
-    ensures { (i : ℕ) → i < length codes.now → IsCode (book_of form (length codes.now) extra.now) (slice_index codes.now i)
+    ensures { (i : ℕ) → i < length codes.now
+        → IsCode (book_of form (length codes.now) extra.now) (slice_index codes.now i)
         → value_at (book_of form (length codes.now) extra.now) codes.now i ≡ Int (slice_index_or values.new i (pos 0)) }
 {
     match form {

@@ -79,8 +79,10 @@ fn least_of(integers: &[i64]) -> i64
 fn offset_codes(alloc: Global, integers: &[i64], base: i64) -> Result<Vec<u64>, AllocError>
     requires { (i : ℕ) → i < length integers.now → base ≤ℤ slice_index_or integers.now i (pos 0) }
     ensures same { IfOk result (λ codes. length codes.items ≡ length integers.now) }
-    ensures each { IfOk result (λ codes. (i : ℕ) → i < length integers.now → base +ℤ pos (slice_index codes.items i) ≡ slice_index_or integers.now i (pos 0)) }
-    ensures fit { IfOk result (λ codes. (i : ℕ) → i < length integers.now → FitsSigned w64 (slice_index_or integers.now i (pos 0))) }
+    ensures each { IfOk result (λ codes. (i : ℕ)
+        → i < length integers.now → base +ℤ pos (slice_index codes.items i) ≡ slice_index_or integers.now i (pos 0)) }
+    ensures fit { IfOk result (λ codes.
+        (i : ℕ) → i < length integers.now → FitsSigned w64 (slice_index_or integers.now i (pos 0))) }
 {
     let mut codes = Vec::with_capacity(alloc, integers.len())?;
     for integer in integers {
@@ -92,7 +94,8 @@ fn offset_codes(alloc: Global, integers: &[i64], base: i64) -> Result<Vec<u64>, 
 fn integer_bytes(alloc: Global, integers: &[i64]) -> Result<Vec<u8>, AllocError>
     requires { length integers.now ≤ 65536 }
     ensures len { IfOk result (λ bytes. length bytes.items ≡ 8 * length integers.now) }
-    ensures each { IfOk result (λ bytes. (i : ℕ) → i < length integers.now → i64_at bytes.items (8 * i) ≡ slice_index_or integers.now i (pos 0)) }
+    ensures each { IfOk result (λ bytes.
+        (i : ℕ) → i < length integers.now → i64_at bytes.items (8 * i) ≡ slice_index_or integers.now i (pos 0)) }
 {
     let mut bytes = Vec::with_capacity(alloc, 8 * integers.len())?;
     for integer in integers {
@@ -111,7 +114,8 @@ pub(crate) struct Coding {
 fn offset_coding(alloc: Global, integers: &[i64]) -> Result<Coding, AllocError>
     requires some { 0 < length integers.now }
     ensures extra { IfOk result (λ coding. length coding.extra.items ≡ 8) }
-    ensures codes { IfOk result (λ coding. AreCodesOf integers.now coding.codes.items (book_of Form.Offset (length integers.now) coding.extra.items)) }
+    ensures codes { IfOk result (λ coding.
+        AreCodesOf integers.now coding.codes.items (book_of Form.Offset (length integers.now) coding.extra.items)) }
 {
     let base = least_of(integers);
     let codes = offset_codes(alloc, integers, base)?;
@@ -122,7 +126,8 @@ fn offset_coding(alloc: Global, integers: &[i64]) -> Result<Coding, AllocError>
 pub(crate) fn delta_coding(alloc: Global, integers: &[i64]) -> Result<Coding, AllocError>
     requires few { length integers.now ≤ 65536 }
     ensures extra { IfOk result (λ coding. IsExtra Form.Delta (length integers.now) coding.extra.items) }
-    ensures codes { IfOk result (λ coding. AreCodesOf integers.now coding.codes.items (book_of Form.Delta (length integers.now) coding.extra.items)) }
+    ensures codes { IfOk result (λ coding.
+        AreCodesOf integers.now coding.codes.items (book_of Form.Delta (length integers.now) coding.extra.items)) }
 {
     let deltas = delta(alloc, integers)?;
     let extra = integer_bytes(alloc, deltas.anchors.as_slice())?;
@@ -145,9 +150,12 @@ pub(crate) fn write_integers(
     requires same { length present.now ≡ length integers.now }
     requires extra { IsExtra form (length integers.now) coding.now.extra.items }
     requires small { length coding.now.extra.items ≤ 2 ^ 40 }
-    requires codes { AreCodesOf integers.now coding.now.codes.items (book_of form (length integers.now) coding.now.extra.items) }
-    ensures cells { (cells : List (Option Value)) → map is_some cells ≡ present.now → AreIntegers cells integers.now → IfOk result (λ bytes. HasCells bytes.items (length present.now) cells) }
-    ensures kind { IfOk result (λ bytes. kind_in bytes.items ≡ kind_of (book_of form (length integers.now) coding.now.extra.items)) }
+    requires codes { AreCodesOf integers.now coding.now.codes.items
+        (book_of form (length integers.now) coding.now.extra.items) }
+    ensures cells { (cells : List (Option Value)) → map is_some cells ≡ present.now
+        → AreIntegers cells integers.now → IfOk result (λ bytes. HasCells bytes.items (length present.now) cells) }
+    ensures kind { IfOk result (λ bytes.
+        kind_in bytes.items ≡ kind_of (book_of form (length integers.now) coding.now.extra.items)) }
 {
     write(alloc, form, present, &coding.codes, &coding.extra)
 }
@@ -201,7 +209,8 @@ pub(crate) fn integer_column(
     requires some { 0 < length integers.now }
     requires few { length integers.now ≤ 65536 }
     requires same { length present.now ≡ length integers.now }
-    ensures cells { (cells : List (Option Value)) → map is_some cells ≡ present.now → AreIntegers cells integers.now → IfOk result (λ bytes. HasCells bytes.items (length present.now) cells) }
+    ensures cells { (cells : List (Option Value)) → map is_some cells ≡ present.now
+        → AreIntegers cells integers.now → IfOk result (λ bytes. HasCells bytes.items (length present.now) cells) }
     ensures kind { IfOk result (λ bytes. kind_in bytes.items ≡ Ints) }
 {
     if is_delta_shorter(integers) {

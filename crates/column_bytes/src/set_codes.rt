@@ -29,7 +29,8 @@ fn numbers_of<'a>(
 ) -> Result<Vec<u32>, AllocError>
     requires members { IsSet (lent_texts members.now) }
     requires few { length texts.old + length (lent_texts members.now) ≤ 67108864 }
-    ensures numbers { IfOk result (λ numbers. AreNumbers (length texts.new) numbers.items × (texts_by texts.new numbers.items ≡ lent_texts members.now)) }
+    ensures numbers { IfOk result (λ numbers.
+        AreNumbers (length texts.new) numbers.items × (texts_by texts.new numbers.items ≡ lent_texts members.now)) }
     ensures kept { OnOk result (AreKept texts.old texts.new) }
     ensures texts { OnOk result (AreTexts texts.old → AreTexts texts.new) }
     ensures grows { OnOk result (length texts.new ≤ length texts.old + length (lent_texts members.now)) }
@@ -52,7 +53,8 @@ fn set_code<'a>(
 ) -> Result<u64, AllocError>
     requires kind { IsOfKind kinds.Sets (lent_value value.now) }
     requires few { length texts.old ≤ 67107840 }
-    ensures code { IfOk result (λ code. (code < length sets.new) × (lent_value value.now ≡ values.Set (texts_by texts.new (slice_index_or sets.new code [])))) }
+    ensures code { IfOk result (λ code. (code < length sets.new)
+        × (lent_value value.now ≡ values.Set (texts_by texts.new (slice_index_or sets.new code [])))) }
     ensures kept { OnOk result (AreKept texts.old texts.new) }
     ensures sets { OnOk result (AreKept sets.old sets.new) }
     ensures held { OnOk result (AreSetCodes texts.old sets.old → AreSetCodes texts.new sets.new) }
@@ -80,7 +82,8 @@ fn code_or<'a>(
 ) -> Result<u64, AllocError>
     requires kind { IfSome (option_map lent_value cell.now) (IsOfKind kinds.Sets) }
     requires few { length texts.old ≤ 67107840 }
-    ensures code { IfOk result (λ code. (value : Value) → option_map lent_value cell.now ≡ Some value → (code < length sets.new) × (value ≡ values.Set (texts_by texts.new (slice_index_or sets.new code [])))) }
+    ensures code { IfOk result (λ code. (value : Value) → option_map lent_value cell.now ≡ Some value
+        → (code < length sets.new) × (value ≡ values.Set (texts_by texts.new (slice_index_or sets.new code [])))) }
     ensures kept { OnOk result (AreKept texts.old texts.new) }
     ensures sets { OnOk result (AreKept sets.old sets.new) }
     ensures held { OnOk result (AreSetCodes texts.old sets.old → AreSetCodes texts.new sets.new) }
@@ -108,7 +111,8 @@ fn cell_codes<'a>(
     requires no_sets { sets.old ≡ [] }
     requires small { length cells.now ≤ 65536 }
     requires kind { AreOfKind kinds.Sets (each_value cells.now) }
-    ensures coding { IfOk result (λ codes. IsCoding (each_value cells.now) codes.items (Sets (sets_by texts.new sets.new))) }
+    ensures coding { IfOk result (λ codes.
+        IsCoding (each_value cells.now) codes.items (Sets (sets_by texts.new sets.new))) }
     ensures held { OnOk result (AreSetCodes texts.new sets.new) }
     ensures few { OnOk result (length sets.new ≤ length cells.now) }
     ensures texts { OnOk result (length texts.new ≤ 67108864) }
@@ -129,7 +133,8 @@ fn set_ends(alloc: Global, sets: &[Vec<u32>]) -> Result<Vec<u8>, AllocError>
     requires small { length (joined (numbers_in sets.now)) < 4294967296 }
     ensures len { IfOk result (λ bytes. length bytes.items ≡ 4 + 4 * length sets.now) }
     ensures count { IfOk result (λ bytes. u32_at bytes.items 0 ≡ length sets.now) }
-    ensures ends { IfOk result (λ bytes. (k : ℕ) → k < length sets.now → u32_at bytes.items (4 + 4 * k) ≡ end_at (numbers_in sets.now) (k + 1)) }
+    ensures ends { IfOk result (λ bytes.
+        (k : ℕ) → k < length sets.now → u32_at bytes.items (4 + 4 * k) ≡ end_at (numbers_in sets.now) (k + 1)) }
 {
     let mut bytes = Vec::with_capacity(alloc, 4 + 4 * sets.len())?;
     put_u32(&mut bytes, sets.len() as u32)?;

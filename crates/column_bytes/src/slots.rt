@@ -14,7 +14,8 @@ pub(crate) fn slot_at(packed: &Packed, extra: &[u8], i: u32) -> i64
     requires inside { i < packed.now.count }
     requires few { packed.now.count ≤ 65536 }
     requires anchored { length extra.now ≡ 8 * div_ceil packed.now.count 64 }
-    ensures { result ≡ slot (anchors_at packed.now.count extra.now) (codes packed.now.bytes packed.now.width packed.now.count) i }
+    ensures { result ≡ slot (anchors_at packed.now.count extra.now)
+        (codes packed.now.bytes packed.now.width packed.now.count) i }
 {
     let first = i - i % 64;
     let mut value = i64_at(extra, first as usize / 8);
@@ -32,8 +33,10 @@ pub(crate) fn slot_behind(packed: &Packed, extra: &[u8], i: u32, step: u64, befo
     requires few { packed.now.count ≤ 65536 }
     requires anchored { length extra.now ≡ 8 * div_ceil packed.now.count 64 }
     requires code { step ≡ code packed.now.bytes packed.now.width i }
-    requires before { 0 < i → before ≡ slot (anchors_at packed.now.count extra.now) (codes packed.now.bytes packed.now.width packed.now.count) (i - 1) }
-    ensures { result ≡ slot (anchors_at packed.now.count extra.now) (codes packed.now.bytes packed.now.width packed.now.count) i }
+    requires before { 0 < i → before ≡ slot (anchors_at packed.now.count extra.now)
+        (codes packed.now.bytes packed.now.width packed.now.count) (i - 1) }
+    ensures { result ≡ slot (anchors_at packed.now.count extra.now)
+        (codes packed.now.bytes packed.now.width packed.now.count) i }
 {
     if i % 64 == 0 {
         i64_at(extra, i as usize / 8)

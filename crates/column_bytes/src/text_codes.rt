@@ -91,7 +91,8 @@ pub fn code_or<'a>(
     before: u64,
 ) -> Result<u64, AllocError>
     requires { IfSome (option_map lent_value cell.now) (IsOfKind kinds.Texts) }
-    ensures code { IfOk result (λ code. (value : Value) → option_map lent_value cell.now ≡ Some value → (code < length set.new) × (value ≡ values.Text (slice_index_or set.new code []))) }
+    ensures code { IfOk result (λ code. (value : Value) → option_map lent_value cell.now ≡ Some value
+        → (code < length set.new) × (value ≡ values.Text (slice_index_or set.new code []))) }
     ensures kept { OnOk result (AreKept set.old set.new) }
     ensures texts { OnOk result (AreTexts set.old → AreTexts set.new) }
     ensures grows { OnOk result (length set.new ≤ length set.old + 1) }
@@ -132,7 +133,8 @@ fn ends_of(alloc: Global, texts: &[&str]) -> Result<Vec<u8>, AllocError>
     requires small { length (joined (lent texts.now)) < 4294967296 }
     ensures len { IfOk result (λ bytes. length bytes.items ≡ 4 + 4 * length texts.now) }
     ensures count { IfOk result (λ bytes. u32_at bytes.items 0 ≡ length texts.now) }
-    ensures ends { IfOk result (λ bytes. (k : ℕ) → k < length texts.now → u32_at bytes.items (4 + 4 * k) ≡ end_at (lent texts.now) (k + 1)) }
+    ensures ends { IfOk result (λ bytes.
+        (k : ℕ) → k < length texts.now → u32_at bytes.items (4 + 4 * k) ≡ end_at (lent texts.now) (k + 1)) }
 {
     let mut bytes = Vec::with_capacity(alloc, 4 + 4 * texts.len())?;
     put_u32(&mut bytes, texts.len() as u32)?;
@@ -179,7 +181,9 @@ pub(crate) fn text_column(
     requires same { length present.now ≡ length codes.now }
     requires texts { AreTexts set.now }
     requires each { length set.now ≤ length codes.now }
-    ensures cells { (cells : List (Option Value)) → map is_some cells ≡ present.now → IsCoding cells codes.now (Entries set.now) → IfOk result (λ bytes. HasCells bytes.items (length present.now) cells) }
+    ensures cells { (cells : List (Option Value))
+        → map is_some cells ≡ present.now → IsCoding cells codes.now (Entries set.now)
+        → IfOk result (λ bytes. HasCells bytes.items (length present.now) cells) }
     ensures kind { IfOk result (λ bytes. kind_in bytes.items ≡ kinds.Texts) }
 {
     let extra = dictionary_bytes(alloc, set.as_slice())?;

@@ -156,7 +156,8 @@ fn is_every_code(header: &Header, packed: &Packed, extra: &[u8]) -> bool
     requires width { header.now.width ≤ 64 }
     requires same { packed.now.width ≡ header.now.width }
     requires extra { IsExtra header.now.form header.now.count extra.now }
-    ensures { IsTrue result → (i : ℕ) → i < packed.now.count → IsCode (book_of header.now.form header.now.count extra.now) (code packed.now.bytes packed.now.width i) }
+    ensures { IsTrue result → (i : ℕ) → i < packed.now.count
+        → IsCode (book_of header.now.form header.now.count extra.now) (code packed.now.bytes packed.now.width i) }
 {
     if !is_code(header.form, extra, header.count, 0) {
         return false;
@@ -190,7 +191,8 @@ fn value_in<'a>(form: Form, packed: &Packed, extra: &'a [u8], i: u32) -> ValueRe
     requires inside { i < packed.now.count }
     requires extra { IsExtra form packed.now.count extra.now }
     requires code { IsCode (book_of form packed.now.count extra.now) (code packed.now.bytes packed.now.width i) }
-    ensures { value_of result ≡ value_at (book_of form packed.now.count extra.now) (codes packed.now.bytes packed.now.width packed.now.count) i }
+    ensures { value_of result ≡ value_at (book_of form packed.now.count extra.now)
+        (codes packed.now.bytes packed.now.width packed.now.count) i }
 {
     match form {
         Form::Offset => ValueRef::Int(offset_value(i64_at(extra, 0), packed.get(i))),
@@ -208,8 +210,10 @@ fn integer_in(form: Form, packed: &Packed, extra: &[u8], i: u32, before: i64) ->
     requires extra { IsExtra form packed.now.count extra.now }
     requires kind { kind_of (book_of form packed.now.count extra.now) ≡ Ints }
     requires code { IsCode (book_of form packed.now.count extra.now) (code packed.now.bytes packed.now.width i) }
-    requires before { 0 < i → value_at (book_of form packed.now.count extra.now) (codes packed.now.bytes packed.now.width packed.now.count) (i - 1) ≡ Int before }
-    ensures { value_at (book_of form packed.now.count extra.now) (codes packed.now.bytes packed.now.width packed.now.count) i ≡ Int result }
+    requires before { 0 < i → value_at (book_of form packed.now.count extra.now)
+        (codes packed.now.bytes packed.now.width packed.now.count) (i - 1) ≡ Int before }
+    ensures { value_at (book_of form packed.now.count extra.now)
+        (codes packed.now.bytes packed.now.width packed.now.count) i ≡ Int result }
 {
     let code = packed.get(i);
     match form {
@@ -221,7 +225,8 @@ fn integer_in(form: Form, packed: &Packed, extra: &[u8], i: u32, before: i64) ->
 
 // Reads the bytes as a column. None exactly if they are none.
 pub(crate) fn view_of(bytes: &[u8]) -> Option<ColumnView<'_>>
-    ensures column { IfSome result (λ view. (form : Form) × IsColumn bytes.now form × (view ≡ coded_in form bytes.now)) }
+    ensures column { IfSome result (λ view.
+        (form : Form) × IsColumn bytes.now form × (view ≡ coded_in form bytes.now)) }
     ensures only { (form : Form) → IsColumn bytes.now form → IsSome result }
 {
     let Some(header) = header_of(bytes) else {
@@ -350,7 +355,8 @@ impl<'a> ColumnView<'a> {
         requires codes { length codes.old ≡ length self.now.codes }
         requires present { length present.old ≡ length self.now.codes }
         ensures cells { cells_of self.now ≡ entry_cells (entries self.now.book) present.new codes.new }
-        ensures below { (i : ℕ) → i < length self.now.codes → slice_index_or present.new i false ≡ true → slice_index codes.new i < length (entries self.now.book) }
+        ensures below { (i : ℕ) → i < length self.now.codes
+            → slice_index_or present.new i false ≡ true → slice_index codes.new i < length (entries self.now.book) }
     {
         self.packed.fill(codes);
         fill_present(&self.presence, present);

@@ -138,8 +138,10 @@ struct Presence {
 }
 
 fn presence_of(alloc: Global, present: &[bool]) -> Result<Presence, AllocError>
-    ensures part { IfOk result (λ made. IsPresence (presence_bits made.all_there made.bytes.items (length present.now)) made.bytes.items (length present.now)) }
-    ensures there { IfOk result (λ made. there (presence_bits made.all_there made.bytes.items (length present.now)) (length present.now) ≡ present.now) }
+    ensures part { IfOk result (λ made. IsPresence
+        (presence_bits made.all_there made.bytes.items (length present.now)) made.bytes.items (length present.now)) }
+    ensures there { IfOk result (λ made.
+        there (presence_bits made.all_there made.bytes.items (length present.now)) (length present.now) ≡ present.now) }
 {
     if are_all_there(present) {
         Ok(Presence {
@@ -167,7 +169,8 @@ pub(crate) fn write(
     requires same { length codes.now ≡ length present.now }
     requires extra { IsExtra form (length present.now) extra.now }
     requires small { length extra.now ≤ 2 ^ 40 }
-    ensures cells { (cells : List (Option Value)) → map is_some cells ≡ present.now → IsCoding cells codes.now (book_of form (length present.now) extra.now)
+    ensures cells { (cells : List (Option Value))
+        → map is_some cells ≡ present.now → IsCoding cells codes.now (book_of form (length present.now) extra.now)
         → IfOk result (λ bytes. HasCells bytes.items (length present.now) cells) }
     ensures kind { IfOk result (λ bytes. kind_in bytes.items ≡ kind_of (book_of form (length present.now) extra.now)) }
 {

@@ -84,7 +84,8 @@ impl RowBlock {
 
     /// All times in ascending order. None unless they were sorted.
     pub(crate) fn sorted(&self) -> Option<&[i64]>
-        ensures { IfSome result (λ sorted. IsPermutation (times_of (rows_in self.now)) sorted.now × NeverFall sorted.now) }
+        ensures { IfSome result (λ sorted.
+            IsPermutation (times_of (rows_in self.now)) sorted.now × NeverFall sorted.now) }
     {
         match &self.order.sorted {
             Some(sorted) => Some(sorted.as_slice()),
@@ -116,7 +117,8 @@ impl RowBlock {
 
     /// The bytes of the column of that name and kind. None if there is none.
     pub fn column(&self, name: &Text, kind: Kind) -> Option<&[u8]>
-        ensures { option_map (λ b. b.now) result ≡ option_map (λ (c : BlockColumn). c.bytes) (find (is_column name.now kind) self.now.columns) }
+        ensures { option_map (λ b. b.now) result
+            ≡ option_map (λ (c : BlockColumn). c.bytes) (find (is_column name.now kind) self.now.columns) }
     {
         column_named(self.columns.as_slice(), name, kind)
     }
@@ -153,7 +155,8 @@ fn is_column(column: &BlockColumn, name: &Text, kind: Kind) -> bool
 }
 
 fn column_named<'a>(columns: &'a [BlockColumn], name: &Text, kind: Kind) -> Option<&'a [u8]>
-    ensures { option_map (λ b. b.now) result ≡ option_map (λ (c : BlockColumn). c.bytes) (find (is_column name.now kind) columns.now) }
+    ensures { option_map (λ b. b.now) result
+        ≡ option_map (λ (c : BlockColumn). c.bytes) (find (is_column name.now kind) columns.now) }
 {
     for column in columns {
         if is_column(column, name, kind) {

@@ -24,7 +24,8 @@ fn count_column(view: &ColumnView, counts: &mut [u32]) -> bool
     requires rows { length counts.old < 2 ^ 32 }
     requires same { length counts.old ≡ length view.now.codes }
     requires few { (i : ℕ) → i < length counts.old → slice_index counts.old i ≤ 1024 }
-    ensures { MatchBool result (AreCounted (λ i. is_some (cell_at view.now i)) counts.old counts.new) (IsOver (λ i. is_some (cell_at view.now i)) counts.old) }
+    ensures { MatchBool result (AreCounted (λ i. is_some (cell_at view.now i)) counts.old counts.new)
+        (IsOver (λ i. is_some (cell_at view.now i)) counts.old) }
 {
     let mut from = 0;
     while let Some(i) = view.next_cell(from) {

@@ -24,8 +24,10 @@ fn split_under<'a>(
     like: &LentCell,
     rest: &LentCells<'a>,
 ) -> Option<(Option<LentValue<'a>>, LentCells<'a>)>
-    ensures value { IfSome result (λ parts. option_map lent_value parts.0 ≡ front_value (heading_of (lent_cell like.now)) (lent_cells rest.now)) }
-    ensures rest { IfSome result (λ parts. lent_cells parts.1 ≡ rest_after (heading_of (lent_cell like.now)) (lent_cells rest.now)) }
+    ensures value { IfSome result (λ parts.
+        option_map lent_value parts.0 ≡ front_value (heading_of (lent_cell like.now)) (lent_cells rest.now)) }
+    ensures rest { IfSome result (λ parts.
+        lent_cells parts.1 ≡ rest_after (heading_of (lent_cell like.now)) (lent_cells rest.now)) }
     ensures first { IfSome result (λ _. IsNotBefore (heading_of (lent_cell like.now)) (lent_cells rest.now)) }
 {
     let Some((first, others)) = rest.split_first() else {
@@ -56,9 +58,12 @@ fn numbers_under<'a>(
 ) -> Result<Option<Numbers>, AllocError>
     requires kind { AreOfKind kinds.Ints (fronts (heading_of (lent_cell like.now)) rests.now) }
     requires empty { nexts.old.items ≡ [] }
-    ensures integers { IfOk result (λ found. IfSome found (λ made. AreIntegers (fronts (heading_of (lent_cell like.now)) rests.now) made.integers.items)) }
-    ensures there { IfOk result (λ found. IfSome found (λ made. map is_some (fronts (heading_of (lent_cell like.now)) rests.now) ≡ made.present.items)) }
-    ensures passed { IfOk result (λ found. IfSome found (λ _. ArePassed (heading_of (lent_cell like.now)) (each_cells rests.now) (each_cells nexts.new.items))) }
+    ensures integers { IfOk result (λ found.
+        IfSome found (λ made. AreIntegers (fronts (heading_of (lent_cell like.now)) rests.now) made.integers.items)) }
+    ensures there { IfOk result (λ found.
+        IfSome found (λ made. map is_some (fronts (heading_of (lent_cell like.now)) rests.now) ≡ made.present.items)) }
+    ensures passed { IfOk result (λ found. IfSome found (λ _.
+        ArePassed (heading_of (lent_cell like.now)) (each_cells rests.now) (each_cells nexts.new.items))) }
 {
     let mut integers = Vec::with_capacity(alloc, rests.len())?;
     let mut present = Vec::with_capacity(alloc, rests.len())?;
@@ -94,11 +99,14 @@ fn codes_under<'a>(
     requires kind { AreOfKind kinds.Texts (fronts (heading_of (lent_cell like.now)) rests.now) }
     requires empty { nexts.old.items ≡ [] }
     requires none { set.old ≡ [] }
-    ensures coding { IfOk result (λ found. IfSome found (λ made. IsCoding (fronts (heading_of (lent_cell like.now)) rests.now) made.codes.items (Entries set.new))) }
+    ensures coding { IfOk result (λ found. IfSome found (λ made.
+        IsCoding (fronts (heading_of (lent_cell like.now)) rests.now) made.codes.items (Entries set.new))) }
     ensures texts { IfOk result (λ found. AreTexts set.new) }
     ensures few { IfOk result (λ found. length set.new ≤ length rests.now) }
-    ensures there { IfOk result (λ found. IfSome found (λ made. map is_some (fronts (heading_of (lent_cell like.now)) rests.now) ≡ made.present.items)) }
-    ensures passed { IfOk result (λ found. IfSome found (λ _. ArePassed (heading_of (lent_cell like.now)) (each_cells rests.now) (each_cells nexts.new.items))) }
+    ensures there { IfOk result (λ found.
+        IfSome found (λ made. map is_some (fronts (heading_of (lent_cell like.now)) rests.now) ≡ made.present.items)) }
+    ensures passed { IfOk result (λ found. IfSome found (λ _.
+        ArePassed (heading_of (lent_cell like.now)) (each_cells rests.now) (each_cells nexts.new.items))) }
 {
     let mut codes = Vec::with_capacity(alloc, rests.len())?;
     let mut present = Vec::with_capacity(alloc, rests.len())?;
@@ -124,8 +132,10 @@ fn values_under<'a>(
     nexts: &mut Vec<LentCells<'a>>,
 ) -> Result<Option<Vec<Option<LentValue<'a>>>>, AllocError>
     requires { nexts.old.items ≡ [] }
-    ensures values { IfOk result (λ found. IfSome found (λ values. each_value values.items ≡ fronts (heading_of (lent_cell like.now)) rests.now)) }
-    ensures passed { IfOk result (λ found. IfSome found (λ _. ArePassed (heading_of (lent_cell like.now)) (each_cells rests.now) (each_cells nexts.new.items))) }
+    ensures values { IfOk result (λ found.
+        IfSome found (λ values. each_value values.items ≡ fronts (heading_of (lent_cell like.now)) rests.now)) }
+    ensures passed { IfOk result (λ found. IfSome found (λ _.
+        ArePassed (heading_of (lent_cell like.now)) (each_cells rests.now) (each_cells nexts.new.items))) }
 {
     let mut values = Vec::with_capacity(alloc, rests.len())?;
     for rest in rests {
@@ -150,9 +160,11 @@ fn integer_column<'a>(
     requires few { length rests.now ≤ 65536 }
     requires kind { AreOfKind kinds.Ints (fronts (heading_of (lent_cell like.now)) rests.now) }
     requires empty { nexts.old.items ≡ [] }
-    ensures cells { IfOk result (λ found. IfSome found (λ column. HasCells column (length rests.now) (fronts (heading_of (lent_cell like.now)) rests.now))) }
+    ensures cells { IfOk result (λ found. IfSome found (λ column.
+        HasCells column (length rests.now) (fronts (heading_of (lent_cell like.now)) rests.now))) }
     ensures kind { IfOk result (λ found. IfSome found (λ column. kind_in column ≡ kinds.Ints)) }
-    ensures passed { IfOk result (λ found. IfSome found (λ _. ArePassed (heading_of (lent_cell like.now)) (each_cells rests.now) (each_cells nexts.new.items))) }
+    ensures passed { IfOk result (λ found. IfSome found (λ _.
+        ArePassed (heading_of (lent_cell like.now)) (each_cells rests.now) (each_cells nexts.new.items))) }
 {
     let Some(made) = numbers_under(alloc, like, from, rests, nexts)? else {
         return Ok(None);
@@ -172,9 +184,11 @@ fn text_column<'a>(
     requires few { length rests.now ≤ 65536 }
     requires kind { AreOfKind kinds.Texts (fronts (heading_of (lent_cell like.now)) rests.now) }
     requires empty { nexts.old.items ≡ [] }
-    ensures cells { IfOk result (λ found. IfSome found (λ column. HasCells column (length rests.now) (fronts (heading_of (lent_cell like.now)) rests.now))) }
+    ensures cells { IfOk result (λ found. IfSome found (λ column.
+        HasCells column (length rests.now) (fronts (heading_of (lent_cell like.now)) rests.now))) }
     ensures kind { IfOk result (λ found. IfSome found (λ column. kind_in column ≡ kinds.Texts)) }
-    ensures passed { IfOk result (λ found. IfSome found (λ _. ArePassed (heading_of (lent_cell like.now)) (each_cells rests.now) (each_cells nexts.new.items))) }
+    ensures passed { IfOk result (λ found. IfSome found (λ _.
+        ArePassed (heading_of (lent_cell like.now)) (each_cells rests.now) (each_cells nexts.new.items))) }
 {
     let mut set = TextSet::new(alloc);
     let Some(made) = codes_under(alloc, like, rests, nexts, &mut set)? else {
@@ -195,9 +209,11 @@ fn set_column<'a>(
     requires few { length rests.now ≤ 65536 }
     requires kind { AreOfKind kinds.Sets (fronts (heading_of (lent_cell like.now)) rests.now) }
     requires empty { nexts.old.items ≡ [] }
-    ensures cells { IfOk result (λ found. IfSome found (λ column. HasCells column (length rests.now) (fronts (heading_of (lent_cell like.now)) rests.now))) }
+    ensures cells { IfOk result (λ found. IfSome found (λ column.
+        HasCells column (length rests.now) (fronts (heading_of (lent_cell like.now)) rests.now))) }
     ensures kind { IfOk result (λ found. IfSome found (λ column. kind_in column ≡ kinds.Sets)) }
-    ensures passed { IfOk result (λ found. IfSome found (λ _. ArePassed (heading_of (lent_cell like.now)) (each_cells rests.now) (each_cells nexts.new.items))) }
+    ensures passed { IfOk result (λ found. IfSome found (λ _.
+        ArePassed (heading_of (lent_cell like.now)) (each_cells rests.now) (each_cells nexts.new.items))) }
 {
     let Some(values) = values_under(alloc, like, rests, nexts)? else {
         return Ok(None);
@@ -215,11 +231,15 @@ fn column_under<'a>(
 ) -> Result<Option<Column>, AllocError>
     requires some { 0 < length rests.now }
     requires few { length rests.now ≤ 65536 }
-    requires kind { AreOfKind (heading_of (lent_cell like.now)).kind (fronts (heading_of (lent_cell like.now)) rests.now) }
+    requires kind { AreOfKind (heading_of (lent_cell like.now)).kind
+        (fronts (heading_of (lent_cell like.now)) rests.now) }
     requires empty { nexts.old.items ≡ [] }
-    ensures cells { IfOk result (λ found. IfSome found (λ column. HasCells column (length rests.now) (fronts (heading_of (lent_cell like.now)) rests.now))) }
-    ensures kind { IfOk result (λ found. IfSome found (λ column. kind_in column ≡ kind_of (lent_value like.now.value))) }
-    ensures passed { IfOk result (λ found. IfSome found (λ _. ArePassed (heading_of (lent_cell like.now)) (each_cells rests.now) (each_cells nexts.new.items))) }
+    ensures cells { IfOk result (λ found. IfSome found (λ column.
+        HasCells column (length rests.now) (fronts (heading_of (lent_cell like.now)) rests.now))) }
+    ensures kind { IfOk result (λ found.
+        IfSome found (λ column. kind_in column ≡ kind_of (lent_value like.now.value))) }
+    ensures passed { IfOk result (λ found. IfSome found (λ _.
+        ArePassed (heading_of (lent_cell like.now)) (each_cells rests.now) (each_cells nexts.new.items))) }
 {
     match &like.value {
         LentValue::Int(first) => integer_column(alloc, like, *first, rests, nexts),
@@ -249,7 +269,8 @@ fn take_column<'a>(
 ) -> Result<Option<BlockColumn>, AllocError>
     requires some { 0 < length rests.now }
     requires few { length rests.now ≤ 65536 }
-    requires cells { (i : ℕ) → i < length (each_cells rests.now) → AreCells (slice_index_or (each_cells rests.now) i []) }
+    requires cells { (i : ℕ) → i < length (each_cells rests.now)
+        → AreCells (slice_index_or (each_cells rests.now) i []) }
     requires front { HasFront (lent_cell like.now) (each_cells rests.now) }
     ensures { IfOk result (λ found. IfSome found (IsNext (each_cells rests.now) (each_cells nexts.new.items))) }
 {
@@ -274,7 +295,8 @@ fn first_of<'a>(rests: &[LentCells<'a>]) -> Option<LentCell<'a>>
 
 /// Replaces `earliest` by the first cell of a row, if that has an earlier heading.
 fn look<'a>(earliest: &mut Option<LentCell<'a>>, rest: &LentCells<'a>)
-    ensures { option_map lent_cell earliest.new ≡ earlier (option_map lent_cell earliest.old) (front (lent_cells rest.now)) }
+    ensures { option_map lent_cell earliest.new
+        ≡ earlier (option_map lent_cell earliest.old) (front (lent_cells rest.now)) }
 {
     let Some((first, _others)) = rest.split_first() else {
         return;
@@ -308,7 +330,8 @@ fn search_column<'a>(
 ) -> Result<Option<BlockColumn>, AllocError>
     requires some { 0 < length rests.now }
     requires few { length rests.now ≤ 65536 }
-    requires cells { (i : ℕ) → i < length (each_cells rests.now) → AreCells (slice_index_or (each_cells rests.now) i []) }
+    requires cells { (i : ℕ) → i < length (each_cells rests.now)
+        → AreCells (slice_index_or (each_cells rests.now) i []) }
     ensures { IfOk result (λ found. IfSome found (IsNext (each_cells rests.now) (each_cells nexts.new.items))) }
 {
     let Some(like) = earliest_of(rests) else {
@@ -327,7 +350,8 @@ pub(crate) fn next_column<'a>(
 ) -> Result<Option<BlockColumn>, AllocError>
     requires some { 0 < length rests.now }
     requires few { length rests.now ≤ 65536 }
-    requires cells { (i : ℕ) → i < length (each_cells rests.now) → AreCells (slice_index_or (each_cells rests.now) i []) }
+    requires cells { (i : ℕ) → i < length (each_cells rests.now)
+        → AreCells (slice_index_or (each_cells rests.now) i []) }
     ensures { IfOk result (λ found. IfSome found (IsNext (each_cells rests.now) (each_cells nexts.new.items))) }
 {
     let Some(like) = first_of(rests) else {

@@ -32,7 +32,8 @@ fn is_cell_name(name: &Text) -> bool
 
 /// Reads the bytes as a column of `rows` cells. None if they mean none.
 fn view_of_rows(rows: u32, bytes: &[u8]) -> Option<ColumnView<'_>>
-    ensures { MatchOption result (MeanCells bytes.now rows → ⊥) (λ view. MeanCells bytes.now rows × IsSeen view bytes.now × (length view.codes ≡ rows)) }
+    ensures { MatchOption result (MeanCells bytes.now rows → ⊥) (λ view.
+        MeanCells bytes.now rows × IsSeen view bytes.now × (length view.codes ≡ rows)) }
 {
     let view = view_of(bytes)?;
     if view.len() == rows { Some(view) } else { None }
@@ -40,7 +41,8 @@ fn view_of_rows(rows: u32, bytes: &[u8]) -> Option<ColumnView<'_>>
 
 /// Reads a column other than that of the times. None if it is no such column.
 fn view_of_other(rows: u32, column: &BlockColumn) -> Option<ColumnView<'_>>
-    ensures { MatchOption result (IsOther rows column.now → ⊥) (λ view. IsOther rows column.now × IsSeen view column.now.bytes) }
+    ensures { MatchOption result (IsOther rows column.now → ⊥) (λ view.
+        IsOther rows column.now × IsSeen view column.now.bytes) }
 {
     if !is_cell_name(&column.name) {
         return None;
@@ -71,7 +73,8 @@ fn fill_times(view: &ColumnView, codes: &mut [u64], present: &mut [bool], times:
     requires codes { length codes.old ≡ length view.now.codes }
     requires present { length present.old ≡ length view.now.codes }
     requires times { length times.old ≡ length view.now.codes }
-    ensures { (i : ℕ) → i < length view.now.codes → cell_at view.now i ≡ (if slice_index_or present.new i false then Some (Int (slice_index_or times.new i (pos 0))) else None) }
+    ensures { (i : ℕ) → i < length view.now.codes → cell_at view.now i
+        ≡ (if slice_index_or present.new i false then Some (Int (slice_index_or times.new i (pos 0))) else None) }
 {
     view.integers(codes, present, times);
 }
@@ -79,7 +82,8 @@ fn fill_times(view: &ColumnView, codes: &mut [u64], present: &mut [bool], times:
 /// Whether each cell is there and is a time.
 fn are_times(present: &[bool], times: &[i64]) -> bool
     requires { length present.now ≡ length times.now }
-    ensures { IsTrue result ↔ ((i : ℕ) → i < length times.now → IsTimeCell (if slice_index_or present.now i false then Some (Int (slice_index_or times.now i (pos 0))) else None)) }
+    ensures { IsTrue result ↔ ((i : ℕ) → i < length times.now → IsTimeCell
+        (if slice_index_or present.now i false then Some (Int (slice_index_or times.now i (pos 0))) else None)) }
 {
     for i in 0..times.len() {
         if !is_time(present[i], times[i]) {
@@ -99,7 +103,9 @@ fn is_time(present: bool, time: i64) -> bool
 /// difference is added once.
 fn times_in(alloc: Global, view: &ColumnView) -> Result<Option<Vec<i64>>, AllocError>
     requires { kind_of view.now.book ≡ Ints }
-    ensures { IfOk result (λ found. MatchOption found (((i : ℕ) → i < length view.now.codes → IsTimeCell (cell_at view.now i)) → ⊥) (λ times. AreFound view.now (length view.now.codes) times.items)) }
+    ensures { IfOk result (λ found.
+        MatchOption found (((i : ℕ) → i < length view.now.codes → IsTimeCell (cell_at view.now i)) → ⊥) (λ times.
+        AreFound view.now (length view.now.codes) times.items)) }
 {
     let count = view.len() as usize;
     let mut codes = vec![in alloc; 0u64; count]?;

@@ -27,7 +27,8 @@ fn push_row<'a>(
     rest: &LentCells<'a>,
     cells: &mut Vec<PlacedCell<'a>>,
 ) -> Result<(), AllocError>
-    ensures { OnOk result ((i : ℕ) → row_cells i cells.new.items ≡ row_cells i cells.old.items ++ (if place == i then lent_cells rest.now else [])) }
+    ensures { OnOk result ((i : ℕ) → row_cells i cells.new.items ≡ row_cells i cells.old.items
+        ++ (if place == i then lent_cells rest.now else [])) }
 {
     let mut left = *rest;
     while let Some((cell, others)) = left.split_first() {
@@ -65,7 +66,8 @@ pub(crate) fn in_order<'a>(
     alloc: Global,
     rests: &[LentCells<'a>],
 ) -> Result<Vec<PlacedCell<'a>>, AllocError>
-    requires { (i : ℕ) → IsStrictlySortedBy (slice_cmp nat_cmp) (names_of (slice_index_or (each_cells rests.now) i [])) }
+    requires { (i : ℕ)
+        → IsStrictlySortedBy (slice_cmp nat_cmp) (names_of (slice_index_or (each_cells rests.now) i [])) }
     ensures rise { IfOk result (λ cells. Rise cells.items) }
     ensures cells { IfOk result (λ cells. HoldRests (each_cells rests.now) cells.items) }
 {
@@ -103,7 +105,8 @@ fn forget(values: &mut [Option<LentValue>], from: usize, to: usize)
 pub(crate) fn lend_run<'a>(cells: &[PlacedCell<'a>], values: &mut [Option<LentValue<'a>>])
     requires { All (λ (p : PlacedCell). p.place < length values.old) cells.now }
     ensures same { length values.new ≡ length values.old }
-    ensures values { (i : ℕ) → i < length values.old → option_map lent_value (slice_index_or values.new i None) ≡ last_value (row_cells i cells.now) }
+    ensures values { (i : ℕ) → i < length values.old
+        → option_map lent_value (slice_index_or values.new i None) ≡ last_value (row_cells i cells.now) }
 {
     forget(values, 0, values.len());
     for placed in cells {

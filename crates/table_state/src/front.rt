@@ -50,7 +50,8 @@ pub struct Live {
 pub fn recount(blocks: &[RowBlock], skip: u32, horizon: i64, old: i64, counted: Live) -> Live
     requires cut { IsCut skip blocks.now }
     requires few { length (sealed_rows blocks.now skip horizon) ≤ most_rows }
-    requires same { old ≡ horizon → (counted.all ≡ length (sealed_rows blocks.now skip horizon)) × AreAhead counted.ahead blocks.now skip horizon }
+    requires same { old ≡ horizon → (counted.all ≡ length (sealed_rows blocks.now skip horizon))
+        × AreAhead counted.ahead blocks.now skip horizon }
     ensures all { result.all ≡ length (sealed_rows blocks.now skip horizon) }
     ensures ahead { AreAhead result.ahead blocks.now skip horizon }
 {
@@ -95,7 +96,8 @@ fn front_of(blocks: &[RowBlock], skip: u32, horizon: i64, gone: u64) -> Front
     requires few { gone ≤ length (sealed_rows blocks.now skip horizon) }
     ensures blocks { result.blocks ≤ length blocks.now }
     ensures cut { IsSkip result.skip (drop result.blocks blocks.now) }
-    ensures rows { sealed_rows (drop result.blocks blocks.now) result.skip horizon ≡ drop gone (sealed_rows blocks.now skip horizon) }
+    ensures rows { sealed_rows (drop result.blocks blocks.now) result.skip horizon
+        ≡ drop gone (sealed_rows blocks.now skip horizon) }
     ensures ahead { AreAhead result.ahead (drop result.blocks blocks.now) result.skip horizon }
 {
     let mut left = gone;

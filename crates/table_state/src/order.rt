@@ -59,7 +59,8 @@ pub fn last_left(last: i64, rows: &PackedRows) -> Option<i64>
 /// The number of rows before the first that is at or after the horizon.
 fn count_below(rows: &LentRows, horizon: i64) -> usize
     ensures few { result ≤ length (lent_rows rows.now) }
-    ensures left { (from to : ℤ) → AreAscending from (lent_rows rows.now) to → drop result (lent_rows rows.now) ≡ rows_from horizon (lent_rows rows.now) }
+    ensures left { (from to : ℤ) → AreAscending from (lent_rows rows.now) to
+        → drop result (lent_rows rows.now) ≡ rows_from horizon (lent_rows rows.now) }
 {
     // A usize holds the number of all rows, and so the count below.
     let _most = rows.len();

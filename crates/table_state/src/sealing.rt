@@ -23,9 +23,11 @@ const RUN: usize = 65536;
 /// Seals each whole run of the rows into a block. The rows after the last whole run are not looked at.
 fn runs_of(alloc: Global, rows: &LentRows) -> Result<Vec<RowBlock>, AllocError>
     requires { AllByRecursion IsRow (lent_rows rows.now) }
-    ensures rows { IfOk result (λ blocks. block_rows blocks.items ≡ take (in_runs (length (lent_rows rows.now))) (lent_rows rows.now)) }
+    ensures rows { IfOk result (λ blocks.
+        block_rows blocks.items ≡ take (in_runs (length (lent_rows rows.now))) (lent_rows rows.now)) }
     ensures each { IfOk result (λ blocks. AllByRecursion IsBlock blocks.items) }
-    ensures few { IfOk result (λ blocks. columns_count blocks.items ≤ rows_and_cells (take (in_runs (length (lent_rows rows.now))) (lent_rows rows.now))) }
+    ensures few { IfOk result (λ blocks. columns_count blocks.items ≤ rows_and_cells
+        (take (in_runs (length (lent_rows rows.now))) (lent_rows rows.now))) }
 {
     let mut blocks = Vec::new(alloc);
     let mut left = *rows;
@@ -69,7 +71,8 @@ pub fn prepare(
     ensures sealed { OnOk result (AreSealed blocks.old (take (in_runs (length tail.new)) tail.new) blocks.new) }
     ensures blocks { OnErr result (blocks.new ≡ blocks.old) }
     ensures tail { OnErr result (tail.new ≡ tail.old) }
-    ensures full { result ≡ Err fault.Full → most_rows < live + length tail.old + length (rows_from horizon (lent_rows more.now)) }
+    ensures full { result ≡ Err fault.Full
+        → most_rows < live + length tail.old + length (rows_from horizon (lent_rows more.now)) }
 {
     let before = tail.len();
     if !has_room(live + before as u64, horizon, more) {
