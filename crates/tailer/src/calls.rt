@@ -76,7 +76,8 @@ pub(crate) fn add_to_picked<'t, R: Wait + Threads + Sync, G: Gate>(
     requires leaf { IfSome picked (λ leaf. leaf < length tail.now.fleet.now) }
     requires rows { AllByRecursion IsRow tail.now.rows.now }
     ensures add { is_some result ≡ is_some picked }
-    ensures calls { CallsOn tail.now.fleet.now tail.now.table seats.old (adding tail.now.rows.now picked result) seats.new }
+    ensures calls { CallsOn tail.now.fleet.now tail.now.table seats.old
+        (adding tail.now.rows.now picked result) seats.new }
     ensures seats { AreSeatsAt tail.now.fleet.now tail.now.table seats.new }
 {
     match picked {
@@ -96,7 +97,8 @@ fn add_at<'t, R: Wait + Threads + Sync, G: Gate>(
     requires seats { AreSeatsAt tail.now.fleet.now tail.now.table seats.old }
     requires leaf { leaf < length tail.now.fleet.now }
     requires rows { AllByRecursion IsRow tail.now.rows.now }
-    ensures call { CallAt tail.now.fleet.now tail.now.table seats.old (record { leaf = leaf; call = call.Add tail.now.rows.now; reply = result }) seats.new }
+    ensures call { CallAt tail.now.fleet.now tail.now.table seats.old
+        (record { leaf = leaf; call = call.Add tail.now.rows.now; reply = result }) seats.new }
     ensures seats { AreSeatsAt tail.now.fleet.now tail.now.table seats.new }
 {
     let tables = tail.fleet.leaf(leaf);

@@ -40,13 +40,16 @@ pub fn send<R: Wait + Threads + Sync, G: Gate>(
     requires some { 0 < length fleet.now }
     requires rows { AllByRecursion IsRow rows.now }
     // The tries are those of the words, and end as the tail says.
-    ensures tails { IfOk result (λ t. Tails free_of is_added (length fleet.now) (first_words pcg32 32 words.old) (tries_seen t.tries) (sent_to t.sent)) }
+    ensures tails { IfOk result (λ t. Tails free_of is_added
+        (length fleet.now) (first_words pcg32 32 words.old) (tries_seen t.tries) (sent_to t.sent)) }
     // Each try drew two words, and no other word was drawn.
     ensures words { IfOk result (λ t. words.new ≡ behind_tries (length t.tries) words.old) }
     // Each reply is that of a call by the seat of its leaf, one call after another.
-    ensures calls { IfOk result (λ t. CallsOn fleet.now table seats.old (calls_in rows.now (tries_seen t.tries)) seats.new) }
+    ensures calls { IfOk result (λ t.
+        CallsOn fleet.now table seats.old (calls_in rows.now (tries_seen t.tries)) seats.new) }
     // The count in an answer is that of the rows before its entry, however the histories go on.
-    ensures over { (histories : ℕ → List Entry) → GoOn seats.new histories → IfOk result (λ t. AllByRecursion (IsOverRows (bases_in fleet.now table) histories) (calls_in rows.now (tries_seen t.tries))) }
+    ensures over { (histories : ℕ → List Entry) → GoOn seats.new histories → IfOk result (λ t.
+        AllByRecursion (IsOverRows (bases_in fleet.now table) histories) (calls_in rows.now (tries_seen t.tries))) }
     // After Err no leaf was asked, and no word was drawn.
     ensures refused { IsErr result → seats.new ≡ seats.old }
     ensures undrawn { IsErr result → words.new ≡ words.old }
