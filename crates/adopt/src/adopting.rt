@@ -30,13 +30,17 @@ use std::alloc::Global;
 #[tactic(auto, using(crate::proofs::Ending::untouched_disks))]
 pub fn find<B: Berth>(alloc: Global, berth: &mut B, names: &Names) -> Result<Found, AdoptFault>
     requires names { AreNames names.now }
-    ensures told { IsTrue (B.meaning berth.old).tells → Finds names.now (B.meaning berth.old).held.region (B.meaning berth.new).held.region result }
+    ensures told { IsTrue (B.meaning berth.old).tells
+        → Finds names.now (B.meaning berth.old).held.region (B.meaning berth.new).held.region result }
     ensures ready { IfOk result (KeepsNames names.now) }
-    ensures disk { IsTrue (B.meaning berth.old).tells → (B.meaning berth.new).held.disk ≡ (B.meaning berth.old).held.disk }
+    ensures disk { IsTrue (B.meaning berth.old).tells
+        → (B.meaning berth.new).held.disk ≡ (B.meaning berth.old).held.disk }
     ensures disks { IsTrue (B.meaning berth.old).tells → Ended SameDisk (B.meaning berth.old) (B.meaning berth.new) }
-    ensures moments { IsTrue (B.meaning berth.old).tells → Throughout (AdoptsFrom (B.meaning berth.old)) (B.meaning berth.old) (B.meaning berth.new) }
+    ensures moments { IsTrue (B.meaning berth.old).tells
+        → Throughout (AdoptsFrom (B.meaning berth.old)) (B.meaning berth.old) (B.meaning berth.new) }
     ensures time { Passes (B.meaning berth.old) (B.meaning berth.new) }
-    ensures cause { result ≡ Err fault.RegionFault → Rose (B.meaning berth.old).region_faults (B.meaning berth.new).region_faults }
+    ensures cause { result ≡ Err fault.RegionFault
+        → Rose (B.meaning berth.old).region_faults (B.meaning berth.new).region_faults }
     ensures reads { (B.meaning berth.new).disk_reads ≡ (B.meaning berth.old).disk_reads }
 {
     let front = read_front(berth)?;
@@ -55,13 +59,18 @@ fn find_open<B: Berth>(
     front: &[u8; 16],
     berth: &mut B,
 ) -> Result<Found, AdoptFault>
-    ensures told { IsTrue (B.meaning berth.old).tells → head_of (B.meaning berth.old).held.region ≡ Version version → front.now ≡ take 16 (B.meaning berth.old).held.region → Finds names.now (B.meaning berth.old).held.region (B.meaning berth.new).held.region result }
+    ensures told { IsTrue (B.meaning berth.old).tells → head_of (B.meaning berth.old).held.region ≡ Version version
+        → front.now ≡ take 16 (B.meaning berth.old).held.region
+        → Finds names.now (B.meaning berth.old).held.region (B.meaning berth.new).held.region result }
     ensures ready { IfOk result (KeepsNames names.now) }
-    ensures disk { IsTrue (B.meaning berth.old).tells → (B.meaning berth.new).held.disk ≡ (B.meaning berth.old).held.disk }
+    ensures disk { IsTrue (B.meaning berth.old).tells
+        → (B.meaning berth.new).held.disk ≡ (B.meaning berth.old).held.disk }
     ensures disks { IsTrue (B.meaning berth.old).tells → Ended SameDisk (B.meaning berth.old) (B.meaning berth.new) }
-    ensures moments { IsTrue (B.meaning berth.old).tells → IsOpenRegion (B.meaning berth.old).held.region → Throughout (AdoptsFrom (B.meaning berth.old)) (B.meaning berth.old) (B.meaning berth.new) }
+    ensures moments { IsTrue (B.meaning berth.old).tells → IsOpenRegion (B.meaning berth.old).held.region
+        → Throughout (AdoptsFrom (B.meaning berth.old)) (B.meaning berth.old) (B.meaning berth.new) }
     ensures time { Passes (B.meaning berth.old) (B.meaning berth.new) }
-    ensures cause { result ≡ Err fault.RegionFault → Rose (B.meaning berth.old).region_faults (B.meaning berth.new).region_faults }
+    ensures cause { result ≡ Err fault.RegionFault
+        → Rose (B.meaning berth.old).region_faults (B.meaning berth.new).region_faults }
     ensures reads { (B.meaning berth.new).disk_reads ≡ (B.meaning berth.old).disk_reads }
 {
     close_flag(berth)?;
@@ -72,18 +81,23 @@ impl Adopt {
     /// Makes one step: reads the last column that is left in the region and cuts it off. If none is left, it makes
     /// tables of all columns.
     pub fn step<B: Berth>(self, alloc: Global, berth: &mut B) -> Result<AdoptStep, AdoptFault>
-        ensures told { (region : List ℕ) → IsTrue (B.meaning berth.old).tells → Adopting region self (B.meaning berth.old).held.region
+        ensures told { (region : List ℕ) → IsTrue (B.meaning berth.old).tells
+            → Adopting region self (B.meaning berth.old).held.region
             → AdoptsOn region self (B.meaning berth.new).held.region result }
         ensures adopted { AreAdopted self.names result }
         ensures kept { IfOk result (KeepsOn self) }
-        ensures disk { IsTrue (B.meaning berth.old).tells → (B.meaning berth.new).held.disk ≡ (B.meaning berth.old).held.disk }
-        ensures disks { IsTrue (B.meaning berth.old).tells → Ended SameDisk (B.meaning berth.old) (B.meaning berth.new) }
+        ensures disk { IsTrue (B.meaning berth.old).tells
+            → (B.meaning berth.new).held.disk ≡ (B.meaning berth.old).held.disk }
+        ensures disks { IsTrue (B.meaning berth.old).tells
+            → Ended SameDisk (B.meaning berth.old) (B.meaning berth.new) }
         ensures moments { IsTrue (B.meaning berth.old).tells → IsClosed (B.meaning berth.old).held.region
             → Throughout (ClosedFrom (B.meaning berth.old)) (B.meaning berth.old) (B.meaning berth.new) }
-        ensures inside { (region : List ℕ) → IsTrue (B.meaning berth.old).tells → Adopting region self (B.meaning berth.old).held.region
+        ensures inside { (region : List ℕ) → IsTrue (B.meaning berth.old).tells
+            → Adopting region self (B.meaning berth.old).held.region
             → Meanwhile (IsInImage self) (B.meaning berth.old) (B.meaning berth.new) }
         ensures time { Passes (B.meaning berth.old) (B.meaning berth.new) }
-        ensures cause { result ≡ Err fault.RegionFault → Rose (B.meaning berth.old).region_faults (B.meaning berth.new).region_faults }
+        ensures cause { result ≡ Err fault.RegionFault
+            → Rose (B.meaning berth.old).region_faults (B.meaning berth.new).region_faults }
         ensures reads { (B.meaning berth.new).disk_reads ≡ (B.meaning berth.old).disk_reads }
     {
         if self.left.is_empty() {
@@ -108,18 +122,23 @@ impl Adopt {
     /// Takes the last column that is left.
     fn take_column<B: Berth>(self, alloc: Global, berth: &mut B) -> Result<AdoptStep, AdoptFault>
         requires some { 0 < self.left }
-        ensures told { (region : List ℕ) → IsTrue (B.meaning berth.old).tells → Adopting region self (B.meaning berth.old).held.region
+        ensures told { (region : List ℕ) → IsTrue (B.meaning berth.old).tells
+            → Adopting region self (B.meaning berth.old).held.region
             → AdoptsOn region self (B.meaning berth.new).held.region result }
         ensures adopted { AreAdopted self.names result }
         ensures kept { IfOk result (KeepsOn self) }
-        ensures disk { IsTrue (B.meaning berth.old).tells → (B.meaning berth.new).held.disk ≡ (B.meaning berth.old).held.disk }
-        ensures disks { IsTrue (B.meaning berth.old).tells → Ended SameDisk (B.meaning berth.old) (B.meaning berth.new) }
+        ensures disk { IsTrue (B.meaning berth.old).tells
+            → (B.meaning berth.new).held.disk ≡ (B.meaning berth.old).held.disk }
+        ensures disks { IsTrue (B.meaning berth.old).tells
+            → Ended SameDisk (B.meaning berth.old) (B.meaning berth.new) }
         ensures moments { IsTrue (B.meaning berth.old).tells → IsClosed (B.meaning berth.old).held.region
             → Throughout (ClosedFrom (B.meaning berth.old)) (B.meaning berth.old) (B.meaning berth.new) }
-        ensures inside { (region : List ℕ) → IsTrue (B.meaning berth.old).tells → Adopting region self (B.meaning berth.old).held.region
+        ensures inside { (region : List ℕ) → IsTrue (B.meaning berth.old).tells
+            → Adopting region self (B.meaning berth.old).held.region
             → Meanwhile (IsInImage self) (B.meaning berth.old) (B.meaning berth.new) }
         ensures time { Passes (B.meaning berth.old) (B.meaning berth.new) }
-        ensures cause { result ≡ Err fault.RegionFault → Rose (B.meaning berth.old).region_faults (B.meaning berth.new).region_faults }
+        ensures cause { result ≡ Err fault.RegionFault
+            → Rose (B.meaning berth.old).region_faults (B.meaning berth.new).region_faults }
         ensures reads { (B.meaning berth.new).disk_reads ≡ (B.meaning berth.old).disk_reads }
     {
         let Adopt {
@@ -165,13 +184,16 @@ fn take_span<B: Berth>(
     ensures size { IfOk result (λ found. IfSome found (λ bytes. length bytes ≤ span.length)) }
     ensures told { IsTrue (B.meaning berth.old).tells → IsClosed (B.meaning berth.old).held.region
         → TakesSpan version span (B.meaning berth.old).held.region (B.meaning berth.new).held.region result }
-    ensures disk { IsTrue (B.meaning berth.old).tells → (B.meaning berth.new).held.disk ≡ (B.meaning berth.old).held.disk }
+    ensures disk { IsTrue (B.meaning berth.old).tells
+        → (B.meaning berth.new).held.disk ≡ (B.meaning berth.old).held.disk }
     ensures disks { IsTrue (B.meaning berth.old).tells → Ended SameDisk (B.meaning berth.old) (B.meaning berth.new) }
     ensures moments { IsTrue (B.meaning berth.old).tells → IsClosed (B.meaning berth.old).held.region
         → Throughout (ClosedFrom (B.meaning berth.old)) (B.meaning berth.old) (B.meaning berth.new) }
-    ensures inside { IsTrue (B.meaning berth.old).tells → Meanwhile (IsNoLonger (B.meaning berth.old).held.region) (B.meaning berth.old) (B.meaning berth.new) }
+    ensures inside { IsTrue (B.meaning berth.old).tells
+        → Meanwhile (IsNoLonger (B.meaning berth.old).held.region) (B.meaning berth.old) (B.meaning berth.new) }
     ensures time { Passes (B.meaning berth.old) (B.meaning berth.new) }
-    ensures cause { result ≡ Err fault.RegionFault → Rose (B.meaning berth.old).region_faults (B.meaning berth.new).region_faults }
+    ensures cause { result ≡ Err fault.RegionFault
+        → Rose (B.meaning berth.old).region_faults (B.meaning berth.new).region_faults }
     ensures reads { (B.meaning berth.new).disk_reads ≡ (B.meaning berth.old).disk_reads }
 {
     let column = read_piece(alloc, span.place, span.length, berth)?;

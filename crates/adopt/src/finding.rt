@@ -35,13 +35,18 @@ pub fn find_closed<B: Berth>(
     front: &[u8; 16],
     berth: &mut B,
 ) -> Result<Found, AdoptFault>
-    ensures told { (region : List ℕ) → IsTrue (B.meaning berth.old).tells → (B.meaning berth.old).held.region ≡ closed_flag region → head_of region ≡ Version version → front.now ≡ take 16 region → Finds names.now region (B.meaning berth.new).held.region result }
+    ensures told { (region : List ℕ) → IsTrue (B.meaning berth.old).tells
+        → (B.meaning berth.old).held.region ≡ closed_flag region → head_of region ≡ Version version
+        → front.now ≡ take 16 region → Finds names.now region (B.meaning berth.new).held.region result }
     ensures ready { IfOk result (KeepsNames names.now) }
-    ensures disk { IsTrue (B.meaning berth.old).tells → (B.meaning berth.new).held.disk ≡ (B.meaning berth.old).held.disk }
+    ensures disk { IsTrue (B.meaning berth.old).tells
+        → (B.meaning berth.new).held.disk ≡ (B.meaning berth.old).held.disk }
     ensures disks { IsTrue (B.meaning berth.old).tells → Ended SameDisk (B.meaning berth.old) (B.meaning berth.new) }
-    ensures moments { IsTrue (B.meaning berth.old).tells → IsClosed (B.meaning berth.old).held.region → Throughout (ClosedFrom (B.meaning berth.old)) (B.meaning berth.old) (B.meaning berth.new) }
+    ensures moments { IsTrue (B.meaning berth.old).tells → IsClosed (B.meaning berth.old).held.region
+        → Throughout (ClosedFrom (B.meaning berth.old)) (B.meaning berth.old) (B.meaning berth.new) }
     ensures time { Passes (B.meaning berth.old) (B.meaning berth.new) }
-    ensures cause { result ≡ Err fault.RegionFault → Rose (B.meaning berth.old).region_faults (B.meaning berth.new).region_faults }
+    ensures cause { result ≡ Err fault.RegionFault
+        → Rose (B.meaning berth.old).region_faults (B.meaning berth.new).region_faults }
     ensures reads { (B.meaning berth.new).disk_reads ≡ (B.meaning berth.old).disk_reads }
 {
     if !reads(version) {
@@ -62,13 +67,18 @@ fn find_known<B: Berth>(
     berth: &mut B,
 ) -> Result<Found, AdoptFault>
     requires read { IsRead looked.place looked.directory }
-    ensures told { (region : List ℕ) → IsTrue (B.meaning berth.old).tells → (B.meaning berth.old).held.region ≡ closed_flag region → reads version ≡ true → LooksAt version region (Some looked) → Finds names.now region (B.meaning berth.new).held.region result }
+    ensures told { (region : List ℕ) → IsTrue (B.meaning berth.old).tells
+        → (B.meaning berth.old).held.region ≡ closed_flag region → reads version ≡ true
+        → LooksAt version region (Some looked) → Finds names.now region (B.meaning berth.new).held.region result }
     ensures ready { IfOk result (KeepsNames names.now) }
-    ensures disk { IsTrue (B.meaning berth.old).tells → (B.meaning berth.new).held.disk ≡ (B.meaning berth.old).held.disk }
+    ensures disk { IsTrue (B.meaning berth.old).tells
+        → (B.meaning berth.new).held.disk ≡ (B.meaning berth.old).held.disk }
     ensures disks { IsTrue (B.meaning berth.old).tells → Ended SameDisk (B.meaning berth.old) (B.meaning berth.new) }
-    ensures moments { IsTrue (B.meaning berth.old).tells → IsClosed (B.meaning berth.old).held.region → Throughout (ClosedFrom (B.meaning berth.old)) (B.meaning berth.old) (B.meaning berth.new) }
+    ensures moments { IsTrue (B.meaning berth.old).tells → IsClosed (B.meaning berth.old).held.region
+        → Throughout (ClosedFrom (B.meaning berth.old)) (B.meaning berth.old) (B.meaning berth.new) }
     ensures time { Passes (B.meaning berth.old) (B.meaning berth.new) }
-    ensures cause { result ≡ Err fault.RegionFault → Rose (B.meaning berth.old).region_faults (B.meaning berth.new).region_faults }
+    ensures cause { result ≡ Err fault.RegionFault
+        → Rose (B.meaning berth.old).region_faults (B.meaning berth.new).region_faults }
     ensures reads { (B.meaning berth.new).disk_reads ≡ (B.meaning berth.old).disk_reads }
 {
     let Looked {
@@ -100,13 +110,18 @@ fn take_up<B: Berth>(
 ) -> Result<Found, AdoptFault>
     requires read { IsRead looked.place looked.directory }
     requires known { stranger_of names.now (map (λ (t : TablePlaces). t.name) looked.directory.tables) ≡ None }
-    ensures told { (region : List ℕ) → IsTrue (B.meaning berth.old).tells → (B.meaning berth.old).held.region ≡ closed_flag region → reads version ≡ true → LooksAt version region (Some looked) → Finds names.now region (B.meaning berth.new).held.region result }
+    ensures told { (region : List ℕ) → IsTrue (B.meaning berth.old).tells
+        → (B.meaning berth.old).held.region ≡ closed_flag region → reads version ≡ true
+        → LooksAt version region (Some looked) → Finds names.now region (B.meaning berth.new).held.region result }
     ensures ready { IfOk result (KeepsNames names.now) }
-    ensures disk { IsTrue (B.meaning berth.old).tells → (B.meaning berth.new).held.disk ≡ (B.meaning berth.old).held.disk }
+    ensures disk { IsTrue (B.meaning berth.old).tells
+        → (B.meaning berth.new).held.disk ≡ (B.meaning berth.old).held.disk }
     ensures disks { IsTrue (B.meaning berth.old).tells → Ended SameDisk (B.meaning berth.old) (B.meaning berth.new) }
-    ensures moments { IsTrue (B.meaning berth.old).tells → IsClosed (B.meaning berth.old).held.region → Throughout (ClosedFrom (B.meaning berth.old)) (B.meaning berth.old) (B.meaning berth.new) }
+    ensures moments { IsTrue (B.meaning berth.old).tells → IsClosed (B.meaning berth.old).held.region
+        → Throughout (ClosedFrom (B.meaning berth.old)) (B.meaning berth.old) (B.meaning berth.new) }
     ensures time { Passes (B.meaning berth.old) (B.meaning berth.new) }
-    ensures cause { result ≡ Err fault.RegionFault → Rose (B.meaning berth.old).region_faults (B.meaning berth.new).region_faults }
+    ensures cause { result ≡ Err fault.RegionFault
+        → Rose (B.meaning berth.old).region_faults (B.meaning berth.new).region_faults }
     ensures reads { (B.meaning berth.new).disk_reads ≡ (B.meaning berth.old).disk_reads }
 {
     let left = spans_of(alloc, &looked.directory)?;
@@ -119,7 +134,8 @@ fn begun(alloc: Global, names: &Names, version: u32, looked: Looked, left: Vec<S
     requires read { IsRead looked.place looked.directory }
     requires known { stranger_of names.now (map (λ (t : TablePlaces). t.name) looked.directory.tables) ≡ None }
     requires left { left.items ≡ spans_of looked.directory }
-    ensures { result ≡ record { names = names.now; version = version; image_len = looked.image_len; directory = looked.directory; left = length left.items; heap = [] } }
+    ensures { result
+        ≡ record { names = names.now; version = version; image_len = looked.image_len; directory = looked.directory; left = length left.items; heap = [] } }
 {
     Adopt {
         names: Snapshot::of(names),

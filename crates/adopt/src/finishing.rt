@@ -44,7 +44,8 @@ fn tables_from(
 ) -> Result<Vec<DrainTable>, BlockFault>
     ensures made { IfOk result (λ made. made.items ≡ tables_from tables.items columns.old.items) }
     ensures each { IfOk result (λ made. AllByRecursion IsMade made.items) }
-    ensures refused { IfErr result (λ e. e ≡ NoRows → AllByRecursion IsMade (tables_from tables.items columns.old.items) → ⊥) }
+    ensures refused { IfErr result (λ e.
+        e ≡ NoRows → AllByRecursion IsMade (tables_from tables.items columns.old.items) → ⊥) }
 {
     let mut rest = VecDeque::from_vec(tables);
     let mut made = Vec::new(alloc);
@@ -95,7 +96,8 @@ fn blocks_from(
     ensures made { IfOk result (λ made. made.items ≡ made_from block_from after_block blocks.items columns.old.items) }
     ensures each { IfOk result (λ made. AllByRecursion IsBlock made.items) }
     ensures left { OnOk result (columns.new.items ≡ left_by after_block blocks.items columns.old.items) }
-    ensures refused { IfErr result (λ e. e ≡ NoRows → AllByRecursion IsBlock (made_from block_from after_block blocks.items columns.old.items) → ⊥) }
+    ensures refused { IfErr result (λ e.
+        e ≡ NoRows → AllByRecursion IsBlock (made_from block_from after_block blocks.items columns.old.items) → ⊥) }
 {
     let mut rest = VecDeque::from_vec(blocks);
     let mut made = Vec::new(alloc);

@@ -23,15 +23,19 @@ use std::alloc::{AllocError, Global};
 /// changed, and cuts each column off the region once it was read.
 pub fn adopt<B: Berth>(alloc: Global, names: &Names, berth: &mut B) -> Result<Adoption, AdoptFault>
     requires names { AreNames names.now }
-    ensures told { IsTrue (B.meaning berth.old).tells → Adopts names.now (B.meaning berth.old).held.region (B.meaning berth.new).held.region result }
+    ensures told { IsTrue (B.meaning berth.old).tells
+        → Adopts names.now (B.meaning berth.old).held.region (B.meaning berth.new).held.region result }
     // Each disk that a crash may leave stays as it was.
-    ensures disk { IsTrue (B.meaning berth.old).tells → (B.meaning berth.new).held.disk ≡ (B.meaning berth.old).held.disk }
+    ensures disk { IsTrue (B.meaning berth.old).tells
+        → (B.meaning berth.new).held.disk ≡ (B.meaning berth.old).held.disk }
     ensures disks { IsTrue (B.meaning berth.old).tells → Ended SameDisk (B.meaning berth.old) (B.meaning berth.new) }
     // What a crash leaves at each moment.
-    ensures moments { IsTrue (B.meaning berth.old).tells → Throughout (AdoptsFrom (B.meaning berth.old)) (B.meaning berth.old) (B.meaning berth.new) }
+    ensures moments { IsTrue (B.meaning berth.old).tells
+        → Throughout (AdoptsFrom (B.meaning berth.old)) (B.meaning berth.old) (B.meaning berth.new) }
     ensures adopted { IfOk result (HasTables (length names.now)) }
     ensures time { Passes (B.meaning berth.old) (B.meaning berth.new) }
-    ensures cause { result ≡ Err fault.RegionFault → Rose (B.meaning berth.old).region_faults (B.meaning berth.new).region_faults }
+    ensures cause { result ≡ Err fault.RegionFault
+        → Rose (B.meaning berth.old).region_faults (B.meaning berth.new).region_faults }
     ensures reads { (B.meaning berth.new).disk_reads ≡ (B.meaning berth.old).disk_reads }
 {
     match find(alloc, berth, names)? {
@@ -53,13 +57,19 @@ fn adopt_image<B: Berth>(
 ) -> Result<Adoption, AdoptFault>
     requires distinct { AreDistinct names.now }
     requires same { image.names ≡ names.now }
-    ensures told { (region : List ℕ) → IsTrue (B.meaning berth.old).tells → Adopting region image (B.meaning berth.old).held.region → Adopts names.now region (B.meaning berth.new).held.region result }
+    ensures told { (region : List ℕ) → IsTrue (B.meaning berth.old).tells
+        → Adopting region image (B.meaning berth.old).held.region
+        → Adopts names.now region (B.meaning berth.new).held.region result }
     ensures adopted { IfOk result (HasTables (length names.now)) }
-    ensures disk { IsTrue (B.meaning berth.old).tells → (B.meaning berth.new).held.disk ≡ (B.meaning berth.old).held.disk }
+    ensures disk { IsTrue (B.meaning berth.old).tells
+        → (B.meaning berth.new).held.disk ≡ (B.meaning berth.old).held.disk }
     ensures disks { IsTrue (B.meaning berth.old).tells → Ended SameDisk (B.meaning berth.old) (B.meaning berth.new) }
-    ensures moments { (region : List ℕ) → IsTrue (B.meaning berth.old).tells → Adopting region image (B.meaning berth.old).held.region → Throughout (ClosedFrom (B.meaning berth.old)) (B.meaning berth.old) (B.meaning berth.new) }
+    ensures moments { (region : List ℕ) → IsTrue (B.meaning berth.old).tells
+        → Adopting region image (B.meaning berth.old).held.region
+        → Throughout (ClosedFrom (B.meaning berth.old)) (B.meaning berth.old) (B.meaning berth.new) }
     ensures time { Passes (B.meaning berth.old) (B.meaning berth.new) }
-    ensures cause { result ≡ Err fault.RegionFault → Rose (B.meaning berth.old).region_faults (B.meaning berth.new).region_faults }
+    ensures cause { result ≡ Err fault.RegionFault
+        → Rose (B.meaning berth.old).region_faults (B.meaning berth.new).region_faults }
     ensures reads { (B.meaning berth.new).disk_reads ≡ (B.meaning berth.old).disk_reads }
 {
     match take_all(alloc, image, berth)? {
@@ -87,13 +97,19 @@ fn take_all<B: Berth>(
     image: Adopt,
     berth: &mut B,
 ) -> Result<Option<Drained>, AdoptFault>
-    ensures told { (region : List ℕ) → IsTrue (B.meaning berth.old).tells → Adopting region image (B.meaning berth.old).held.region → TakesAll region (B.meaning berth.new).held.region result }
+    ensures told { (region : List ℕ) → IsTrue (B.meaning berth.old).tells
+        → Adopting region image (B.meaning berth.old).held.region
+        → TakesAll region (B.meaning berth.new).held.region result }
     ensures drained { IfOk result (λ found. IfSome found (IsDrained image.names)) }
-    ensures disk { IsTrue (B.meaning berth.old).tells → (B.meaning berth.new).held.disk ≡ (B.meaning berth.old).held.disk }
+    ensures disk { IsTrue (B.meaning berth.old).tells
+        → (B.meaning berth.new).held.disk ≡ (B.meaning berth.old).held.disk }
     ensures disks { IsTrue (B.meaning berth.old).tells → Ended SameDisk (B.meaning berth.old) (B.meaning berth.new) }
-    ensures moments { (region : List ℕ) → IsTrue (B.meaning berth.old).tells → Adopting region image (B.meaning berth.old).held.region → Throughout (ClosedFrom (B.meaning berth.old)) (B.meaning berth.old) (B.meaning berth.new) }
+    ensures moments { (region : List ℕ) → IsTrue (B.meaning berth.old).tells
+        → Adopting region image (B.meaning berth.old).held.region
+        → Throughout (ClosedFrom (B.meaning berth.old)) (B.meaning berth.old) (B.meaning berth.new) }
     ensures time { Passes (B.meaning berth.old) (B.meaning berth.new) }
-    ensures cause { result ≡ Err fault.RegionFault → Rose (B.meaning berth.old).region_faults (B.meaning berth.new).region_faults }
+    ensures cause { result ≡ Err fault.RegionFault
+        → Rose (B.meaning berth.old).region_faults (B.meaning berth.new).region_faults }
     ensures reads { (B.meaning berth.new).disk_reads ≡ (B.meaning berth.old).disk_reads }
 {
     let mut left = image;

@@ -1,4 +1,4 @@
--- One table of every leaf of a fleet is asked, each by a caller's seat there.
+-- One table of each leaf is asked, by the callers' seat there.
 use Rattle.std.specs.Prelude.{◌≡◌, ℕ, suc, ◌≤◌, List, [], ◌∷◌, length, slice_get, Some, Result, IfOk, ⊤}
 use Rattle.leaf_model.specs.declared.queries.Query.{Query}
 use Rattle.leaf_history.specs.Calls as call
@@ -10,20 +10,20 @@ use Rattle.leaf_table.specs.Lists.{place}
 use Rattle.aggregator.specs.declared.fanned.Fanned.{Fanned}
 use Rattle.aggregator.specs.Sorts.{Sorts}
 
--- a caller's seat at the table of that number at a leaf
+-- a callers' seat at this table of a leaf
 pub record IsSeatAt (fleet : List (List Shared)) (table leaf : ℕ) (v : SeatView) : Type 0 where
   pub shared : Shared
   pub stands : place fleet leaf table ≡ Some shared
   pub seat : IsSeatOf v shared.site
   pub caller : IsCaller v
 
--- one at each leaf of a fleet of at most 256, in the order of the leaves
+-- a callers' seat at each leaf of a fleet of at most 256, in the order of the leaves
 pub record AreSeatsAt (fleet : List (List Shared)) (table : ℕ) (seats : List SeatView) : Type 0 where
   pub count : length seats ≡ length fleet
   pub few : length fleet ≤ 256
   pub each : (leaf : ℕ) (v : SeatView) → slice_get seats leaf ≡ Some v → IsSeatAt fleet table leaf v
 
--- a leaf was asked by its seat: an entry with this reply was made there, or the seat is worn
+-- a leaf was asked by its seat: it made an entry with this reply, or the seat is worn
 pub record IsAsked (q : Query) (fleet : List (List Shared)) (table leaf : ℕ) (v : SeatView) (reply : Reply) (w : SeatView) : Type 0 where
   pub shared : Shared
   pub stands : place fleet leaf table ≡ Some shared
@@ -31,7 +31,7 @@ pub record IsAsked (q : Query) (fleet : List (List Shared)) (table leaf : ℕ) (
   pub seat : IsSeatOf w shared.site
   pub same : SameSeat v w
 
--- each leaf from this one on was asked by its seat, in the order of the leaves
+-- each leaf from `leaf` on was asked by its seat, in the order of the leaves
 abbrev pub Asked : Query → List (List Shared) → ℕ → ℕ → List SeatView → List Reply → List SeatView → Type 0
 Asked q fleet table leaf [] [] [] = ⊤
 Asked q fleet table leaf (v ∷ vs) (reply ∷ replies) (w ∷ ws) = IsAsked q fleet table leaf v reply w × Asked q fleet table (suc leaf) vs replies ws
@@ -40,7 +40,7 @@ Asked q fleet table leaf [] (reply ∷ replies) ws = ⊥
 Asked q fleet table leaf (v ∷ vs) [] ws = ⊥
 Asked q fleet table leaf (v ∷ vs) (reply ∷ replies) [] = ⊥
 
--- every leaf was asked, and what is answered has each of them in the list of its reply
+-- each leaf was asked, and the result has each in the list of its reply
 pub record AllAsked {E : Type 0} (q : Query) (fleet : List (List Shared)) (table : ℕ) (seats after : List SeatView) (result : Result Fanned E) : Type 0 where
   pub replies : List Reply
   pub asked : Asked q fleet table 0 seats replies after

@@ -1,4 +1,4 @@
-// Leaves that are asked at once, by halves.
+// Asks leaves in threads, by halves.
 ghost use Rattle.std.specs.Prelude.{◌≡◌, ◌+◌, ◌<◌, ◌≤◌, length};
 ghost use Rattle.std.specs.Thread.{IsSync};
 ghost use Rattle.aggregator.specs.Asks.{IsSeatAt, IsAsked, Asked};
@@ -9,10 +9,11 @@ use leaf_table::{FleetTables, LentQuery, Reply, Seat};
 use std::sync::Wait;
 use std::thread::{Threads, join_mut};
 
-/// Leaves with fewer rows are asked by the thread that asks the others: to start one takes as long as to look at some thousand rows.
+/// Leaves with fewer rows are asked by the thread that asks the others. To start a thread costs as much as to read some
+/// thousand rows.
 const FEW_ROWS: u64 = 16_384;
 
-/// What is asked of which table of each leaf.
+/// The query, and the table that is asked at each leaf.
 #[derive(Clone, Copy)]
 pub struct Question<'q> {
     pub query: &'q LentQuery<'q>,
@@ -20,7 +21,8 @@ pub struct Question<'q> {
     pub table: u32,
 }
 
-/// Asks the leaves from the first on, as many as there are seats, by two threads at least where these can be made, and those with many rows in threads of their own.
+/// Asks as many leaves from `first` on as there are seats: two or more by at least two threads, if these can be
+/// started, and leaves with many rows in threads of their own.
 #[cycle(halves)]
 pub fn ask_each<'q, R: Threads + Wait + Sync, G: Gate>(
     rt: &R,
@@ -43,7 +45,8 @@ pub fn ask_each<'q, R: Threads + Wait + Sync, G: Gate>(
     ask_both(rt, gate, question, first, low, front, high, back);
 }
 
-// Asks both halves: at once where they are all leaves, or both have many rows. The second begins behind the first.
+// Asks both halves: at the same time if they are all leaves, or if both have many rows. The leaves of `high` follow
+// those of `low`.
 #[cycle(halves)]
 fn ask_both<'q, R: Threads + Wait + Sync, G: Gate>(
     rt: &R,
@@ -80,17 +83,18 @@ fn ask_both<'q, R: Threads + Wait + Sync, G: Gate>(
     join_mut(rt, &mut one, &mut other);
 }
 
-// Whether two halves of so many leaves are not all leaves. These are asked by two threads at least, so that no leaf that holds its answer back keeps all others from theirs.
+// Whether these halves are fewer than all leaves. All leaves are asked by two threads at least, so that one leaf that
+// is slow to answer does not delay all others.
 fn is_part(question: &Question<'_>, low: usize, high: usize) -> bool {
     low.saturating_add(high) < question.fleet.count()
 }
 
-// Whether so many leaves have few rows together.
+// Whether `count` leaves from `first` on have few rows together.
 fn has_few(question: &Question<'_>, first: u32, count: usize) -> bool {
     question.fleet.weight(question.table, first, count) < FEW_ROWS
 }
 
-// Asks the first leaf, where there is a seat at it.
+// Asks the first leaf, if there is a seat at it.
 fn ask_first<'q, R: Wait + Threads + Sync, G: Gate>(
     rt: &R,
     gate: &G,

@@ -1,4 +1,4 @@
-// A table of every leaf is asked.
+// Asks one table of each leaf.
 ghost use Rattle.std.specs.Prelude.{◌≡◌, ◌⊎◌, ℕ, List, length, IfOk, IsErr};
 ghost use Rattle.leaf_model.specs.Groups.{groups};
 ghost use Rattle.leaf_history.specs.History.{Entry};
@@ -17,8 +17,8 @@ use std::alloc::{AllocError, Global};
 use std::sync::Wait;
 use std::thread::Threads;
 
-/// Asks the table of that number at every leaf, all at once where threads can be made, each by its seat. Memory may be refused
-/// before any leaf is asked; where it is refused later, all were asked, and their entries stay.
+/// Asks the table with this index at each leaf, by the seat there, in threads if these can be started. Err is want of
+/// memory: either no leaf was asked, or all were asked and their entries stay.
 pub fn ask_all<R: Threads + Wait + Sync, G: Gate>(
     rt: &R,
     alloc: Global,
@@ -29,11 +29,12 @@ pub fn ask_all<R: Threads + Wait + Sync, G: Gate>(
     gate: &G,
 ) -> Result<Fanned, AllocError>
     requires seats { AreSeatsAt fleet.now table seats.old }
-    // Either no leaf was asked, for want of memory, or all were, and each stands in the one list of its reply.
+    // Either no leaf was asked, or all were, and each leaf is in the list of its reply.
     ensures asked { (IsErr result × (seats.new ≡ seats.old)) ⊎ AllAsked query.now fleet.now table seats.old seats.new result }
-    // Each leaf of the fleet stands in exactly one list, and each list ascends.
+    // Each leaf of the fleet is in exactly one list, and each list ascends.
     ensures divides { IfOk result (Divides (length fleet.now)) }
-    // The groups are those of the rows of exactly the named leaves, each as they were before its entry, however the histories go on.
+    // The groups are those of the rows of exactly the named leaves, each as before its entry, however the histories go
+    // on.
     ensures groups { (histories : ℕ → List Entry) → GoOn seats.new histories → IfOk result (λ f. f.groups ≡ groups query.now (partial (bases_in fleet.now table) histories f.named)) }
 {
     let mut replies = unasked(alloc, seats.len())?;
@@ -64,7 +65,7 @@ fn ask_by_copy<R: Threads + Wait + Sync, G: Gate>(
     ask_each(rt, gate, &question, 0, seats, replies);
 }
 
-// Room for so many replies.
+// A list with a place for each of `count` replies.
 fn unasked(alloc: Global, count: usize) -> Result<Vec<Reply>, AllocError>
     ensures { IfOk result (λ replies. length replies.items ≡ count) }
 {

@@ -1,8 +1,8 @@
-// What all leaves replied, together.
+// The replies of all leaves, together.
 use crate::lists::{Leaves, NamedList};
 use leaf_model::Groups;
 
-/// What the leaves of a fleet replied to a query. Each leaf stands in the one list of its reply, in ascending order.
+/// The replies of a fleet to a query. Each leaf is in the list of its reply. Each list ascends.
 #[derive(Drop)]
 pub struct Fanned {
     /// The groups of the rows of exactly the named leaves.
@@ -11,8 +11,8 @@ pub struct Fanned {
     pub named: NamedList,
     /// The leaves whose table was shut.
     pub shut: NamedList,
-    /// The leaves that were refused memory.
+    /// The leaves that ran out of memory.
     pub starved: NamedList,
-    /// The leaves at which no entry was made, since the seat there is worn.
+    /// The leaves whose seat is worn, so that no entry was made.
     pub worn: Leaves,
 }

@@ -1,4 +1,4 @@
-//! One table of every leaf of a fleet, asked at once: which leaves answered, and the groups of their rows.
+//! Asks one table of each leaf of a fleet: which leaves answered, and the groups of their rows.
 #![tactic(auto)]
 
 mod asking;

@@ -4,14 +4,14 @@ ghost use Rattle.std.specs.Prelude.{◌≡◌, ◌++◌, ◌∷◌, [], OnOk};
 use std::alloc::AllocError;
 use std::marker::Model;
 
-/// A leaf, and the number of the entry that was made at its table.
+/// A leaf, and the number of the entry at its table.
 #[derive(Clone, Copy, PartialEq, Eq)]
 pub struct Named {
     pub leaf: u32,
     pub number: u64,
 }
 
-/// Leaves with the numbers of their entries. Contracts see them as the list.
+/// Leaves, with the numbers of their entries. Contracts see them as the list.
 #[derive(Drop)]
 pub struct NamedList {
     inner: Vec<Named>,
@@ -45,7 +45,7 @@ impl NamedList {
         self.inner
     }
 
-    // Puts a leaf behind the others.
+    // Appends a leaf.
     pub(crate) fn push(&mut self, named: Named) -> Result<(), AllocError>
         ensures { OnOk result (self.new ≡ self.old ++ named ∷ []) }
     {
@@ -54,7 +54,7 @@ impl NamedList {
     }
 }
 
-/// Leaves by their numbers alone. Contracts see them as the list.
+/// Leaves without entries. Contracts see them as the list.
 #[derive(Drop)]
 pub struct Leaves {
     inner: Vec<u32>,
@@ -87,7 +87,7 @@ impl Leaves {
         self.inner
     }
 
-    // Puts a leaf behind the others.
+    // Appends a leaf.
     pub(crate) fn push(&mut self, leaf: u32) -> Result<(), AllocError>
         ensures { OnOk result (self.new ≡ self.old ++ leaf ∷ []) }
     {

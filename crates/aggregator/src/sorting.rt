@@ -1,4 +1,4 @@
-// One pass over the replies, in the order of the leaves: each leaf goes into the list of its reply, and the groups are merged.
+// Sorts the leaves by their replies, in the order of the leaves, and merges the groups.
 ghost use Rattle.std.specs.Prelude.{◌≡◌, ◌+◌, ◌*◌, ◌^◌, ◌<◌, ◌≤◌, ◌++◌, ◌∷◌, [], ℕ, List, length, IfOk, OnOk};
 ghost use Rattle.std.specs.List.{AllByRecursion};
 ghost use Rattle.leaf_model.specs.declared.rows.Row.{Row};
@@ -32,7 +32,7 @@ impl Fanned {
         }
     }
 
-    // Puts a leaf into the list of its reply, and its groups to those of the leaves before it.
+    // Appends the leaf to the list of its reply, and merges its groups with those of the leaves before.
     #[tactic(auto, using(crate::proofs::Sorted::still_within))]
     fn put(&mut self, alloc: Global, leaf: u32, reply: Reply) -> Result<(), AllocError>
         requires few { leaf < 256 }
@@ -55,7 +55,7 @@ impl Fanned {
         }
     }
 
-    // Names a leaf, and merges its groups with those of the leaves before it.
+    // Names a leaf, and merges its groups with those of the leaves before.
     fn put_named(&mut self, alloc: Global, named: Named, theirs: Groups) -> Result<(), AllocError>
         requires few { named.leaf < 256 }
         requires mine { AllByRecursion (IsWithin (named.leaf * 2 ^ 40)) self.old.groups }
@@ -71,7 +71,7 @@ impl Fanned {
     }
 }
 
-// The groups of so many leaves and those of one more.
+// Merges the groups of `leaves` leaves with those of one more.
 fn merge_few(alloc: Global, leaves: u32, mine: Groups, theirs: Groups) -> Result<Groups, AllocError>
     requires few { leaves < 256 }
     requires mine { AllByRecursion (IsWithin (leaves * 2 ^ 40)) mine }
@@ -82,7 +82,7 @@ fn merge_few(alloc: Global, leaves: u32, mine: Groups, theirs: Groups) -> Result
     merge(alloc, mine, theirs)
 }
 
-/// All leaves in the lists of their replies, with the groups of those that answered.
+/// Sorts all leaves by their replies, and merges the groups of those that answered. Err if memory runs out.
 #[tactic(auto, using(crate::proofs::Sorted::sorting_begins, crate::proofs::Sorted::sorting_goes_on, crate::proofs::Sorted::sorting_ends))]
 pub fn sort_all(alloc: Global, replies: Vec<Reply>) -> Result<Fanned, AllocError>
     requires few { length replies.items ≤ 256 }

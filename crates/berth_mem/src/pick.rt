@@ -165,7 +165,8 @@ fn broken_at(
     shape: u64,
 ) -> Result<(Vec<u8>, Vec<u8>), AllocError>
     requires { k < length calls.now }
-    ensures { IfOk result (λ made. breaks_at (drop k calls.now) region.now.items from.items (record { region = made.0.items; disk = made.1.items })) }
+    ensures { IfOk result (λ made. breaks_at
+        (drop k calls.now) region.now.items from.items (record { region = made.0.items; disk = made.1.items })) }
 {
     let alloc = *region.allocator();
     let old_region = region_at(region, calls, k)?;
@@ -195,7 +196,9 @@ pub fn image(
     shape: u64,
 ) -> Result<(Vec<u8>, Vec<u8>), AllocError>
     requires { moment ≤ moments calls.now }
-    ensures { IfOk result (λ made. leaves_at calls.now region.now.items disk.now.items (λ d. d ≡ disk_before calls.now disk.now.items) moment (record { region = made.0.items; disk = made.1.items })) }
+    ensures { IfOk result (λ made.
+        leaves_at calls.now region.now.items disk.now.items (λ d. d ≡ disk_before calls.now disk.now.items) moment
+        (record { region = made.0.items; disk = made.1.items })) }
 {
     let k = (moment / 2) as usize;
     let from = kept(calls, k, unsynced_lost);

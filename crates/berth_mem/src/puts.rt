@@ -33,7 +33,8 @@ pub fn region_put(
 ) -> Result<(), AllocError>
     requires { at + length bytes.now < 2 ^ 63 }
     ensures region { OnOk result (region.new.items ≡ written at bytes.now region.old.items) }
-    ensures call { OnOk result ((w : Wrote) × Describes w at bytes.now region.old.items × (calls.new.items ≡ calls.old.items ++ WroteRegion w ∷ [])) }
+    ensures call { OnOk result ((w : Wrote) × Describes w at bytes.now region.old.items
+        × (calls.new.items ≡ calls.old.items ++ WroteRegion w ∷ [])) }
     ensures err { OnErr result ((region.new.items ≡ region.old.items) × (calls.new.items ≡ calls.old.items)) }
 {
     let wrote = recorded(region, at, bytes.len())?;
@@ -52,7 +53,8 @@ pub fn disk_put(
 ) -> Result<(), AllocError>
     requires { at + length bytes.now < 2 ^ 63 }
     ensures disk { OnOk result (disk.new.items ≡ written at bytes.now disk.old.items) }
-    ensures call { OnOk result ((w : Wrote) × Describes w at bytes.now disk.old.items × (calls.new.items ≡ calls.old.items ++ WroteDisk w ∷ [])) }
+    ensures call { OnOk result ((w : Wrote) × Describes w at bytes.now disk.old.items
+        × (calls.new.items ≡ calls.old.items ++ WroteDisk w ∷ [])) }
     ensures err { OnErr result ((disk.new.items ≡ disk.old.items) × (calls.new.items ≡ calls.old.items)) }
 {
     let wrote = recorded(disk, at, bytes.len())?;
@@ -69,7 +71,8 @@ pub fn region_shorten(
     len: u64,
 ) -> Result<(), AllocError>
     ensures region { OnOk result (region.new.items ≡ take len region.old.items) }
-    ensures call { OnOk result ((w : CutOff) × (w.len ≡ len) × (w.lost.items ≡ drop len region.old.items) × (calls.new.items ≡ calls.old.items ++ CutRegion w ∷ [])) }
+    ensures call { OnOk result ((w : CutOff) × (w.len ≡ len)
+        × (w.lost.items ≡ drop len region.old.items) × (calls.new.items ≡ calls.old.items ++ CutRegion w ∷ [])) }
     ensures err { OnErr result ((region.new.items ≡ region.old.items) × (calls.new.items ≡ calls.old.items)) }
 {
     let alloc = *region.allocator();

@@ -60,11 +60,14 @@ impl Source for MemSource {
 
     fn take(&mut self, buf: &mut [u8]) -> Result<usize, Failed>
         ensures bound { ReadsAtMost result buf.new }
-        ensures bytes { ReadConsumes (⟦<MemSource as Source>⟧.left self.old) (⟦<MemSource as Source>⟧.left self.new) result buf.new }
-        ensures cause { HasCause (⟦<MemSource as Source>⟧.faults self.old) (⟦<MemSource as Source>⟧.faults self.new) result }
+        ensures bytes { ReadConsumes (⟦<MemSource as Source>⟧.left self.old)
+            (⟦<MemSource as Source>⟧.left self.new) result buf.new }
+        ensures cause { HasCause (⟦<MemSource as Source>⟧.faults self.old)
+            (⟦<MemSource as Source>⟧.faults self.new) result }
         ensures fails { is_err result ≡ fails_next (source_plan self.old) Take }
         ensures plan { source_plan self.new ≡ after_call (source_plan self.old) Take }
-        ensures faults { ⟦<MemSource as Source>⟧.faults self.new ≡ counted result (⟦<MemSource as Source>⟧.faults self.old) }
+        ensures faults { ⟦<MemSource as Source>⟧.faults self.new
+            ≡ counted result (⟦<MemSource as Source>⟧.faults self.old) }
     {
         if !self.plan.passes(Method::Take) {
             count(&mut self.faults);
@@ -129,7 +132,8 @@ impl Sink for MemSink {
     fn put(&mut self, bytes: &[u8]) -> Result<usize, Failed>
         ensures bound { WritesAtMost result bytes.now }
         ensures some { 0 < length bytes.now → IfOk result (λ n. 0 < n) }
-        ensures bytes { WriteAppends (⟦<MemSink as Sink>⟧.written self.old) (⟦<MemSink as Sink>⟧.written self.new) result bytes.now }
+        ensures bytes { WriteAppends (⟦<MemSink as Sink>⟧.written self.old)
+            (⟦<MemSink as Sink>⟧.written self.new) result bytes.now }
         ensures cause { HasCause (⟦<MemSink as Sink>⟧.faults self.old) (⟦<MemSink as Sink>⟧.faults self.new) result }
         ensures fails { IsTrue (fails_next (sink_plan self.old) Put) → IsErr result }
         ensures plan { sink_plan self.new ≡ after_call (sink_plan self.old) Put }

@@ -10,7 +10,8 @@ use crate::words::{bits_at, low_bits, word_at};
 #[inline(always)]
 fn word_from(bytes: &[u8], i: u32, width: u32) -> u64
     requires { i * width / 8 + 8 ≤ length bytes.now }
-    ensures { (j : ℕ) → i * width % 8 + j * width + width ≤ 64 → result / 2 ^ (j * width) % 2 ^ width ≡ code bytes.now width (i + j) }
+    ensures { (j : ℕ) → i * width % 8 + j * width + width ≤ 64
+        → result / 2 ^ (j * width) % 2 ^ width ≡ code bytes.now width (i + j) }
 {
     let from = i as usize * width as usize;
     word_at(bytes, from / 8) >> (from % 8)

@@ -1,4 +1,4 @@
--- What a scan may look at: the columns that the query names, of the blocks whose range of times meets the query's.
+-- What a scan may read: the columns that the query names, of blocks whose range of times meets that of the query.
 use Rattle.std.specs.Prelude.{ℕ, Bool, false, ◌||◌, ◌&&◌, List, length, map, filter, sum, ℤ, int_le, Option, Some, None, if◌then◌else◌, bytes_eq}
 use Rattle.std.specs.List.{list_any}
 use Rattle.leaf_model.specs.declared.queries.Cond.{Cond}
@@ -14,7 +14,7 @@ use Rattle.row_blocks.specs.Blocks.{Block, rows_in, times_of}
 abbrev pub is_of_cond : List ℕ → Cond → Bool
 is_of_cond name c = bytes_eq name c.name
 
--- whether an aggregate looks at the cells of this name: COUNT looks at none
+-- whether an aggregate folds the cells of this name; COUNT folds none
 abbrev pub is_of_agg : List ℕ → Agg → Bool
 is_of_agg name Count = false
 is_of_agg name (Sum other) = bytes_eq name other
@@ -22,20 +22,20 @@ is_of_agg name (Min other) = bytes_eq name other
 is_of_agg name (Max other) = bytes_eq name other
 is_of_agg name (Avg other) = bytes_eq name other
 
--- whether a query names it, in a condition, a key or an aggregate; `time` it always names
+-- whether a query reads a name, in a condition, a key or an aggregate; it always reads `time`
 abbrev pub is_named : Query → List ℕ → Bool
 is_named q name = bytes_eq name time_name || (list_any (is_of_cond name) q.conds || (list_any (bytes_eq name) q.keys || list_any (is_of_agg name) q.aggs))
 
--- the columns that a query names: a column is a name and a kind
+-- the columns whose name the query reads, of each kind
 abbrev pub named_columns : Query → List BlockColumn → List BlockColumn
 named_columns q columns = filter (λ (c : BlockColumn). is_named q c.name) columns
 
--- some time is no later
+-- there is a time, and it is at most t
 abbrev pub is_up_to : ℤ → Option ℤ → Bool
 is_up_to t None = false
 is_up_to t (Some n) = int_le n t
 
--- some time is no earlier
+-- there is a time, and it is at least t
 abbrev pub is_from : ℤ → Option ℤ → Bool
 is_from t None = false
 is_from t (Some n) = int_le t n
@@ -44,7 +44,7 @@ is_from t (Some n) = int_le t n
 abbrev pub meets : Query → Block → Bool
 meets q b = is_up_to q.to (least (times_of (rows_in b))) && is_from q.from (greatest (times_of (rows_in b)))
 
--- a step for each named column of a block whose range meets the query's
+-- one step for each named column of a block whose range meets that of the query
 abbrev pub block_steps : Query → Block → ℕ
 block_steps q b = if meets q b then length (named_columns q b.columns) else 0
 

@@ -1,4 +1,4 @@
--- A block as a query sees it: the columns that it names, and which rows are held.
+-- A block as a query sees it: the columns that it names, and the rows that are held.
 use Rattle.std.specs.Prelude.{◌≡◌, ℕ, ◌≤◌, List, length, ℤ, Result, IfOk}
 use Rattle.std.specs.declared.alloc.AllocError.{AllocError}
 use Rattle.std.specs.List.{AllByRecursion, flat_map}
@@ -11,7 +11,7 @@ use Rattle.row_blocks.specs.Blocks.{Block}
 use Rattle.row_blocks.specs.Held.{blocks_held, live_rows}
 use Rattle.block_scan.specs.Scanning.{named_columns}
 
--- a block, and which of its rows are held: those behind a cut, from a horizon on
+-- a block, and which of its rows are held: those from `skip` and from the horizon on
 pub record SeenBlock : Type 0 where
   pub skip : ℕ
   pub horizon : ℤ
@@ -20,11 +20,11 @@ pub record SeenBlock : Type 0 where
 abbrev pub seen : ℕ → ℤ → Block → SeenBlock
 seen skip horizon block = record { skip = skip; horizon = horizon; block = block }
 
--- the rows that are held
+-- the rows that are held of it
 abbrev pub seen_rows : SeenBlock → List Row
 seen_rows s = live_rows s.skip s.horizon s.block
 
--- a block without the columns that a query does not name
+-- the block without the columns that the query does not name
 abbrev pub named_block : Query → Block → Block
 named_block q b = record { rows = b.rows; columns = named_columns q b.columns }
 
@@ -33,11 +33,11 @@ pub record AreGroups (q : Query) (s : SeenBlock) (gs : List Group) : Type 0 wher
   pub is : gs ≡ groups q (seen_rows s)
   pub within : AllByRecursion (IsWithin (length (seen_rows s))) gs
 
--- so are these, where they were made
+-- if they could be made, these are the groups of the rows that are held
 abbrev pub IsFolded : Query → SeenBlock → Result (List Group) AllocError → Type 0
 IsFolded q s result = IfOk result (AreGroups q s)
 
--- what is seen gives the groups that the blocks do, and no more rows
+-- the views give the same groups as the blocks, and have no more rows
 pub record StandFor (q : Query) (blocks : List Block) (skip : ℕ) (horizon : ℤ) (views : List SeenBlock) : Type 0 where
   pub same : groups q (flat_map seen_rows views) ≡ groups q (blocks_held blocks skip horizon)
   pub few : length (flat_map seen_rows views) ≤ length (blocks_held blocks skip horizon)

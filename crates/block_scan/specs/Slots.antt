@@ -1,4 +1,4 @@
--- Places in slots, by the keys that they have, and what aggregates look at there.
+-- Places in slots, by their keys, and the cells that aggregates fold there.
 use Rattle.std.specs.Prelude.{◌≡◌, ⊤, ℕ, zero, suc, ◌<◌, ◌==◌, Bool, true, false, List, [], ◌∷◌, length, map, filter, ℤ, slice_index, slice_index_or, Option, Some, None, if◌then◌else◌, filter_map, option_and_then, Vec}
 use Rattle.std.specs.declared.alloc.Global.{Global}
 use Rattle.std.specs.declared.cmp.Ordering.TheVariants.{Less}
@@ -20,13 +20,13 @@ use Rattle.block_scan.specs.declared.slots.Slots.TheVariants.{Alone, Coded, Foun
 use Rattle.block_scan.specs.Decoded.{IsSized, decoded_at}
 use Rattle.block_scan.specs.Keyed.{keys_seen}
 
--- where a place stands: in the first slot where it has no value, and else behind it by the value's code; or in the slot that was found
+-- the slot of place i; by codes the first slot is that of a missing cell, and that of code c is c + 1
 abbrev pub slot_at : Slots → ℕ → ℕ
 slot_at Alone i = 0
 slot_at (Coded d) i = if slice_index_or d.present.items i false then suc (slice_index d.codes.items i) else 0
 slot_at (Found s) i = slice_index s.at.items i
 
--- how many slots there are
+-- the number of slots
 abbrev pub slots_in : Slots → ℕ
 slots_in Alone = 1
 slots_in (Coded d) = suc (length (entries d.view.now.book))
@@ -39,28 +39,28 @@ keys_at q (Coded d) zero = map (λ (name : List ℕ). key.Missing) q.keys
 keys_at q (Coded d) (suc code) = key_of (Some (slice_index_or (entries d.view.now.book) code no_value)) ∷ []
 keys_at q (Found s) slot = keys_seen s.keys.items (slice_index s.firsts.items slot)
 
--- so much was decoded
+-- a slot was noted for each of n places, with the decoded cells that it needs
 abbrev pub IsHeld : ℕ → Slots → Type 0
 IsHeld n Alone = ⊤
 IsHeld n (Coded d) = IsSized n (Codes d)
 IsHeld n (Found s) = AllByRecursion (IsSized n) s.keys.items × ((length s.at.items ≡ n) × AllByRecursion (λ place. place < n) s.firsts.items)
 
--- a place stands in a slot of its keys
+-- place i stands in a slot with the keys of its row
 pub record StandsIn (q : Query) (row : ℕ → Row) (slots : Slots) (i : ℕ) : Type 0 where
   pub sized : slot_at slots i < slots_in slots
   pub keyed : keys_of q (row i) ≡ keys_at q slots (slot_at slots i)
 
--- so does each of some places
+-- each of the places stands in a slot with the keys of its row
 pub record AreSlots (q : Query) (n : ℕ) (row : ℕ → Row) (slots : Slots) (places : List ℕ) : Type 0 where
   pub held : IsHeld n slots
   pub each : AllByRecursion (StandsIn q row slots) places
 
--- a row that passes, of the keys of the slot in which its place stands
+-- the row of place i passes, and has the keys of its slot
 pub record IsKeyed (q : Query) (row : ℕ → Row) (slots : Slots) (i : ℕ) : Type 0 where
   pub passes : passes q (row i) ≡ true
   pub keyed : keys_of q (row i) ≡ keys_at q slots (slot_at slots i)
 
--- what an aggregate looks at in a row
+-- the integer of a row that an aggregate folds
 abbrev pub agg_at : Agg → Row → Option ℤ
 agg_at Count row = None
 agg_at (Sum name) row = option_and_then as_int (value_of name row)
@@ -68,11 +68,11 @@ agg_at (Min name) row = option_and_then as_int (value_of name row)
 agg_at (Max name) row = option_and_then as_int (value_of name row)
 agg_at (Avg name) row = option_and_then as_int (value_of name row)
 
--- the integer that was decoded at a place
+-- the decoded integer at place i
 abbrev pub integer_of : Decoded → ℕ → Option ℤ
 integer_of d i = option_and_then as_int (decoded_at d i)
 
--- so much was decoded of what an aggregate looks at
+-- the decoded cells that an aggregate folds
 pub record IsOfAgg (n : ℕ) (row : ℕ → Row) (agg : Agg) (d : Decoded) : Type 0 where
   pub sized : IsSized n d
   pub each : (i : ℕ) → i < n → agg_at agg (row i) ≡ integer_of d i
@@ -80,11 +80,11 @@ pub record IsOfAgg (n : ℕ) (row : ℕ → Row) (agg : Agg) (d : Decoded) : Typ
 abbrev pub AreOfAggs : ℕ → (ℕ → Row) → List Agg → List Decoded → Type 0
 AreOfAggs n row aggs decoded = AllZip (IsOfAgg n row) aggs decoded
 
--- what an aggregate's cells at some places fold to
+-- the fold of the decoded integers at some places
 abbrev pub fold_at : List ℕ → Decoded → Fold
 fold_at places d = fold_of (filter_map (integer_of d) places)
 
--- what each of some vectors holds
+-- the items of each vector
 abbrev pub lists_in : List (Vec ℕ Global) → List (List ℕ)
 lists_in lists = map (λ (list : Vec ℕ Global). list.items) lists
 
@@ -104,17 +104,17 @@ is_used (i ∷ places) = true
 abbrev pub used_slots : List (List ℕ) → List ℕ
 used_slots lists = filter (λ s. is_used (list_at lists s)) (range_with_len 0 (length lists))
 
--- the places of some slots, one slot after another
+-- the places of some slots, slot after slot
 abbrev pub gathered : List (List ℕ) → List ℕ → List ℕ
 gathered lists slots = flat_map (list_at lists) slots
 
--- the places of each slot stand in it, and are so many as were decoded
+-- for each slot a list of places that stand in it
 pub record AreInSlots (rows : ℕ) (slots : Slots) (lists : List (List ℕ)) : Type 0 where
   pub count : length lists ≡ slots_in slots
   pub inside : (s : ℕ) → AllByRecursion (λ place. place < rows) (list_at lists s)
   pub same : (s : ℕ) → AllByRecursion (λ place. slot_at slots place ≡ s) (list_at lists s)
 
--- the last keys of one table are less than the first of another
+-- the last keys of `front` are less than the first of `back`
 abbrev pub EndsBelow : List Group → List Group → Type 0
 EndsBelow [] back = ⊥
 EndsBelow (a ∷ []) [] = ⊥

@@ -1,4 +1,4 @@
--- What a view of a block keeps true of what it holds.
+-- The invariant of a view of a block.
 use Rattle.std.specs.Prelude.{ℕ, ◌≤◌, List, ℤ, FitsSigned}
 use Rattle.std.specs.Int.{w64}
 use Rattle.std.specs.List.{AllByRecursion}

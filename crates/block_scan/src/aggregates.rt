@@ -1,4 +1,4 @@
-// What the aggregates of a query look at in a block.
+// Decodes the columns that the aggregates of a query fold.
 ghost use Rattle.std.specs.Prelude.{◌≡◌, ℕ, ◌<◌, ◌≤◌, length, IfOk, IfSome, option_and_then};
 ghost use Rattle.std.specs.List.{AllByRecursion};
 ghost use Rattle.leaf_model.specs.Groups.{as_int, value_of};
@@ -11,7 +11,7 @@ use crate::reading::ReadColumn;
 use leaf_model::Agg;
 use std::alloc::{AllocError, Global};
 
-/// What an aggregate looks at, or None where two columns have its name.
+/// The decoded cells that an aggregate folds. None if two columns have its name.
 fn decode_agg<'b, 'a>(
     alloc: Global,
     agg: &Agg,
@@ -20,7 +20,8 @@ fn decode_agg<'b, 'a>(
 ) -> Result<Option<Decoded<'b, 'a>>, AllocError>
     requires few { length times.now ≤ 65536 }
     requires read { AllByRecursion (IsRead (length times.now)) read.now }
-    ensures { IfOk result (λ found. IfSome found (IsOfAgg (length times.now) (row_of times.now (columns_of read.now)) agg.now)) }
+    ensures { IfOk result (λ found.
+        IfSome found (IsOfAgg (length times.now) (row_of times.now (columns_of read.now)) agg.now)) }
 {
     match agg {
         Agg::Count => Ok(Some(Decoded::Missing)),
@@ -31,7 +32,7 @@ fn decode_agg<'b, 'a>(
     }
 }
 
-/// What each aggregate looks at, or None where two columns have the name of one.
+/// The decoded cells that each aggregate folds. None if two columns have the name of one of them.
 pub(crate) fn decode_aggs<'b, 'a>(
     alloc: Global,
     aggs: &[Agg],
@@ -40,7 +41,8 @@ pub(crate) fn decode_aggs<'b, 'a>(
 ) -> Result<Option<Vec<Decoded<'b, 'a>>>, AllocError>
     requires few { length times.now ≤ 65536 }
     requires read { AllByRecursion (IsRead (length times.now)) read.now }
-    ensures { IfOk result (λ found. IfSome found (λ all. AreOfAggs (length times.now) (row_of times.now (columns_of read.now)) aggs.now all.items)) }
+    ensures { IfOk result (λ found. IfSome found (λ all.
+        AreOfAggs (length times.now) (row_of times.now (columns_of read.now)) aggs.now all.items)) }
 {
     let mut all = Vec::with_capacity(alloc, aggs.len())?;
     for agg in aggs {

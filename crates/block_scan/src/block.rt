@@ -1,4 +1,4 @@
-// The blocks that a query looks at, and the columns of them that it names.
+// Finds the blocks that a query may look at, and reads the columns that it names.
 ghost use Rattle.std.specs.Prelude.{◌≡◌, ℕ, ◌+◌, ◌≤◌, true, false, ◌||◌, List, [], ◌∷◌, length, ℤ, int_lt, IfOk};
 ghost use Rattle.std.specs.List.{AllByRecursion};
 ghost use Rattle.leaf_model.specs.Groups.{groups};
@@ -21,7 +21,7 @@ fn lie_apart(query: &Query, from: i64, to: i64) -> bool
     query.to < from || to < query.from
 }
 
-/// Whether the block's range of times does not meet the query's.
+/// Whether the range of the block's times lies outside the range of the query.
 fn is_apart(query: &Query, block: &RowBlock) -> bool
     ensures none { result ≡ true → (skip : ℕ) (horizon : ℤ) → groups query.now (live_rows skip horizon block.now) ≡ [] }
     ensures met { result ≡ false → meets query.now block.now ≡ true }
@@ -30,7 +30,7 @@ fn is_apart(query: &Query, block: &RowBlock) -> bool
     lie_apart(query, from, to)
 }
 
-/// What these columns mean, of the others those that the query names.
+/// Reads the column of the times, and those of the others that the query names.
 fn read_columns<'a, L: Ledger>(
     alloc: Global,
     query: &Query,
@@ -48,7 +48,8 @@ fn read_columns<'a, L: Ledger>(
     requires timed { AreTimes rows times.now }
     requires between { AreBetween rows times.now from to }
     requires others { AllByRecursion (IsOther rows) others.now }
-    ensures view { IfOk result (λ view. view ≡ seen skip horizon (record { rows = rows; columns = named_columns query.now (times.now ∷ others.now) })) }
+    ensures view { IfOk result (λ view.
+        view ≡ seen skip horizon (record { rows = rows; columns = named_columns query.now (times.now ∷ others.now) })) }
     ensures steps { steps.new ≤ steps.old + length (named_columns query.now (times.now ∷ others.now)) }
 {
     let read_times = read_column(rows, times, steps);
@@ -56,7 +57,7 @@ fn read_columns<'a, L: Ledger>(
     Ok(BlockView::of(rows, skip, horizon, from, to, read_times, read))
 }
 
-/// What the named columns of a block mean, each read once.
+/// Reads the columns of a block that the query names, each once.
 fn read_block<'a, L: Ledger>(
     alloc: Global,
     query: &Query,
@@ -88,7 +89,8 @@ fn read_block<'a, L: Ledger>(
     }
 }
 
-/// Views of the blocks whose range of times meets the query's, without the first `skip` rows of the first block.
+/// Reads the blocks whose range of times meets that of the query, as views. The first `skip` rows of the first block
+/// are left out.
 pub(crate) fn read_blocks<'a, L: Ledger>(
     alloc: Global,
     query: &Query,

@@ -1,4 +1,4 @@
-// A query over the columns of one block: by slots where it can, and else row by row.
+// A query over the columns of one block: slot by slot if possible, else row by row.
 ghost use Rattle.std.specs.Prelude.{◌≡◌, ◌<◌, ◌≤◌, ◌∷◌, true, length, map, IfOk};
 ghost use Rattle.std.specs.List.{AllByRecursion};
 ghost use Rattle.leaf_model.specs.Groups.{groups, passes};
@@ -32,14 +32,15 @@ fn fold_places(
     requires few { length times.now ≤ 65536 }
     requires read { AllByRecursion (IsRead (length times.now)) others.now }
     requires places { AllByRecursion (λ place. place < length times.now) places.now }
-    ensures groups { IfOk result (λ gs. gs ≡ groups query.now (map (row_of times.now (columns_of others.now)) places.now)) }
+    ensures groups { IfOk result (λ gs.
+        gs ≡ groups query.now (map (row_of times.now (columns_of others.now)) places.now)) }
     ensures within { IfOk result (λ gs. AllByRecursion (IsWithin (length places.now)) gs) }
 {
     let found = rows_at(alloc, times, others, places)?;
     fold_rows(alloc, query, &LentRows::Owned(found.as_slice()))
 }
 
-/// The groups of the rows at places that all pass, slot by slot, where what the aggregates look at is decoded.
+/// The groups of the rows at places that all pass, slot by slot; row by row if two columns have an aggregate's name.
 fn fold_slots(
     alloc: Global,
     query: &Query,
@@ -50,11 +51,14 @@ fn fold_slots(
 ) -> Result<Groups, AllocError>
     requires few { length times.now ≤ 65536 }
     requires read { AllByRecursion (IsRead (length times.now)) others.now }
-    requires slots { AreSlots query.now (length times.now) (row_of times.now (columns_of others.now)) slots.now places.now }
+    requires slots { AreSlots query.now (length times.now)
+        (row_of times.now (columns_of others.now)) slots.now places.now }
     requires places { AllByRecursion (λ place. place < length times.now) places.now }
     requires short { length places.now ≤ 65536 }
-    requires passing { AllByRecursion (λ place. passes query.now (row_of times.now (columns_of others.now) place) ≡ true) places.now }
-    ensures groups { IfOk result (λ gs. gs ≡ groups query.now (map (row_of times.now (columns_of others.now)) places.now)) }
+    requires passing { AllByRecursion
+        (λ place. passes query.now (row_of times.now (columns_of others.now) place) ≡ true) places.now }
+    ensures groups { IfOk result (λ gs.
+        gs ≡ groups query.now (map (row_of times.now (columns_of others.now)) places.now)) }
     ensures within { IfOk result (λ gs. AllByRecursion (IsWithin (length places.now)) gs) }
 {
     match decode_aggs(alloc, query.aggs.as_slice(), times, others)? {
@@ -70,7 +74,7 @@ fn fold_slots(
     }
 }
 
-/// Where fewer than one row of so many passes, rows are made: to decode a column takes as long as some cells.
+/// If fewer than one row in 32 passes, rows are made, as to decode a column costs as much as to read some cells.
 const FEW: usize = 32;
 
 /// The groups of the rows at places that all pass.
@@ -85,8 +89,10 @@ fn fold_passing(
     requires read { AllByRecursion (IsRead (length times.now)) others.now }
     requires places { AllByRecursion (λ place. place < length times.now) places.now }
     requires short { length places.now ≤ 65536 }
-    requires passing { AllByRecursion (λ place. passes query.now (row_of times.now (columns_of others.now) place) ≡ true) places.now }
-    ensures groups { IfOk result (λ gs. gs ≡ groups query.now (map (row_of times.now (columns_of others.now)) places.now)) }
+    requires passing { AllByRecursion
+        (λ place. passes query.now (row_of times.now (columns_of others.now) place) ≡ true) places.now }
+    ensures groups { IfOk result (λ gs.
+        gs ≡ groups query.now (map (row_of times.now (columns_of others.now)) places.now)) }
     ensures within { IfOk result (λ gs. AllByRecursion (IsWithin (length places.now)) gs) }
 {
     if places.len() < times.len() / FEW {
@@ -98,7 +104,7 @@ fn fold_passing(
     }
 }
 
-/// The groups of the rows at the wanted places of these times.
+/// The groups of the rows at the places whose times are wanted.
 fn fold_wanted(
     alloc: Global,
     query: &Query,
@@ -110,8 +116,10 @@ fn fold_wanted(
     requires few { length times.now ≤ 65536 }
     requires skip { skip ≤ length times.now }
     requires read { AllByRecursion (IsRead (length times.now)) others.now }
-    ensures groups { IfOk result (λ gs. gs ≡ groups query.now (map (row_of times.now (columns_of others.now)) (wanted_places query.now horizon times.now skip))) }
-    ensures within { IfOk result (λ gs. AllByRecursion (IsWithin (length (wanted_places query.now horizon times.now skip))) gs) }
+    ensures groups { IfOk result (λ gs. gs ≡ groups query.now
+        (map (row_of times.now (columns_of others.now)) (wanted_places query.now horizon times.now skip))) }
+    ensures within { IfOk result (λ gs.
+        AllByRecursion (IsWithin (length (wanted_places query.now horizon times.now skip))) gs) }
 {
     let wanted = wanted_places(alloc, query, times, skip, horizon)?;
     match narrow_all(alloc, query.conds.as_slice(), times, others, wanted)? {
@@ -123,7 +131,7 @@ fn fold_wanted(
     }
 }
 
-/// The groups of the rows of these columns, behind the first `skip` and from the horizon on. All times lie between two of them.
+/// The groups of the rows of these columns, from place `skip` and from the horizon on. All times lie in `from..=to`.
 pub(crate) fn fold_columns(
     alloc: Global,
     query: &Query,
@@ -141,8 +149,10 @@ pub(crate) fn fold_columns(
     requires times { IsRead rows times.now }
     requires between { AreBetween rows times.now.column.now from to }
     requires others { AllByRecursion (IsRead rows) others.now }
-    ensures groups { IfOk result (λ gs. gs ≡ groups query.now (live_rows skip horizon (record { rows = rows; columns = times.now.column.now ∷ columns_of others.now }))) }
-    ensures within { IfOk result (λ gs. AllByRecursion (IsWithin (length (live_rows skip horizon (record { rows = rows; columns = times.now.column.now ∷ columns_of others.now })))) gs) }
+    ensures groups { IfOk result (λ gs. gs ≡ groups query.now
+        (live_rows skip horizon (record { rows = rows; columns = times.now.column.now ∷ columns_of others.now }))) }
+    ensures within { IfOk result (λ gs. AllByRecursion (IsWithin (length (live_rows skip horizon
+        (record { rows = rows; columns = times.now.column.now ∷ columns_of others.now })))) gs) }
 {
     let seen = times_seen(alloc, query, rows, times, from, to, skip, horizon)?;
     fold_wanted(alloc, query, seen.as_slice(), others, skip, horizon)

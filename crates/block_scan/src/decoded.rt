@@ -1,4 +1,4 @@
-// What the columns of a name mean at each place.
+// Decodes the column of a name: its cell at each place.
 ghost use Rattle.std.specs.Prelude.{◌≡◌, ℕ, ◌<◌, ◌≤◌, true, false, length, pos, slice_index, slice_index_or, IfOk, IfSome, Some, None, if◌then◌else◌};
 ghost use Rattle.std.specs.List.{AllByRecursion};
 ghost use Rattle.leaf_model.specs.declared.rows.Value.TheVariants as cells;
@@ -15,14 +15,14 @@ use column_bytes::{ColumnView, Kind};
 use leaf_model::Text;
 use std::alloc::{AllocError, Global};
 
-/// Which cells are there, and their integers.
+/// For each place whether its cell is there, and its integer.
 #[derive(Drop)]
 pub struct Integers {
     pub present: Vec<bool>,
     pub values: Vec<i64>,
 }
 
-/// Which cells are there, and the codes of their texts or sets.
+/// For each place whether its cell is there, and the code of its text or set.
 #[derive(Drop)]
 pub struct EntryCodes<'b, 'a> {
     pub present: Vec<bool>,
@@ -30,7 +30,7 @@ pub struct EntryCodes<'b, 'a> {
     pub view: &'b ColumnView<'a>,
 }
 
-/// What a name means at each place: nothing, integers, or texts or sets by their codes.
+/// The cells of a name at all places: missing, integers, or texts or sets by their codes.
 #[derive(Drop)]
 pub enum Decoded<'b, 'a> {
     Missing,
@@ -50,7 +50,8 @@ fn fill_integers(
     requires codes { length codes.old ≡ rows }
     requires present { length present.old ≡ rows }
     requires values { length values.old ≡ rows }
-    ensures { (i : ℕ) → i < rows → value_in read.now.column.now.bytes i ≡ (if slice_index_or present.new i false then Some (cells.Int (slice_index_or values.new i (pos 0))) else None) }
+    ensures { (i : ℕ) → i < rows → value_in read.now.column.now.bytes i ≡ (if slice_index_or present.new i false
+        then Some (cells.Int (slice_index_or values.new i (pos 0))) else None) }
 {
     read.view.integers(codes, present, values);
 }
@@ -60,7 +61,9 @@ fn decode_integers(alloc: Global, rows: u32, read: &ReadColumn) -> Result<Intege
     requires kind { kind_of read.now.view.book ≡ kinds.Ints }
     ensures present { IfOk result (λ d. length d.present.items ≡ rows) }
     ensures values { IfOk result (λ d. length d.values.items ≡ rows) }
-    ensures each { IfOk result (λ d. (i : ℕ) → i < rows → value_in read.now.column.now.bytes i ≡ (if slice_index_or d.present.items i false then Some (cells.Int (slice_index_or d.values.items i (pos 0))) else None)) }
+    ensures each { IfOk result (λ d.
+        (i : ℕ) → i < rows → value_in read.now.column.now.bytes i ≡ (if slice_index_or d.present.items i false
+        then Some (cells.Int (slice_index_or d.values.items i (pos 0))) else None)) }
 {
     let mut codes = vec![in alloc; 0u64; rows as usize]?;
     let mut present = vec![in alloc; false; rows as usize]?;
@@ -80,8 +83,10 @@ fn fill_codes(rows: u32, read: &ReadColumn, codes: &mut [u64], present: &mut [bo
     requires kind { has_entries (kind_of read.now.view.book) ≡ true }
     requires codes { length codes.old ≡ rows }
     requires present { length present.old ≡ rows }
-    ensures each { (i : ℕ) → i < rows → value_in read.now.column.now.bytes i ≡ (if slice_index_or present.new i false then Some (slice_index_or (entries read.now.view.book) (slice_index codes.new i) no_value) else None) }
-    ensures below { (i : ℕ) → i < rows → slice_index_or present.new i false ≡ true → slice_index codes.new i < length (entries read.now.view.book) }
+    ensures each { (i : ℕ) → i < rows → value_in read.now.column.now.bytes i ≡ (if slice_index_or present.new i false
+        then Some (slice_index_or (entries read.now.view.book) (slice_index codes.new i) no_value) else None) }
+    ensures below { (i : ℕ) → i < rows → slice_index_or present.new i false ≡ true
+        → slice_index codes.new i < length (entries read.now.view.book) }
 {
     read.view.codes(codes, present);
 }
@@ -96,8 +101,11 @@ fn decode_codes<'b, 'a>(
     ensures view { IfOk result (λ d. d.view.now ≡ read.now.view) }
     ensures present { IfOk result (λ d. length d.present.items ≡ rows) }
     ensures codes { IfOk result (λ d. length d.codes.items ≡ rows) }
-    ensures each { IfOk result (λ d. (i : ℕ) → i < rows → value_in read.now.column.now.bytes i ≡ (if slice_index_or d.present.items i false then Some (slice_index_or (entries read.now.view.book) (slice_index d.codes.items i) no_value) else None)) }
-    ensures below { IfOk result (λ d. (i : ℕ) → i < rows → slice_index_or d.present.items i false ≡ true → slice_index d.codes.items i < length (entries read.now.view.book)) }
+    ensures each { IfOk result (λ d.
+        (i : ℕ) → i < rows → value_in read.now.column.now.bytes i ≡ (if slice_index_or d.present.items i false
+        then Some (slice_index_or (entries read.now.view.book) (slice_index d.codes.items i) no_value) else None)) }
+    ensures below { IfOk result (λ d. (i : ℕ) → i < rows → slice_index_or d.present.items i false ≡ true
+        → slice_index d.codes.items i < length (entries read.now.view.book)) }
 {
     let mut codes = vec![in alloc; 0u64; rows as usize]?;
     let mut present = vec![in alloc; false; rows as usize]?;
@@ -141,7 +149,7 @@ fn own_times(alloc: Global, times: &[i64]) -> Result<Integers, AllocError>
     Ok(Integers { present, values })
 }
 
-/// What a name means at each place, or None where two columns have it.
+/// Decodes the cells of a name at all places. None if two columns have the name.
 pub(crate) fn decode<'b, 'a>(
     alloc: Global,
     name: &Text,
@@ -150,7 +158,8 @@ pub(crate) fn decode<'b, 'a>(
 ) -> Result<Option<Decoded<'b, 'a>>, AllocError>
     requires few { length times.now ≤ 65536 }
     requires read { AllByRecursion (IsRead (length times.now)) read.now }
-    ensures { IfOk result (λ found. IfSome found (λ d. IsDecoded (length times.now) (λ i. value_of name.now (row_of times.now (columns_of read.now) i)) d)) }
+    ensures { IfOk result (λ found. IfSome found (λ d.
+        IsDecoded (length times.now) (λ i. value_of name.now (row_of times.now (columns_of read.now) i)) d)) }
 {
     if name.as_str() == "time" {
         let integers = own_times(alloc, times)?;

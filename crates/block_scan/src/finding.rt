@@ -1,4 +1,4 @@
-// The column of a name.
+// Finds the column of a name.
 ghost use Rattle.std.specs.Prelude.{◌≡◌, ℕ, true, List, ◌∷◌, bytes_eq};
 ghost use Rattle.std.specs.List.{AllByRecursion};
 ghost use Rattle.block_scan.specs.declared.reading.ReadColumn.{ReadColumn};
@@ -9,7 +9,7 @@ use crate::names::is_same;
 use crate::reading::ReadColumn;
 use leaf_model::Text;
 
-/// Whether a column has a name. Where two have it, of two kinds, a place may have a cell in either.
+/// The columns of a name. If there are two, of two kinds, a place may have its cell in either.
 #[derive(Clone, Copy)]
 pub enum Named<'b, 'a> {
     Nowhere,
@@ -18,7 +18,9 @@ pub enum Named<'b, 'a> {
 }
 
 fn with_one<'b, 'a>(column: &'b ReadColumn<'a>, others: Named<'b, 'a>) -> Named<'b, 'a>
-    ensures { (rows : ℕ) (name : List ℕ) (rest : List ReadColumn) → IsRead rows column.now → bytes_eq name column.now.column.now.name ≡ true → IsNamed rows name rest others.entry → IsNamed rows name (column.now ∷ rest) result }
+    ensures { (rows : ℕ) (name : List ℕ) (rest : List ReadColumn)
+        → IsRead rows column.now → bytes_eq name column.now.column.now.name ≡ true
+        → IsNamed rows name rest others.entry → IsNamed rows name (column.now ∷ rest) result }
 {
     match others {
         Named::Nowhere => Named::Once(column),
@@ -26,7 +28,7 @@ fn with_one<'b, 'a>(column: &'b ReadColumn<'a>, others: Named<'b, 'a>) -> Named<
     }
 }
 
-/// The column of this name, where there is one alone.
+/// Finds the columns of this name among those that were read.
 pub(crate) fn find_named<'b, 'a>(
     rows: u32,
     name: &Text,

@@ -1,4 +1,4 @@
-// The folds of cells that were decoded.
+// Folds decoded cells.
 ghost use Rattle.std.specs.Prelude.{◌≡◌, ℕ, ◌+◌, ◌<◌, ◌≤◌, List, [], ◌∷◌, length, map, Some, IfOk, option_to_list};
 ghost use Rattle.std.specs.Int.{int_min, int_max};
 ghost use Rattle.std.specs.List.{AllByRecursion};
@@ -41,7 +41,7 @@ fn greater(greatest: Option<i64>, number: i64) -> Option<i64>
     }
 }
 
-/// A fold with one integer more.
+/// Adds an integer to a fold.
 fn with_integer(fold: &mut Fold, number: i64)
     requires { IsFoldWithin 65536 fold.old }
     ensures value { fold.new ≡ joined_fold fold.old (fold_of (number ∷ [])) }
@@ -53,7 +53,7 @@ fn with_integer(fold: &mut Fold, number: i64)
     fold.max = greater(fold.max, number);
 }
 
-/// A fold with the integer of one cell more, where it has one.
+/// Adds the integer of a cell to a fold, if it has one.
 fn add_cell(fold: &mut Fold, number: Option<i64>)
     requires { IsFoldWithin 65536 fold.old }
     ensures value { fold.new ≡ joined_fold fold.old (fold_of (option_to_list number)) }
@@ -83,7 +83,7 @@ fn integer_of(rows: u32, decoded: &Decoded, place: u32) -> Option<i64>
     }
 }
 
-/// The fold of the integers at some places.
+/// Folds the integers at some places.
 fn fold_cells(rows: u32, decoded: &Decoded, places: &[u32]) -> Fold
     requires sized { IsSized rows decoded.now }
     requires places { AllByRecursion (λ place. place < rows) places.now }
@@ -98,7 +98,7 @@ fn fold_cells(rows: u32, decoded: &Decoded, places: &[u32]) -> Fold
     fold
 }
 
-/// The folds of all that was decoded at some places.
+/// Folds the integers at some places, for each of the decoded names.
 pub(crate) fn fold_all(
     alloc: Global,
     rows: u32,

@@ -1,4 +1,4 @@
-// The groups of places, slot by slot.
+// Makes the groups of places, slot by slot.
 ghost use Rattle.std.specs.Prelude.{◌≡◌, ℕ, ◌<◌, ◌≤◌, List, [], ◌∷◌, length, map, IfOk};
 ghost use Rattle.std.specs.List.{AllByRecursion};
 ghost use Rattle.leaf_model.specs.declared.rows.Row.{Row};
@@ -23,7 +23,7 @@ fn only(alloc: Global, group: Group) -> Result<Groups, AllocError>
     Ok(Groups::of(groups))
 }
 
-/// The group of places in one slot.
+/// The group of the places in one slot.
 fn fold_slot(
     alloc: Global,
     query: &Query,
@@ -38,7 +38,9 @@ fn fold_slot(
     requires slot { slot < slots_in slots.now }
     requires inside { AllByRecursion (λ place. place < rows) places.now }
     requires few { length places.now ≤ 65536 }
-    ensures groups { IfOk result (λ gs. gs ≡ record { keys = keys_at query.now slots.now slot; count = length places.now; folds = map (fold_at places.now) decoded.now } ∷ []) }
+    ensures groups { IfOk result (λ gs. gs
+        ≡ record { keys = keys_at query.now slots.now slot; count = length places.now; folds = map (fold_at places.now) decoded.now }
+        ∷ []) }
     ensures within { IfOk result (λ gs. AllByRecursion (IsWithin (length places.now)) gs) }
 {
     let keys = keys_of_slot(alloc, query, rows, slots, slot)?;
@@ -47,7 +49,7 @@ fn fold_slot(
     only(alloc, Group { keys, count, folds })
 }
 
-/// The groups of places in one slot: one, or none where there are no places.
+/// The groups of the places in one slot: one, or none if there are no places.
 fn fold_list(
     alloc: Global,
     query: &Query,
@@ -63,7 +65,9 @@ fn fold_list(
     requires inside { AllByRecursion (λ place. place < rows) places.now }
     requires same { AllByRecursion (λ place. slot_at slots.now place ≡ slot) places.now }
     requires few { length places.now ≤ 65536 }
-    ensures groups { (row : ℕ → Row) → AreOfAggs rows row query.now.aggs decoded.now → AllByRecursion (IsKeyed query.now row slots.now) places.now → IfOk result (λ gs. gs ≡ groups query.now (map row places.now)) }
+    ensures groups { (row : ℕ → Row) → AreOfAggs rows row query.now.aggs decoded.now
+        → AllByRecursion (IsKeyed query.now row slots.now) places.now
+        → IfOk result (λ gs. gs ≡ groups query.now (map row places.now)) }
     ensures within { IfOk result (λ gs. AllByRecursion (IsWithin (length places.now)) gs) }
 {
     if places.is_empty() {
@@ -72,7 +76,7 @@ fn fold_list(
     fold_slot(alloc, query, rows, slots, decoded, slot, places)
 }
 
-/// The groups of the places of some slots.
+/// The groups of the places in some slots, in the order of these slots.
 fn fold_lists(
     alloc: Global,
     query: &Query,
@@ -87,8 +91,11 @@ fn fold_lists(
     requires laid { AreInSlots rows slots.now (lists_in lists.now) }
     requires order { AllByRecursion (λ slot. slot < slots_in slots.now) order.now }
     requires few { length (gathered (lists_in lists.now) order.now) ≤ 65536 }
-    ensures groups { (row : ℕ → Row) → AreOfAggs rows row query.now.aggs decoded.now → AllByRecursion (IsKeyed query.now row slots.now) (gathered (lists_in lists.now) order.now) → IfOk result (λ gs. gs ≡ groups query.now (map row (gathered (lists_in lists.now) order.now))) }
-    ensures within { IfOk result (λ gs. AllByRecursion (IsWithin (length (gathered (lists_in lists.now) order.now))) gs) }
+    ensures groups { (row : ℕ → Row) → AreOfAggs rows row query.now.aggs decoded.now
+        → AllByRecursion (IsKeyed query.now row slots.now) (gathered (lists_in lists.now) order.now)
+        → IfOk result (λ gs. gs ≡ groups query.now (map row (gathered (lists_in lists.now) order.now))) }
+    ensures within { IfOk result (λ gs.
+        AllByRecursion (IsWithin (length (gathered (lists_in lists.now) order.now))) gs) }
 {
     match order {
         [] => Ok(Groups::of(Vec::new(alloc))),
@@ -119,7 +126,9 @@ pub(crate) fn fold_by_slot(
     requires sized { AllByRecursion (λ place. slot_at slots.now place < slots_in slots.now) places.now }
     requires inside { AllByRecursion (λ place. place < rows) places.now }
     requires few { length places.now ≤ 65536 }
-    ensures groups { (row : ℕ → Row) → AreOfAggs rows row query.now.aggs decoded.now → AllByRecursion (IsKeyed query.now row slots.now) places.now → IfOk result (λ gs. gs ≡ groups query.now (map row places.now)) }
+    ensures groups { (row : ℕ → Row) → AreOfAggs rows row query.now.aggs decoded.now
+        → AllByRecursion (IsKeyed query.now row slots.now) places.now
+        → IfOk result (λ gs. gs ≡ groups query.now (map row places.now)) }
     ensures within { IfOk result (λ gs. AllByRecursion (IsWithin (length places.now)) gs) }
 {
     let lists = lay_out(alloc, rows, slots, places)?;

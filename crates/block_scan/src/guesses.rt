@@ -1,4 +1,4 @@
-// Slots for places, found by guesses: places of the same keys stand in one slot, where the guess is right.
+// Finds slots for places by a hash table of guesses: places with the same keys share a slot, if a guess finds it.
 ghost use Rattle.std.specs.Prelude.{◌≡◌, ◌<◌, ◌≤◌, length, slice_index, IfOk, IfSome};
 ghost use Rattle.std.specs.List.{AllByRecursion};
 ghost use Rattle.block_scan.specs.Decoded.{IsSized};
@@ -8,20 +8,20 @@ use crate::decoded::Decoded;
 use crate::keys_seen::{are_same_keys, mark_at};
 use std::alloc::{AllocError, Global};
 
-/// How many guesses there are: a slot, or a number that no slot has.
+/// The number of guesses. A guess is a slot, or a number that no slot has.
 const GUESSES: u64 = 65_536;
 
-/// How many of them are looked at for a place.
+/// The number of guesses that are tried for a place.
 const TRIES: u64 = 16;
 
-/// Where a guess stands: behind the first for a mark by so many.
+/// The index of a guess: `behind` after the first one of the mark.
 fn guess_place(mark: u64, behind: u64) -> usize
     ensures { result < 65536 }
 {
     ((mark >> 48).wrapping_add(behind) % GUESSES) as usize
 }
 
-/// A slot whose first place has the keys of this one.
+/// A slot whose first place has the same keys as this place. None if no guess finds one.
 fn guessed(
     rows: u32,
     keys: &[Decoded],
@@ -34,7 +34,8 @@ fn guessed(
     requires firsts { AllByRecursion (λ first. first < rows) firsts.now }
     requires guesses { length guesses.now ≡ 65536 }
     requires place { place < rows }
-    ensures { IfSome result (λ slot. (slot < length firsts.now) × (keys_seen keys.now place ≡ keys_seen keys.now (slice_index firsts.now slot))) }
+    ensures { IfSome result (λ slot.
+        (slot < length firsts.now) × (keys_seen keys.now place ≡ keys_seen keys.now (slice_index firsts.now slot))) }
 {
     for behind in 0..TRIES {
         let slot = guesses[guess_place(mark, behind)];
@@ -50,7 +51,7 @@ fn guessed(
     None
 }
 
-/// Notes a slot where a guess will find it.
+/// Notes a slot where a guess for this mark looks.
 fn note(guesses: &mut [u32], mark: u64, slot: u32)
     requires { length guesses.old ≡ 65536 }
 {
@@ -64,7 +65,7 @@ fn note(guesses: &mut [u32], mark: u64, slot: u32)
     guesses[guess_place(mark, 0)] = slot;
 }
 
-/// The slot of a place: one that is there, or one more.
+/// The slot of a place: one that is there, or a new one.
 fn slot_for(
     rows: u32,
     keys: &[Decoded],
@@ -90,14 +91,14 @@ fn slot_for(
     Ok(slot)
 }
 
-/// No guess yet.
+/// An empty table of guesses.
 pub(crate) fn no_guesses(alloc: Global) -> Result<Vec<u32>, AllocError>
     ensures { IfOk result (λ guesses. length guesses.items ≡ 65536) }
 {
     vec![in alloc; u32::MAX; GUESSES as usize]
 }
 
-/// Writes the slot of each of some places, and tells a place of each slot.
+/// Writes the slot of each of the places into `at`. Gives the first place of each slot.
 pub(crate) fn find_slots(
     alloc: Global,
     rows: u32,

@@ -1,4 +1,4 @@
-// Two tables of groups as one, one behind the other where their keys allow it.
+// Joins two lists of groups: appends one to the other if their keys allow it, else merges them.
 ghost use Rattle.std.specs.Prelude.{◌≡◌, ℕ, ◌+◌, true, List, ◌++◌, IfOk};
 ghost use Rattle.std.specs.declared.cmp.Ordering.TheVariants.{Less};
 ghost use Rattle.std.specs.List.{AllByRecursion};
@@ -22,7 +22,7 @@ fn is_less(a: &Keys, b: &Keys) -> bool
     }
 }
 
-/// Whether the last keys of one table are less than the first of another.
+/// Whether the last keys of `front` are less than the first of `back`.
 fn ends_below(front: &[Group], back: &[Group]) -> bool
     ensures { result ≡ true → EndsBelow front.now back.now }
 {
@@ -41,11 +41,13 @@ fn append(front: Groups, back: Groups) -> Result<Groups, AllocError>
     Ok(Groups::of(all))
 }
 
-/// The groups of both lists of rows together.
+/// The groups of the rows of both lists together.
 pub(crate) fn join(alloc: Global, front: Groups, back: Groups) -> Result<Groups, AllocError>
     requires { AllByRecursion FitsGroup (joined front back) }
-    ensures within { (m n : ℕ) → AllByRecursion (IsWithin m) front → AllByRecursion (IsWithin n) back → IfOk result (λ gs. AllByRecursion (IsWithin (m + n)) gs) }
-    ensures both { (q : Query) (xs ys : List Row) → front ≡ groups q xs → back ≡ groups q ys → IfOk result (λ gs. gs ≡ groups q (xs ++ ys)) }
+    ensures within { (m n : ℕ) → AllByRecursion (IsWithin m) front
+        → AllByRecursion (IsWithin n) back → IfOk result (λ gs. AllByRecursion (IsWithin (m + n)) gs) }
+    ensures both { (q : Query) (xs ys : List Row)
+        → front ≡ groups q xs → back ≡ groups q ys → IfOk result (λ gs. gs ≡ groups q (xs ++ ys)) }
 {
     if ends_below(front.as_slice(), back.as_slice()) {
         return append(front, back);

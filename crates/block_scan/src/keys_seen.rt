@@ -16,10 +16,10 @@ use leaf_model::{Key, Keys, Text, Value};
 use row_blocks::own_value;
 use std::alloc::{AllocError, Global};
 
-/// So many keys are decoded: each takes some bytes for each row, also where one name stands there again and again.
+/// The most keys that are decoded. Each takes some bytes for each row, even if a query names the same key often.
 const DECODED_KEYS: usize = 16;
 
-/// What each key is at each place. None of more keys than are decoded, and where two columns have the name of one.
+/// Decodes each key at all places. None if there are more than 16 keys, or two columns have the name of one.
 pub(crate) fn decode_keys<'b, 'a>(
     alloc: Global,
     names: &[Text],
@@ -28,7 +28,8 @@ pub(crate) fn decode_keys<'b, 'a>(
 ) -> Result<Option<Vec<Decoded<'b, 'a>>>, AllocError>
     requires few { length times.now ≤ 65536 }
     requires read { AllByRecursion (IsRead (length times.now)) read.now }
-    ensures { IfOk result (λ found. IfSome found (λ all. AreOfKeys (length times.now) (row_of times.now (columns_of read.now)) names.now all.items)) }
+    ensures { IfOk result (λ found. IfSome found (λ all.
+        AreOfKeys (length times.now) (row_of times.now (columns_of read.now)) names.now all.items)) }
 {
     if names.len() > DECODED_KEYS {
         return Ok(None);
@@ -97,7 +98,7 @@ pub(crate) fn keys_at(
     Ok(Keys::of(all))
 }
 
-/// Whether both places have the same integer, or none.
+/// Whether both places have the same integer, or both have none.
 fn is_same_integer(rows: u32, found: &Integers, a: usize, b: usize) -> bool
     requires sized { IsSized rows (Ints found.now) }
     requires first { a < rows }
@@ -111,7 +112,7 @@ fn is_same_integer(rows: u32, found: &Integers, a: usize, b: usize) -> bool
     }
 }
 
-/// Whether both places have the same code, or none.
+/// Whether both places have the same code, or both have none.
 fn is_same_code(rows: u32, found: &EntryCodes, a: usize, b: usize) -> bool
     requires sized { IsSized rows (Codes found.now) }
     requires first { a < rows }
@@ -125,7 +126,7 @@ fn is_same_code(rows: u32, found: &EntryCodes, a: usize, b: usize) -> bool
     }
 }
 
-/// Whether one key is the same at both places.
+/// Whether both places have the same value of one key.
 fn is_same_key(rows: u32, decoded: &Decoded, a: usize, b: usize) -> bool
     requires sized { IsSized rows decoded.now }
     requires first { a < rows }
@@ -139,7 +140,7 @@ fn is_same_key(rows: u32, decoded: &Decoded, a: usize, b: usize) -> bool
     }
 }
 
-/// Whether the keys are the same at both places.
+/// Whether both places have the same keys.
 pub(crate) fn are_same_keys(rows: u32, keys: &[Decoded], a: u32, b: u32) -> bool
     requires sized { AllByRecursion (IsSized rows) keys.now }
     requires first { a < rows }
@@ -154,7 +155,7 @@ pub(crate) fn are_same_keys(rows: u32, keys: &[Decoded], a: u32, b: u32) -> bool
     true
 }
 
-/// A number for a key at a place.
+/// A hash of one key at a place.
 fn number_at(rows: u32, decoded: &Decoded, place: usize) -> u64
     requires sized { IsSized rows decoded.now }
     requires place { place < rows }
@@ -178,7 +179,7 @@ fn number_at(rows: u32, decoded: &Decoded, place: usize) -> u64
     }
 }
 
-/// A number for the keys at a place: where their slot is looked for. Nothing that is found rests on it.
+/// A hash of the keys at a place, by which their slot is looked for. No answer depends on it.
 pub(crate) fn mark_at(rows: u32, keys: &[Decoded], place: u32) -> u64
     requires sized { AllByRecursion (IsSized rows) keys.now }
     requires place { place < rows }
@@ -193,7 +194,7 @@ pub(crate) fn mark_at(rows: u32, keys: &[Decoded], place: u32) -> u64
     mark
 }
 
-/// Where a key stands among others: whether there is one, and its integer or its text. Of sets nothing is told.
+/// The rank of a key, to sort slots by: whether there is a value, its integer, its text. Sets have no order here.
 pub(crate) fn rank_at<'a>(rows: u32, decoded: &Decoded<'_, 'a>, place: u32) -> (bool, i64, &'a str)
     requires sized { IsSized rows decoded.now }
     requires place { place < rows }

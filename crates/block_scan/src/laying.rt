@@ -1,4 +1,4 @@
-// Places laid out by slot, and the slots that have some, in the order of their keys.
+// Lays places out by slot, and puts the slots that have places into the order of their keys.
 ghost use Rattle.std.specs.Prelude.{◌≡◌, ℕ, ◌<◌, ◌^◌, ◌++◌, [], ◌∷◌, length, map, set, if◌then◌else◌, IfOk};
 ghost use Rattle.std.specs.List.{AllByRecursion};
 ghost use Rattle.std.specs.List.Sorted.{IsPermutation};
@@ -42,13 +42,14 @@ fn empty_lists(alloc: Global, count: u64) -> Result<Vec<Vec<u32>>, AllocError>
 
 fn put(lists: &mut Vec<Vec<u32>>, slot: usize, place: u32) -> Result<(), AllocError>
     requires { slot < length (lists_in lists.old.items) }
-    ensures { IfOk result (λ _. lists_in lists.new.items ≡ set (lists_in lists.old.items) slot (list_at (lists_in lists.old.items) slot ++ place ∷ [])) }
+    ensures { IfOk result (λ _. lists_in lists.new.items
+        ≡ set (lists_in lists.old.items) slot (list_at (lists_in lists.old.items) slot ++ place ∷ [])) }
 {
     lists[slot].push(place)?;
     Ok(())
 }
 
-/// For each slot the places that stand in it, in their order.
+/// For each slot its places, ascending.
 pub(crate) fn lay_out(
     alloc: Global,
     rows: u32,
@@ -58,7 +59,8 @@ pub(crate) fn lay_out(
     requires held { IsHeld rows slots.now }
     requires inside { AllByRecursion (λ place. place < rows) places.now }
     requires sized { AllByRecursion (λ place. slot_at slots.now place < slots_in slots.now) places.now }
-    ensures { IfOk result (λ lists. AreLaid (slot_at slots.now) (slots_in slots.now) places.now (lists_in lists.items)) }
+    ensures { IfOk result (λ lists.
+        AreLaid (slot_at slots.now) (slots_in slots.now) places.now (lists_in lists.items)) }
 {
     let mut lists = empty_lists(alloc, slots_in(slots))?;
     for place in places {
@@ -68,7 +70,8 @@ pub(crate) fn lay_out(
     Ok(lists)
 }
 
-/// The text of a slot's key, or none where it is no text. It says where the slot is looked at, and nothing of what is found there.
+/// The text of a slot's key, or an empty one if it is no text. It decides only the order of the slots, not what they
+/// hold.
 fn text_of<'a>(slots: &Slots<'_, 'a>, slot: u64) -> &'a str
     requires { slot < slots_in slots.now }
 {
@@ -86,7 +89,7 @@ fn text_of<'a>(slots: &Slots<'_, 'a>, slot: u64) -> &'a str
     }
 }
 
-/// The slot and its text behind the others, where it has places.
+/// Appends the slot with its text, if it has places.
 fn push_used<'a>(
     slots: &Slots<'_, 'a>,
     slot: usize,
@@ -94,7 +97,8 @@ fn push_used<'a>(
     used: &mut Vec<(&'a str, usize)>,
 ) -> Result<(), AllocError>
     requires { slot < slots_in slots.now }
-    ensures { IfOk result (λ _. map (λ u. u.1) used.new.items ≡ map (λ u. u.1) used.old.items ++ (if is_used places.now then slot ∷ [] else [])) }
+    ensures { IfOk result (λ _. map (λ u. u.1) used.new.items
+        ≡ map (λ u. u.1) used.old.items ++ (if is_used places.now then slot ∷ [] else [])) }
 {
     if !places.is_empty() {
         used.push((text_of(slots, slot as u64), slot))?;

@@ -1,4 +1,5 @@
-//! A query over sealed blocks and a tail of rows: blocks out of its range are passed over, and of the others the columns that it names are read.
+//! A query over sealed blocks and a tail of rows. A block outside the query's range of times is skipped. Of each other
+//! block only the columns that the query names are read.
 #![tactic(auto)]
 
 mod aggregates;

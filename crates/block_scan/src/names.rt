@@ -1,4 +1,4 @@
-// The names of a query.
+// The names that a query reads.
 ghost use Rattle.std.specs.Prelude.{◌≡◌, ◌||◌, bytes_eq};
 ghost use Rattle.std.specs.List.{list_any};
 ghost use Rattle.block_scan.specs.Scanning.{is_named, is_of_agg, is_of_cond};
@@ -47,16 +47,17 @@ fn is_in_aggs(name: &Text, aggs: &[Agg]) -> bool
     aggs.iter().any(|agg| is_of_agg(name, agg))
 }
 
-/// Whether a condition, a key or an aggregate of the query is of this name.
+/// Whether a condition, a key or an aggregate of the query has this name.
 pub(crate) fn asks_for(query: &Query, name: &Text) -> bool
-    ensures { result ≡ (list_any (is_of_cond name.now) query.now.conds || (list_any (bytes_eq name.now) query.now.keys || list_any (is_of_agg name.now) query.now.aggs)) }
+    ensures { result ≡ (list_any (is_of_cond name.now) query.now.conds || (list_any
+        (bytes_eq name.now) query.now.keys || list_any (is_of_agg name.now) query.now.aggs)) }
 {
     is_in_conds(name, query.conds.as_slice())
         || is_in_keys(name, query.keys.as_slice())
         || is_in_aggs(name, query.aggs.as_slice())
 }
 
-/// Whether the query names it. `time` it always names.
+/// Whether the query reads this name. It always reads `time`.
 pub(crate) fn is_named(query: &Query, name: &Text) -> bool
     ensures { result ≡ is_named query.now name.now }
 {

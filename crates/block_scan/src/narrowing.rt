@@ -1,4 +1,4 @@
-// The places that meet the conditions of a query.
+// Narrows places to those that meet the conditions of a query.
 ghost use Rattle.std.specs.Prelude.{◌≡◌, ◌<◌, ◌≤◌, length, filter, slice_index_or, IfOk, IfSome, Some};
 ghost use Rattle.std.specs.List.{AllByRecursion};
 ghost use Rattle.leaf_model.specs.declared.rows.Value.TheVariants as values;
@@ -76,7 +76,7 @@ fn accepts_value(cond: &Cond, value: &ValueRef) -> bool
     }
 }
 
-/// The value that a code stands for.
+/// The text or set of a code.
 pub(crate) fn entry_of<'a>(view: &ColumnView<'a>, code: u64) -> ValueRef<'a>
     requires { code < length (entries view.now.book) }
     ensures { value_of result ≡ slice_index_or (entries view.now.book) code no_value }
@@ -87,7 +87,7 @@ pub(crate) fn entry_of<'a>(view: &ColumnView<'a>, code: u64) -> ValueRef<'a>
     view.entry(code as u32)
 }
 
-/// Whether what was decoded at a place meets the condition.
+/// Whether the decoded cell at a place meets the condition.
 fn is_met(rows: u32, cond: &Cond, decoded: &Decoded, place: u32) -> bool
     requires sized { IsSized rows decoded.now }
     requires place { place < rows }
@@ -103,7 +103,7 @@ fn is_met(rows: u32, cond: &Cond, decoded: &Decoded, place: u32) -> bool
     }
 }
 
-/// Of the texts or sets of a column, by their codes, which meet the condition.
+/// For each code of a column whether its text or set meets the condition.
 fn accepted_entries(alloc: Global, cond: &Cond, view: &ColumnView) -> Result<Vec<bool>, AllocError>
     ensures { IfOk result (λ all. all.items ≡ accepted_codes cond.now (entries view.now.book)) }
 {
@@ -114,7 +114,7 @@ fn accepted_entries(alloc: Global, cond: &Cond, view: &ColumnView) -> Result<Vec
     Ok(all)
 }
 
-/// Whether the value at a place meets the condition, by its code.
+/// Whether the cell at a place meets the condition, by its code.
 fn is_code_met(rows: u32, cond: &Cond, found: &EntryCodes, accepted: &[bool], place: u32) -> bool
     requires sized { IsSized rows (Codes found.now) }
     requires accepted { accepted.now ≡ accepted_codes cond.now (entries found.now.view.now.book) }
@@ -125,7 +125,7 @@ fn is_code_met(rows: u32, cond: &Cond, found: &EntryCodes, accepted: &[bool], pl
     found.present[place] && accepted[found.codes[place] as usize]
 }
 
-/// The places at which a text or a set meets the condition: each is looked at once.
+/// The places whose text or set meets the condition. Each text or set of the dictionary is tested once.
 fn narrow_codes(
     alloc: Global,
     rows: u32,
@@ -135,7 +135,8 @@ fn narrow_codes(
 ) -> Result<Vec<u32>, AllocError>
     requires sized { IsSized rows (Codes found.now) }
     requires places { AllByRecursion (λ place. place < rows) places.now }
-    ensures { IfOk result (λ left. left.items ≡ filter (λ i. cond_accepts cond.now (decoded_at (Codes found.now) i)) places.now) }
+    ensures { IfOk result (λ left.
+        left.items ≡ filter (λ i. cond_accepts cond.now (decoded_at (Codes found.now) i)) places.now) }
 {
     let accepted = accepted_entries(alloc, cond, found.view)?;
     let mut left = Vec::new(alloc);
@@ -147,7 +148,7 @@ fn narrow_codes(
     Ok(left)
 }
 
-/// The places at which what was decoded meets the condition, each looked at by itself.
+/// The places whose cell meets the condition. Each cell is tested.
 fn narrow_each(
     alloc: Global,
     rows: u32,
@@ -157,7 +158,8 @@ fn narrow_each(
 ) -> Result<Vec<u32>, AllocError>
     requires sized { IsSized rows decoded.now }
     requires places { AllByRecursion (λ place. place < rows) places.now }
-    ensures { IfOk result (λ left. left.items ≡ filter (λ i. cond_accepts cond.now (decoded_at decoded.now i)) places.now) }
+    ensures { IfOk result (λ left.
+        left.items ≡ filter (λ i. cond_accepts cond.now (decoded_at decoded.now i)) places.now) }
 {
     let mut left = Vec::new(alloc);
     for place in places {
@@ -168,7 +170,7 @@ fn narrow_each(
     Ok(left)
 }
 
-/// The places at which what was decoded meets the condition.
+/// The places whose cell meets the condition.
 fn narrow(
     alloc: Global,
     rows: u32,
@@ -178,7 +180,8 @@ fn narrow(
 ) -> Result<Vec<u32>, AllocError>
     requires sized { IsSized rows decoded.now }
     requires places { AllByRecursion (λ place. place < rows) places.now }
-    ensures { IfOk result (λ left. left.items ≡ filter (λ i. cond_accepts cond.now (decoded_at decoded.now i)) places.now) }
+    ensures { IfOk result (λ left.
+        left.items ≡ filter (λ i. cond_accepts cond.now (decoded_at decoded.now i)) places.now) }
 {
     match decoded {
         Decoded::Missing | Decoded::Ints(_) => narrow_each(alloc, rows, cond, decoded, places),
@@ -186,7 +189,7 @@ fn narrow(
     }
 }
 
-/// The places that meet all conditions, or None where two columns have the name of one.
+/// The places that meet all conditions. None if two columns have the name of one condition.
 pub(crate) fn narrow_all(
     alloc: Global,
     conds: &[Cond],
@@ -197,7 +200,8 @@ pub(crate) fn narrow_all(
     requires few { length times.now ≤ 65536 }
     requires read { AllByRecursion (IsRead (length times.now)) read.now }
     requires places { AllByRecursion (λ place. place < length times.now) places.items }
-    ensures { IfOk result (λ found. IfSome found (λ left. left.items ≡ filter (λ i. conds_hold conds.now (row_of times.now (columns_of read.now) i)) places.items)) }
+    ensures { IfOk result (λ found. IfSome found (λ left.
+        left.items ≡ filter (λ i. conds_hold conds.now (row_of times.now (columns_of read.now) i)) places.items)) }
 {
     let mut left = places;
     for cond in conds {

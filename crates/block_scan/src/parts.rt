@@ -1,4 +1,4 @@
-// The groups of blocks, merged one after another.
+// Folds blocks, and joins their groups one after another.
 ghost use Rattle.std.specs.Prelude.{◌≡◌, ◌≤◌, ◌^◌, length, IfOk};
 ghost use Rattle.std.specs.List.{AllByRecursion, flat_map};
 ghost use Rattle.leaf_model.specs.Groups.{groups};

@@ -1,4 +1,4 @@
-// The places of a block that a query asks for.
+// The places of a block whose times a query wants.
 ghost use Rattle.std.specs.Prelude.{◌≡◌, ◌≤◌, ◌<◌, ℕ, List, [], ◌∷◌, ◌++◌, length, pos, slice_index_or, if◌then◌else◌, IfOk};
 ghost use Rattle.row_blocks.specs.Blocks.{AreTimes, time_of, value_in};
 ghost use Rattle.block_scan.specs.Reads.{IsRead, is_wanted, wanted_places};
@@ -19,7 +19,8 @@ fn fill_times(
     requires codes { length codes.old ≡ rows }
     requires present { length present.old ≡ rows }
     requires found { length found.old ≡ rows }
-    ensures { (i : ℕ) → i < rows → slice_index_or found.new i (pos 0) ≡ time_of (value_in times.now.column.now.bytes i) }
+    ensures { (i : ℕ) → i < rows
+        → slice_index_or found.new i (pos 0) ≡ time_of (value_in times.now.column.now.bytes i) }
 {
     times.view.integers(codes, present, found);
 }
@@ -29,7 +30,8 @@ pub(crate) fn times_in(alloc: Global, rows: u32, times: &ReadColumn) -> Result<V
     requires timed { AreTimes rows times.now.column.now }
     requires read { IsRead rows times.now }
     ensures length { IfOk result (λ found. length found.items ≡ rows) }
-    ensures each { IfOk result (λ found. (i : ℕ) → i < rows → slice_index_or found.items i (pos 0) ≡ time_of (value_in times.now.column.now.bytes i)) }
+    ensures each { IfOk result (λ found.
+        (i : ℕ) → i < rows → slice_index_or found.items i (pos 0) ≡ time_of (value_in times.now.column.now.bytes i)) }
 {
     let mut codes = vec![in alloc; 0u64; rows as usize]?;
     let mut present = vec![in alloc; false; rows as usize]?;
@@ -57,7 +59,8 @@ fn push_wanted(
     place: u32,
     places: &mut Vec<u32>,
 ) -> Result<(), AllocError>
-    ensures { IfOk result (λ done. places.new.items ≡ places.old.items ++ (if is_wanted query.now horizon time.now then place ∷ [] else [])) }
+    ensures { IfOk result (λ done.
+        places.new.items ≡ places.old.items ++ (if is_wanted query.now horizon time.now then place ∷ [] else [])) }
 {
     if is_wanted(query, horizon, *time) {
         places.push(place)?;
@@ -65,7 +68,7 @@ fn push_wanted(
     Ok(())
 }
 
-/// The places behind the first `skip` whose times are at or after the horizon and in the query's range.
+/// The places from `skip` on whose times are at or after the horizon and in the query's range.
 pub(crate) fn wanted_places(
     alloc: Global,
     query: &Query,

@@ -1,4 +1,4 @@
-// Slots in the order of their keys. Nothing but speed rests on it: groups that are out of order are merged.
+// Sorts slots by their keys. Only speed depends on it: groups out of order are merged.
 ghost use Rattle.std.specs.Prelude.{◌≡◌, ◌<◌, map, IfOk};
 ghost use Rattle.std.specs.List.{AllByRecursion};
 ghost use Rattle.std.specs.List.Sorted.{IsPermutation};
@@ -11,10 +11,10 @@ use crate::keys_seen::rank_at;
 use crate::slots::FoundSlots;
 use std::alloc::{AllocError, Global};
 
-/// By so many keys slots are put in order: each takes a sorting.
+/// The most keys that slots are sorted by. Each costs a sort.
 const SORTED_KEYS: usize = 4;
 
-/// The rank of a slot's key, or that of none for a number that no slot has.
+/// The rank of a slot's key. A number that no slot has gets the rank of a missing key.
 fn rank_of<'a>(
     rows: u32,
     key: &Decoded<'_, 'a>,
@@ -30,7 +30,7 @@ fn rank_of<'a>(
     }
 }
 
-/// The slots, each behind the rank of its key and its place among them.
+/// Each slot with the rank of its key and its position.
 fn ranked<'a>(
     alloc: Global,
     rows: u32,
@@ -64,7 +64,7 @@ fn slots_alone(
     Ok(slots)
 }
 
-/// The slots in the order of one key. Those that have the same stay in their order.
+/// The slots sorted by one key. The sort is stable.
 fn slots_by_key(
     alloc: Global,
     rows: u32,
@@ -81,7 +81,7 @@ fn slots_by_key(
     slots_alone(alloc, all.as_slice())
 }
 
-/// The slots in the order of the first keys: by the last of these first.
+/// The slots sorted by the first keys, at most 4: a radix sort from the last of these to the first.
 pub(crate) fn slots_by_keys(
     alloc: Global,
     rows: u32,

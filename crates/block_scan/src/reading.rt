@@ -1,4 +1,4 @@
-// The columns of a block that a query names.
+// Reads the columns of a block that a query names.
 ghost use Rattle.std.specs.Prelude.{◌≡◌, ◌+◌, ◌≤◌, length, IfOk};
 ghost use Rattle.std.specs.List.{AllByRecursion};
 ghost use Rattle.row_blocks.specs.Columns.{MeanCells};
@@ -13,14 +13,14 @@ use row_blocks::BlockColumn;
 use std::alloc::{AllocError, Global};
 use std::sync::ledger::Ledger;
 
-/// A column of a block, and what was read of it.
+/// A column of a block, and its bytes as they were read.
 #[derive(Drop)]
 pub struct ReadColumn<'a> {
     pub column: &'a BlockColumn,
     pub view: ColumnView<'a>,
 }
 
-/// What a column means that is known to mean a cell for each row. It takes one step.
+/// Reads a column that is known to have a cell for each row. It takes one step.
 pub(crate) fn read_column<'a, L: Ledger>(
     rows: u32,
     column: &'a BlockColumn,
@@ -37,7 +37,7 @@ pub(crate) fn read_column<'a, L: Ledger>(
     }
 }
 
-/// The columns behind the times that the query names, each read once.
+/// Reads the columns other than that of the times that the query names, each once.
 pub(crate) fn read_named<'a, L: Ledger>(
     alloc: Global,
     query: &Query,

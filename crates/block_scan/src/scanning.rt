@@ -1,4 +1,4 @@
-// A query over blocks and a tail.
+// Answers a query over blocks and a tail.
 ghost use Rattle.std.specs.Prelude.{◌≡◌, ◌+◌, ◌≤◌, ◌^◌, length, IfOk};
 ghost use Rattle.std.specs.List.{AllByRecursion};
 ghost use Rattle.leaf_model.specs.Groups.{groups};
@@ -16,8 +16,9 @@ use std::alloc::{AllocError, Global};
 use std::sync::ledger::Ledger;
 use std::thread::Threads;
 
-/// The groups of the rows that pass, without the first `skip` rows of the blocks and without those below the horizon.
-/// Columns are read in the caller's thread, a step each; then the blocks are folded in threads, and the tail onto their groups.
+/// The groups of the rows that pass, without the first `skip` rows of the blocks and the rows below the horizon. The
+/// caller's thread reads the columns, one step each. Then threads fold the blocks, and the tail is folded onto their
+/// groups. Err if memory runs out.
 pub fn scan<L: Ledger, R: Threads + Sync>(
     rt: &R,
     alloc: Global,
@@ -30,8 +31,10 @@ pub fn scan<L: Ledger, R: Threads + Sync>(
 ) -> Result<Groups, AllocError>
     requires skip { IsSkip skip blocks.now }
     requires few { length (rows_held blocks.now (lent_rows tail.now) skip horizon) ≤ 2 ^ 40 }
-    ensures groups { IfOk result (λ gs. gs ≡ groups query.now (rows_held blocks.now (lent_rows tail.now) skip horizon)) }
-    ensures within { IfOk result (λ gs. AllByRecursion (IsWithin (length (rows_held blocks.now (lent_rows tail.now) skip horizon))) gs) }
+    ensures groups { IfOk result (λ gs.
+        gs ≡ groups query.now (rows_held blocks.now (lent_rows tail.now) skip horizon)) }
+    ensures within { IfOk result (λ gs.
+        AllByRecursion (IsWithin (length (rows_held blocks.now (lent_rows tail.now) skip horizon))) gs) }
     ensures steps { steps.new ≤ steps.old + most_steps query.now blocks.now }
 {
     let views = read_blocks(alloc, query, blocks.as_slice(), skip, horizon, steps)?;

@@ -1,4 +1,4 @@
-// Places in slots, by the keys that they have.
+// Puts places into slots by their keys.
 ghost use Rattle.std.specs.Prelude.{◌≡◌, ℕ, ◌<◌, ◌≤◌, List, [], ◌∷◌, length, map, slice_index, slice_index_or, IfOk, IfSome, Some};
 ghost use Rattle.std.specs.List.{AllByRecursion};
 ghost use Rattle.block_scan.specs.Reads.{IsRead, columns_of, row_of};
@@ -19,7 +19,7 @@ use column_bytes::ColumnView;
 use leaf_model::{Key, Keys, Query, Text};
 use std::alloc::{AllocError, Global};
 
-/// What was decoded of the keys, the slot of each place, and a place of each slot, which has the keys of all in it.
+/// The decoded keys, the slot of each place, and the first place of each slot, whose keys all its places have.
 #[derive(Drop)]
 pub struct FoundSlots<'b, 'a> {
     pub keys: Vec<Decoded<'b, 'a>>,
@@ -27,7 +27,8 @@ pub struct FoundSlots<'b, 'a> {
     pub firsts: Vec<u32>,
 }
 
-/// Where places stand: all in one slot, each by the code of its text or set, or in a slot that was found for its keys.
+/// How places stand in slots: all in one; each by the code of its text or set; or each in a slot that was found for its
+/// keys.
 #[derive(Drop)]
 pub enum Slots<'b, 'a> {
     Alone,
@@ -35,7 +36,7 @@ pub enum Slots<'b, 'a> {
     Found(FoundSlots<'b, 'a>),
 }
 
-/// Slots that are found for some places by their keys.
+/// Finds slots for places by their keys.
 fn found_slots<'b, 'a>(
     alloc: Global,
     rows: u32,
@@ -47,7 +48,8 @@ fn found_slots<'b, 'a>(
     requires few { length places.now ≤ 65536 }
     ensures keys { IfOk result (λ found. found.keys.items ≡ keys.entry.items) }
     ensures held { IfOk result (λ found. IsHeld rows (Found found)) }
-    ensures placed { IfOk result (λ found. AllByRecursion (IsPlaced keys.entry.items found.firsts.items found.at.items) places.now) }
+    ensures placed { IfOk result (λ found.
+        AllByRecursion (IsPlaced keys.entry.items found.firsts.items found.at.items) places.now) }
 {
     let mut at = vec![in alloc; 0u32; rows as usize]?;
     let mut guesses = no_guesses(alloc)?;
@@ -70,7 +72,7 @@ fn only<'b, 'a>(alloc: Global, key: Decoded<'b, 'a>) -> Result<Vec<Decoded<'b, '
     Ok(keys)
 }
 
-/// Slots for some places by the keys of a query. None of many keys, and where two columns have the name of one.
+/// Slots for places by the keys of a query. None if there are more than 16 keys, or two columns have the name of one.
 pub(crate) fn slots_of<'b, 'a>(
     alloc: Global,
     query: &Query,
@@ -82,7 +84,8 @@ pub(crate) fn slots_of<'b, 'a>(
     requires read { AllByRecursion (IsRead (length times.now)) read.now }
     requires inside { AllByRecursion (λ place. place < length times.now) places.now }
     requires short { length places.now ≤ 65536 }
-    ensures { IfOk result (λ found. IfSome found (λ slots. AreSlots query.now (length times.now) (row_of times.now (columns_of read.now)) slots places.now)) }
+    ensures { IfOk result (λ found. IfSome found (λ slots.
+        AreSlots query.now (length times.now) (row_of times.now (columns_of read.now)) slots places.now)) }
 {
     match query.keys.as_slice() {
         [] => Ok(Some(Slots::Alone)),
@@ -163,7 +166,7 @@ pub(crate) fn keys_of_slot(
     }
 }
 
-/// How many slots there are.
+/// The number of slots.
 pub(crate) fn slots_in(slots: &Slots) -> u64
     ensures { result ≡ slots_in slots.now }
 {

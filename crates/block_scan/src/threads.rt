@@ -1,4 +1,4 @@
-// Blocks that are folded side by side.
+// Folds blocks in threads.
 ghost use Rattle.std.specs.Prelude.{IfOk};
 ghost use Rattle.std.specs.List.{AllZip};
 ghost use Rattle.block_scan.specs.Seen.{IsFolded};
@@ -15,7 +15,7 @@ fn fold_one(alloc: Global, query: &Query, view: &BlockView) -> Result<Groups, Al
     view.fold(alloc, query)
 }
 
-/// The groups of each block, in order, from as many threads as there are processors.
+/// The groups of each block, in order. As many threads as there are processors fold them.
 pub(crate) fn fold_each<R: Threads + Sync>(
     rt: &R,
     alloc: Global,

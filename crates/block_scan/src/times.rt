@@ -1,4 +1,4 @@
-// Times that a query makes the groups of a block with.
+// Decodes the times of a block, or finds that a query does not need them.
 ghost use Rattle.std.specs.Prelude.{◌≡◌, ℕ, ◌<◌, ◌≤◌, ◌&&◌, length, pos, slice_index_or, IfOk};
 ghost use Rattle.row_blocks.specs.Blocks.{AreTimes};
 ghost use Rattle.block_scan.specs.Reads.{IsRead, is_wanted};
@@ -10,7 +10,7 @@ use crate::reading::ReadColumn;
 use leaf_model::Query;
 use std::alloc::{AllocError, Global};
 
-/// Whether both times are wanted, and so each between them.
+/// Whether both times are wanted, and so each time between them.
 fn wants_both(query: &Query, horizon: i64, from: i64, to: i64) -> bool
     ensures { result ≡ (is_wanted query.now horizon from && is_wanted query.now horizon to) }
 {
@@ -25,7 +25,8 @@ fn times_alike(alloc: Global, rows: u32, time: i64) -> Result<Vec<i64>, AllocErr
     vec![in alloc; time; rows as usize]
 }
 
-/// The times of a block's rows. Where all are wanted and the query asks for none, one of them stands for all, and they are not decoded.
+/// The times of a block's rows. If all are wanted and the query does not read `time`, one of them stands for all, and
+/// they are not decoded.
 pub(crate) fn times_seen(
     alloc: Global,
     query: &Query,

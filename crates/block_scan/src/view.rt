@@ -1,4 +1,4 @@
-// A block whose named columns were read.
+// A block of which the named columns were read.
 ghost use Rattle.std.specs.Prelude.{◌≡◌, ◌≤◌, ◌∷◌, length, IfOk};
 ghost use Rattle.std.specs.List.{AllByRecursion};
 ghost use Rattle.leaf_model.specs.Groups.{groups};
@@ -14,7 +14,8 @@ use leaf_model::{Groups, Query};
 use std::alloc::{AllocError, Global};
 use std::marker::Model;
 
-/// The columns of a block that were read, which of its rows are held, and two times between which all lie. Contracts see a block of these columns alone.
+/// The columns of a block that were read, which of its rows are held, and two times between which all times lie.
+/// Contracts see a block of these columns alone.
 #[derive(Drop)]
 pub struct BlockView<'a> {
     rows: u32,
@@ -55,7 +56,8 @@ impl<'a> BlockView<'a> {
         requires times { IsRead rows times }
         requires between { AreBetween rows times.column.now from to }
         requires others { AllByRecursion (IsRead rows) others.items }
-        ensures { result ≡ seen skip horizon (record { rows = rows; columns = times.entry.column.now ∷ columns_of others.entry.items }) }
+        ensures { result ≡ seen skip horizon
+            (record { rows = rows; columns = times.entry.column.now ∷ columns_of others.entry.items }) }
     {
         BlockView {
             rows,
@@ -68,7 +70,7 @@ impl<'a> BlockView<'a> {
         }
     }
 
-    /// The groups of the rows that are held.
+    /// The groups of the rows that are held. Err if memory runs out.
     pub(crate) fn fold(&self, alloc: Global, query: &Query) -> Result<Groups, AllocError>
         ensures groups { IfOk result (λ gs. gs ≡ groups query.now (seen_rows self.now)) }
         ensures within { IfOk result (λ gs. AllByRecursion (IsWithin (length (seen_rows self.now))) gs) }

@@ -16,11 +16,11 @@ use Rattle.lane_play.specs.Went.{FansWent, LaneWent, own_lines, told_lines}
 use Rattle.bursts.specs.Rolling.{Between, has_rollover, rolling}
 use Rattle.bursts.specs.declared.work.LaneWork.{LaneWork}
 
--- a lane may play
+-- the lane may play
 abbrev pub MayWork : {B X : Type 0} {Y : X → Type 0} → LaneWork B X Y → Type 0
 MayWork lane = AllByRecursion (MayPlayOn lane.crew.fleet lane.crew.holds) lane.commands.items
 
--- it has played, and holds what it held
+-- the lane has played, and still holds the same leaves and seats
 pub record IsDone {B X : Type 0} {Y : X → Type 0} (hear : LaneWork B X Y → List Held) (meaning : B → Meaning) (x y : LaneWork B X Y) : Type 0 where
   pub number : y.number ≡ x.number
   pub rolls : y.rolls ≡ x.rolls
@@ -32,7 +32,7 @@ pub record IsDone {B X : Type 0} {Y : X → Type 0} (hear : LaneWork B X Y → L
 
 -- ---- lent
 
--- For each of so many lanes at most something was cut off, that of the last first: for these lanes this was, and that is left.
+-- Of `count` lanes, these were cut off, the last first: each got something, and `rest` is left.
 pub data Lent {B X : Type 0} {Y : X → Type 0} (count : ℕ) (P : List Command → List (Hold B) → LaneWork B X Y → Type 0) : List (Hold B) → List (LaneWork B X Y) → List (List Command) → List (Hold B) → Type 0 where
   none : (xs : List (Hold B)) (works : List (LaneWork B X Y)) (lanes : List (List Command)) (rest : List (Hold B))
       → works ≡ []
@@ -49,7 +49,7 @@ pub data Lent {B X : Type 0} {Y : X → Type 0} (count : ℕ) (P : List Command 
       → lanes ≡ lane ∷ later
       → Lent count P xs works lanes rest
 
--- A lane that may play with that. Where it has a rollover, it has the watches, which are these.
+-- The lane may play with what was cut off for it. If it has a rollover, it has the watches `was`.
 pub record IsReady {B X : Type 0} {Y : X → Type 0} (hear : LaneWork B X Y → List Held) (was : List Held) (fleet : Fleet) (tables : List (List Shared)) (lane : List Command) (off : List (Hold B)) (work : LaneWork B X Y) : Type 0 where
   pub fleet_is : work.crew.fleet ≡ fleet
   pub tables_are : work.crew.tables ≡ tables
@@ -60,7 +60,7 @@ pub record IsReady {B X : Type 0} {Y : X → Type 0} (hear : LaneWork B X Y → 
   pub watches : has_rollover lane ≡ true → hear work ≡ was
   pub unplayed : work.lines ≡ None
 
--- a lane that has played with that, or has not begun
+-- the lane has played with what was cut off for it, or has not begun
 pub record IsWorked {B X : Type 0} {Y : X → Type 0} (hear : LaneWork B X Y → List Held) (was : List Held) (meaning : B → Meaning) (fleet : Fleet) (tables : List (List Shared)) (lane : List Command) (off : List (Hold B)) (work : LaneWork B X Y) : Type 0 where
   pub fleet_is : work.crew.fleet ≡ fleet
   pub tables_are : work.crew.tables ≡ tables
@@ -73,14 +73,15 @@ pub record IsWorked {B X : Type 0} {Y : X → Type 0} (hear : LaneWork B X Y →
 
 -- ---- taken back
 
--- All is back. Where the watches were handed out just where one of the lanes has a rollover, those that are there now heard what the lanes tell.
+-- All is back. If the watches went with a lane exactly if one has a rollover, those that are there now heard what the
+-- lanes tell.
 pub record TakenBack {B E : Type 0} (meaning : B → Meaning) (fleet : Fleet) (count : ℕ) (cut : List (List Command)) (was : List Held) (xs : List (Hold B)) (left : List Held) (lines : Result (Vec Line Global) E)
     (ys : List (Hold B)) (now : List Held) : Type 0 where
   pub still : StillHas xs ys
   pub time : AllPass meaning xs ys
   pub went : rolling cut ≤ 1 → (rolling cut ≡ 0 → left ≡ was) → FansWent meaning fleet (length cut ≡ count) cut xs was (told_lines lines) ys now
 
--- The first of the lanes are back, and the watches where one of these has a rollover.
+-- The first lanes are back, and so are the watches if one of these has a rollover.
 pub record TakingBack {B X E : Type 0} {Y : X → Type 0} (hear : LaneWork B X Y → List Held) (meaning : B → Meaning) (fleet : Fleet) (tables : List (List Shared)) (count : ℕ) (cut : List (List Command)) (was : List Held)
     (xs : List (Hold B)) (works : List (LaneWork B X Y)) (left : List Held) (lines : Result (Vec Line Global) E) (ys : List (Hold B)) (now : List Held) : Type 0 where
   pub back : List (List Command)

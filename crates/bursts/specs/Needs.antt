@@ -1,4 +1,4 @@
--- What the commands of a lane need, and whether a crew can lend it to every lane.
+-- What the commands of a lane need, and whether a crew can lend it to all lanes.
 use Rattle.std.specs.Prelude.{◌≡◌, ℕ, suc, ◌<◌, ◌≤◌, List, [], ◌∷◌, Bool, true, false, length, replicate, slice_set, count_by, ⊤}
 use Rattle.std.specs.List.{AllByRecursion}
 use Rattle.script_text.specs.declared.command.Command.{Command}
@@ -12,54 +12,54 @@ use Rattle.player.specs.Crew.{HasLeaf, HasSeats, Spares, is_set}
 use Rattle.bursts.specs.declared.plan.Needs.{Needs}
 use Rattle.bursts.specs.declared.plan.Plan.{Plan}
 
--- the places at which a command needs something
+-- the places where a command needs something
 pub data Places : Type 0 where
   Nowhere : Places
   OnlyAt : (place : ℕ) → Places
   Everywhere : Places
 
--- the table at which seats of callers are needed for these
+-- the table where a command with this aim needs a callers' seat
 abbrev pub table_at : List (List ℕ) → Aim → Places
 table_at names (AtTable table) = OnlyAt table
 table_at names (AtNamed name) = OnlyAt (place_among name names)
 table_at names _ = Nowhere
 
--- the leaves whose stewards these are
+-- the leaves that a command with this aim acts on
 abbrev pub leaves_at : Aim → Places
 leaves_at (AtLeaf leaf) = OnlyAt leaf
 leaves_at AtLeaves = Everywhere
 leaves_at _ = Nowhere
 
--- the table that a command needs seats of callers at
+-- the table where a command needs a callers' seat
 abbrev pub table_of : List (List ℕ) → Command → Places
 table_of names c = table_at names (aim_of c)
 
--- the leaves whose stewards it tells what to do
+-- the leaves that a command acts on
 abbrev pub leaves_of : Command → Places
 leaves_of c = leaves_at (aim_of c)
 
--- this place is one of them
+-- i is one of these places
 abbrev pub IsAmong : Places → ℕ → Type 0
 IsAmong Nowhere i = ⊥
 IsAmong (OnlyAt place) i = place ≡ i
 IsAmong Everywhere i = ⊤
 
--- these places are marked
+-- these places are marked too
 abbrev pub marked : Places → List Bool → List Bool
 marked Nowhere marks = marks
 marked (OnlyAt place) marks = slice_set marks place true
 marked Everywhere marks = replicate (length marks) true
 
--- the places that the commands need
+-- the places that the commands need are marked too
 abbrev pub marked_by : (Command → Places) → List Command → List Bool → List Bool
 marked_by place [] marks = marks
 marked_by place (c ∷ cs) marks = marked_by place cs (marked (place c) marks)
 
--- those of so many places
+-- of `count` places, those that the commands need
 abbrev pub needed : (Command → Places) → ℕ → List Command → List Bool
 needed place count commands = marked_by place commands (replicate count false)
 
--- a place for each table and each leaf of the fleet
+-- one place for each table and one for each leaf of the fleet
 pub record HasPlaces (fleet : Fleet) (needs : Needs) : Type 0 where
   pub tables : length needs.tables.items ≡ length fleet.names
   pub leaves : length needs.leaves.items ≡ leaf_count fleet
@@ -72,17 +72,17 @@ pub record AreNeeds (fleet : Fleet) (commands : List Command) (needs : Needs) : 
 abbrev pub commands_in : Plan → List Command
 commands_in plan = plan.commands.items
 
--- commands of a lane, with what they need
+-- the plan of commands that the fleet may play in a lane
 pub record IsPlan (fleet : Fleet) (plan : Plan) : Type 0 where
   pub commands : AllByRecursion (IsCommand (leaf_count fleet) fleet.names) plan.commands.items
   pub needs : AreNeeds fleet plan.commands.items plan.needs
 
--- those of this lane
+-- the plan of this lane
 pub record IsPlanOf (fleet : Fleet) (lane : List Command) (plan : Plan) : Type 0 where
   pub is : IsPlan fleet plan
   pub lane_is : plan.commands.items ≡ lane
 
--- one for each lane
+-- one plan for each lane
 abbrev pub ArePlans : Fleet → List (List Command) → List Plan → Type 0
 ArePlans fleet [] [] = Unit {0}
 ArePlans fleet [] (p ∷ ps) = ⊥
@@ -91,23 +91,23 @@ ArePlans fleet (l ∷ ls) (p ∷ ps) = IsPlanOf fleet l p × ArePlans fleet ls p
 
 -- ---- what can be lent
 
--- the lane needs seats at that table
+-- the lane needs a callers' seat at that table
 abbrev pub needs_at : ℕ → Plan → Bool
 needs_at table plan = is_set plan.needs.tables.items table
 
--- it acts on that leaf
+-- the lane acts on that leaf
 abbrev pub acts_on : ℕ → Plan → Bool
 acts_on leaf plan = is_set plan.needs.leaves.items leaf
 
--- no leaf is acted on by two lanes
+-- no two lanes act on the same leaf
 abbrev pub AreAlone : List Plan → Type 0
 AreAlone plans = (leaf : ℕ) → count_by (acts_on leaf) plans ≤ 1
 
--- each seat of callers has an id for each lane that needs one there, and one more
+-- each callers' seat has an id for each lane that needs its table, and one more
 abbrev pub AreSpare : {B : Type 0} → Fleet → List (Hold B) → List Plan → Type 0
 AreSpare fleet xs plans = (table : ℕ) → table < length fleet.names → Spares xs table (suc (count_by (needs_at table) plans))
 
--- all of it can be cut off
+-- what all lanes need can be cut off
 pub record CanLend {B : Type 0} (fleet : Fleet) (xs : List (Hold B)) (plans : List Plan) : Type 0 where
   pub plans_are : AllByRecursion (IsPlan fleet) plans
   pub alone : AreAlone plans

@@ -1,4 +1,4 @@
--- Which lane of a burst has a rollover, and how the watches go with it.
+-- Which lanes of a burst have a rollover, and how the watches go with them.
 use Rattle.std.specs.Prelude.{◌≡◌, ℕ, zero, suc, ◌+◌, List, [], ◌∷◌, Bool, true, false}
 use Rattle.std.specs.List.{list_any}
 use Rattle.script_text.specs.declared.command.Command.{Command}
@@ -17,17 +17,18 @@ abbrev pub one_if : Bool → ℕ
 one_if true = 1
 one_if false = 0
 
--- how many of these lanes have one
+-- the number of lanes with a rollover
 abbrev pub rolling : List (List Command) → ℕ
 rolling [] = 0
 rolling (lane ∷ lanes) = one_if (has_rollover lane) + rolling lanes
 
--- A lane with a rollover has the watches that stood there, of which none is left; another lane leaves them.
+-- A lane with a rollover gets all watches, and none is left. Another lane gets none.
 abbrev pub IsHandedOver : Bool → List Held → List Held → List Held → Type 0
 IsHandedOver true was left its = (its ≡ was) × (left ≡ [])
 IsHandedOver false was left its = left ≡ was
 
--- what the watches heard of lanes, of which so many have a rollover: nothing, or those handed out heard it, and are then what stands there now
+-- what the watches heard of lanes, of which this many have a rollover: nothing if none has; else those that were handed
+-- over heard it, and are back
 abbrev pub Between : ℕ → List Held → List Held → List Held → List Held → Type 0
 Between zero was now before after = after ≡ before
 Between (suc n) was now before after = (before ≡ was) × (after ≡ now)

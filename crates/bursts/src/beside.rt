@@ -1,4 +1,4 @@
-// Lanes that play at once, each with what is cut off for it.
+// Plays lanes beside one another, each with what is cut off for it.
 ghost use Rattle.std.specs.Prelude.{◌≡◌, ◌+◌, ◌<◌, ◌≤◌, ◌∷◌, ◌++◌, [], ℕ, List, length, map, slice_index_or, vec_len, vec_capacity, IfOk, IsOk};
 ghost use Rattle.std.specs.List.{AllByRecursion};
 ghost use Rattle.std.specs.Thread.{IsSend, IsSync};
@@ -26,8 +26,8 @@ use std::sync::Wait;
 use std::thread;
 use std::thread::Threads;
 
-/// Plays lanes at once. All seats meet before that, so that each lane knows what was done before the burst. The watches go with the lane that has a rollover.
-/// The list of lanes is made before anything is cut off.
+/// Plays lanes beside one another. All seats meet first, so that each lane knows what was done before the burst. The
+/// watches go with the lane that has a rollover. The list of lanes is made before anything is cut off.
 pub fn play_beside<'t, R: Wait + Threads + Sync, B: Berth, G: Gate>(
     rt: &R,
     alloc: Global,
@@ -61,7 +61,7 @@ pub fn play_beside<'t, R: Wait + Threads + Sync, B: Berth, G: Gate>(
     }
 }
 
-// Cuts off what each lane needs, that of the last lane first. For want of memory the others are not cut off.
+// Cuts off what each lane needs, for the last lane first. If memory runs out, the other lanes are not cut off.
 fn cut_all<'t, B: Berth>(
     alloc: Global,
     crew: &mut Crew<'t, B>,
@@ -104,7 +104,7 @@ fn cut_all<'t, B: Berth>(
     Ok(())
 }
 
-// How many lanes these are.
+// The number of lanes.
 fn count(plans: &Vec<Plan>) -> u32
     requires { length plans.now.items ≤ 16 }
     ensures { result ≡ length plans.now.items }
@@ -112,7 +112,7 @@ fn count(plans: &Vec<Plan>) -> u32
     plans.len() as u32
 }
 
-// Puts a value behind the others, where room was left for it.
+// Appends a value. There is room for it.
 fn put_last<T>(list: &mut Vec<T>, value: T)
     requires { vec_len list.old < vec_capacity list.old }
     ensures items { list.new.items ≡ list.old.items ++ value ∷ [] }
@@ -125,8 +125,8 @@ fn put_last<T>(list: &mut Vec<T>, value: T)
     }
 }
 
-// Lets each lane play, all at once: each in a thread of its own where one can be made, and else in turn. The thread that calls plays them where fewer than
-// two have commands.
+// Plays all lanes, each in a thread of its own if one can be started, else in turn. If fewer than two have commands,
+// the calling thread plays them.
 fn work_all<'t, R: Wait + Threads + Sync, B: Berth, G: Gate>(
     rt: &R,
     alloc: Global,
@@ -152,7 +152,7 @@ fn work_all<'t, R: Wait + Threads + Sync, B: Berth, G: Gate>(
     );
 }
 
-// How many threads the lanes are played by.
+// The number of threads to play the lanes.
 fn threads_for<'t, B: Berth>(lanes: &[LaneWork<'t, B>]) -> usize
     requires { 0 < length lanes.now }
     ensures { 0 < result }
@@ -169,7 +169,7 @@ fn threads_for<'t, B: Berth>(lanes: &[LaneWork<'t, B>]) -> usize
     1
 }
 
-// Plays a lane with what was cut off for it.
+// Plays one lane with what was cut off for it.
 fn work<'t, R: Wait + Threads + Sync, B: Berth, G: Gate>(
     rt: &R,
     alloc: Global,
@@ -192,7 +192,7 @@ fn work<'t, R: Wait + Threads + Sync, B: Berth, G: Gate>(
     .ok();
 }
 
-// Takes back what was cut off for each lane, that of the first lane first, and gives the lines of all.
+// Takes back what was cut off for each lane, the first lane first. Gives the lines of all.
 fn take_all_back<'t, B: Berth>(
     alloc: Global,
     crew: &mut Crew<'t, B>,

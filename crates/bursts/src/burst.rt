@@ -1,4 +1,4 @@
-// The lanes of a burst.
+// Plays a burst.
 ghost use Rattle.std.specs.Prelude.{◌≡◌, IfOk, map};
 ghost use Rattle.std.specs.List.{AllByRecursion};
 ghost use Rattle.script_text.specs.declared.item.Item.TheVariants.{Burst};
@@ -20,7 +20,7 @@ use std::alloc::{AllocError, Global};
 use std::sync::Wait;
 use std::thread::Threads;
 
-/// Plays the lanes of a burst: all at once where ids of callers are enough for them, and else in turn.
+/// Plays the lanes of a burst: beside one another if the callers have ids enough for them, else in turn.
 pub fn play_burst<'t, R: Wait + Threads + Sync, B: Berth, G: Gate>(
     rt: &R,
     alloc: Global,

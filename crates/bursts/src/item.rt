@@ -1,4 +1,4 @@
-// An item of a script: a command, or the lanes of a burst.
+// Plays an item of a script.
 ghost use Rattle.std.specs.Prelude.{◌≡◌, IfOk, map};
 ghost use Rattle.std.specs.List.{AllByRecursion};
 ghost use Rattle.printed_lines.specs.Lines.{IsOf};
@@ -17,7 +17,8 @@ use std::alloc::{AllocError, Global};
 use std::sync::Wait;
 use std::thread::Threads;
 
-/// Plays an item, and gives the lines that it prints; the watches are told of its rollovers. For want of memory all leaves and seats are back all the same, and so are the watches.
+/// Plays an item. Gives its lines; the watches are told of its rollovers. After Err, which is want of memory, all
+/// leaves, seats and watches are still back.
 pub fn play_item<'t, R: Wait + Threads + Sync, B: Berth, G: Gate>(
     rt: &R,
     alloc: Global,

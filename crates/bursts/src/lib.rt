@@ -1,4 +1,4 @@
-//! An item of a script, played over a crew: a command, or the lanes of a burst at once.
+//! Plays an item of a script over a crew: a command, or the lanes of a burst beside one another.
 #![tactic(auto)]
 
 mod beside;

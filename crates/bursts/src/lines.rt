@@ -6,7 +6,7 @@ ghost use Rattle.lane_play.specs.Played.{IsBehind};
 use printed_lines::Line;
 use std::alloc::AllocError;
 
-/// Puts the lines of the lane with that number behind those of the lanes before it.
+/// Appends the line of lane `number`, and the lane's own lines.
 pub fn put_lane(lines: &mut Vec<Line>, number: u32, own: Vec<Line>) -> Result<(), AllocError>
     ensures { OnOk result (lines.new.items ≡ lines.old.items ++ Lane number ∷ own.items) }
 {
@@ -15,7 +15,7 @@ pub fn put_lane(lines: &mut Vec<Line>, number: u32, own: Vec<Line>) -> Result<()
     lines.append(&mut own)
 }
 
-/// The same where there was memory for both.
+/// The same. Err if memory for either ran out.
 pub fn behind(
     lines: Result<Vec<Line>, AllocError>,
     number: u32,

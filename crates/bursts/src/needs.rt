@@ -1,4 +1,4 @@
-// What the commands of a lane need.
+// Finds what the commands of a lane need.
 ghost use Rattle.std.specs.Prelude.{◌≡◌, false, true, length, replicate, IfOk};
 ghost use Rattle.std.specs.List.{AllByRecursion};
 ghost use Rattle.script_text.specs.Fits.{IsCommand};
@@ -12,7 +12,7 @@ use script_text::{Aim, Command};
 use std::alloc::{AllocError, Global};
 
 impl Needs {
-    /// What these commands need.
+    /// What these commands need. Err if memory runs out.
     pub fn of<'t, B: Berth>(
         alloc: Global,
         crew: &Crew<'t, B>,
@@ -59,7 +59,7 @@ fn mark_all(marks: &mut Vec<bool>)
     marks.as_mut_slice().fill(true);
 }
 
-// So many places, none of which is marked.
+// `count` places, none of them marked.
 fn unmarked(alloc: Global, count: u32) -> Result<Vec<bool>, AllocError>
     ensures { IfOk result (λ marks. marks.items ≡ replicate count false) }
 {

@@ -1,7 +1,7 @@
-// What a lane plays, and what it needs for that.
+// The plan of a lane: its commands, and what they need.
 use script_text::Command;
 
-/// What the commands of a lane need: seats of callers at each table that is marked, and each leaf that is marked.
+/// What the commands of a lane need: a callers' seat at each marked table, and each marked leaf.
 #[derive(Drop)]
 pub struct Needs {
     pub tables: Vec<bool>,

@@ -1,4 +1,4 @@
-// The lanes of a burst, each with what it needs.
+// The plans of the lanes of a burst.
 ghost use Rattle.std.specs.Prelude.{◌≡◌, ◌<◌, IfOk, IsTrue, count_by};
 ghost use Rattle.std.specs.List.{AllByRecursion};
 ghost use Rattle.script_text.specs.Fits.{IsCommand};
@@ -13,7 +13,7 @@ use script_text::Commands;
 use std::alloc::{AllocError, Global};
 use std::collections::VecDeque;
 
-/// Each lane with what it needs.
+/// The plan of each lane. Err if memory runs out.
 pub fn plan_all<'t, B: Berth>(
     alloc: Global,
     crew: &Crew<'t, B>,
@@ -39,7 +39,7 @@ fn plan<'t, B: Berth>(alloc: Global, crew: &Crew<'t, B>, lane: Commands) -> Resu
     Ok(Plan { commands, needs })
 }
 
-/// Whether the callers' seats at each table have an id for each lane that needs one there, and one more.
+/// Whether each callers' seat has an id for each lane that needs its table, and one more.
 pub fn are_spare<'t, B: Berth>(crew: &Crew<'t, B>, plans: &[Plan]) -> bool
     ensures { IsTrue result → AreSpare crew.now.fleet crew.now.holds plans.now }
 {
@@ -51,7 +51,7 @@ pub fn are_spare<'t, B: Berth>(crew: &Crew<'t, B>, plans: &[Plan]) -> bool
     true
 }
 
-// How many of the lanes need that table.
+// The number of lanes that need that table.
 fn lanes_at(plans: &[Plan], table: u32) -> u64
     ensures { result ≡ count_by (needs_at table) plans.now }
 {

@@ -1,4 +1,4 @@
-// Lanes that are played one after another, since ids are too few to cut off.
+// Plays lanes one after another, if the ids do not suffice to cut them off.
 ghost use Rattle.std.specs.Prelude.{◌≡◌, ◌≤◌, length, map};
 ghost use Rattle.std.specs.List.{AllByRecursion};
 ghost use Rattle.player.specs.Crew.{AllPass, HasAll, StillHas};
@@ -17,7 +17,7 @@ use std::collections::VecDeque;
 use std::sync::Wait;
 use std::thread::Threads;
 
-/// Plays lanes one after another over the whole crew. All of them have the same watches.
+/// Plays lanes one after another, over the whole crew and with the same watches.
 pub fn play_in_turn<'t, R: Wait + Threads + Sync, B: Berth, G: Gate>(
     rt: &R,
     alloc: Global,

@@ -1,4 +1,4 @@
-// The watches of a burst: they go with the lane that has a rollover.
+// The watches of a burst, which go with the lane that has a rollover.
 ghost use Rattle.std.specs.Prelude.{◌≡◌, map, MatchBool};
 ghost use Rattle.bursts.specs.Rolling.{IsHandedOver, has_rollover, is_rollover};
 
@@ -20,7 +20,7 @@ fn is_rollover(command: &Command) -> bool
     matches!(command, Command::Rollover(_))
 }
 
-/// The watches of a lane: all of them where it has a rollover, and else none.
+/// The watches for a lane: all if it has a rollover, else none.
 pub fn hand_over(
     alloc: Global,
     watches: &mut Vec<Box<dyn Watch>>,
@@ -35,7 +35,7 @@ pub fn hand_over(
     its
 }
 
-/// Takes over those of a lane that has a rollover.
+/// Takes back the watches of a lane that has a rollover.
 pub fn take_over(watches: &mut Vec<Box<dyn Watch>>, rolls: bool, its: Vec<Box<dyn Watch>>)
     ensures { MatchBool rolls (map (λ watch. held watch) watches.new.items ≡ map (λ watch. held watch) its.items) (map (λ watch. held watch) watches.new.items ≡ map (λ watch. held watch) watches.old.items) }
 {

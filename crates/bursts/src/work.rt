@@ -13,9 +13,9 @@ pub struct LaneWork<'t, B: Berth> {
     pub commands: Vec<Command>,
     /// Whether one of its commands is a rollover.
     pub rolls: bool,
-    /// Those of the burst where one is, and else none.
+    /// The watches of the burst if one of its commands is a rollover, else none.
     pub watches: Vec<Box<dyn Watch>>,
-    /// Those of all its commands: none before they are played, or for want of memory.
+    /// The lines of all its commands. None before they were played, and if memory ran out.
     pub lines: Option<Vec<Line>>,
 }
 

@@ -1,4 +1,4 @@
--- What the bytes of a column mean, by the offsets in its header.
+-- The meaning of the bytes of a column, by the offsets in its header.
 use Rattle.std.specs.Prelude.{◌≡◌, ℕ, ◌*◌, ◌<◌, ◌≤◌, ◌==◌, ◌&&◌, Bool, List, [], length, drop, slice_index, slice_range, Option, Some, None, if◌then◌else◌}
 use Rattle.bit_columns.specs.Bits.{IsBits, BitString, PackedCodes}
 use Rattle.leaf_model.specs.declared.rows.Value.{Value}
@@ -9,7 +9,7 @@ use Rattle.column_bytes.specs.declared.form.Form.TheVariants as forms
 use Rattle.dictionaries.specs.Fields.{u32_at, u64_at}
 use Rattle.column_bytes.specs.Cells.{Coded, IsExtra, AreCodes, cells_of, coded_of}
 
--- the form that the bytes of kind and form name: integers by offset or by delta, texts or sets by a dictionary
+-- the form that the bytes of kind and form name: offset or delta for integers, a dictionary for texts or sets
 unfoldable pub form_at : ℕ → ℕ → Option Form
 form_at kind form =
     if (kind == 1) && (form == 1) then Some forms.Offset
@@ -17,7 +17,7 @@ form_at kind form =
     else (if (kind == 2) && (form == 1) then Some forms.Dictionary
     else (if (kind == 3) && (form == 1) then Some forms.Sets else None)))
 
--- the fields of a header of 40 bytes
+-- the fields of the header, which has 40 bytes
 abbrev pub kind_in : List ℕ → Kind
 kind_in bytes = if slice_index bytes 0 == 1 then Ints else (if slice_index bytes 0 == 2 then Texts else Sets)
 
@@ -33,7 +33,7 @@ codes_from bytes = u64_at bytes 16
 abbrev pub extra_from : List ℕ → ℕ
 extra_from bytes = u64_at bytes 24
 
--- the three parts, without a gap between them
+-- the three parts; they leave no gap
 abbrev pub presence_part : List ℕ → List ℕ
 presence_part bytes = slice_range bytes 40 (codes_from bytes)
 
@@ -43,7 +43,7 @@ codes_part bytes = slice_range bytes (codes_from bytes) (extra_from bytes)
 abbrev pub extra_part : List ℕ → List ℕ
 extra_part bytes = drop (extra_from bytes) bytes
 
--- the presence bits, if there are any
+-- the presence bits; None if all cells are there
 abbrev pub presence_bits : Bool → List ℕ → ℕ → Option BitString
 presence_bits all_there part n = if all_there then None else Some (record { bytes = part; count = n })
 
@@ -53,14 +53,14 @@ presence_in bytes = presence_bits (slice_index bytes 3 == 0) (presence_part byte
 abbrev pub packed_in : List ℕ → PackedCodes
 packed_in bytes = record { bytes = codes_part bytes; count = count_in bytes; width = width_in bytes }
 
--- the small fields are in their ranges
+-- each small field is in its range
 pub record AreFields (bytes : List ℕ) : Type 0 where
   pub width : width_in bytes ≤ 64
   pub presence : slice_index bytes 3 ≤ 1
   pub some : 0 < count_in bytes
   pub few : count_in bytes ≤ 65536
 
--- the parts begin behind the header, stand in their order, and end where the bytes end
+-- the parts follow the header, in their order, and end with the bytes
 pub record AreOffsets (bytes : List ℕ) : Type 0 where
   pub presence : u64_at bytes 8 ≡ 40
   pub codes : 40 ≤ codes_from bytes
@@ -68,19 +68,19 @@ pub record AreOffsets (bytes : List ℕ) : Type 0 where
   pub inside : extra_from bytes ≤ length bytes
   pub whole : u64_at bytes 32 ≡ length bytes
 
--- a header that fits the bytes
+-- the bytes begin with a header of this form, which fits their length
 pub record IsHeader (bytes : List ℕ) (form : Form) : Type 0 where
   pub long : 40 ≤ length bytes
   pub form_is : form_at (slice_index bytes 0) (slice_index bytes 1) ≡ Some form
   pub fields : AreFields bytes
   pub offsets : AreOffsets bytes
 
--- no bytes, or a bit for each of n cells
+-- the presence part: empty, or one bit for each of n cells
 abbrev pub IsPresence : Option BitString → List ℕ → ℕ → Type 0
 IsPresence None part n = part ≡ []
 IsPresence (Some bits) part n = IsBits part n
 
--- what a column of this form means
+-- the meaning of a column of this form
 abbrev pub coded_in : Form → List ℕ → Coded
 coded_in form bytes = coded_of form (count_in bytes) (presence_in bytes) (packed_in bytes) (extra_part bytes)
 
@@ -92,7 +92,7 @@ pub record IsColumn (bytes : List ℕ) (form : Form) : Type 0 where
   pub extra : IsExtra form (count_in bytes) (extra_part bytes)
   pub each : AreCodes (coded_in form bytes)
 
--- the bytes mean this list of n cells
+-- the bytes mean these n cells
 pub record HasCells (bytes : List ℕ) (n : ℕ) (cells : List (Option Value)) : Type 0 where
   pub form : Form
   pub is : IsColumn bytes form

@@ -1,4 +1,4 @@
--- What a view of a column keeps true of the parts that it holds.
+-- The invariant of a view of a column.
 use Rattle.std.specs.Prelude.{◌≡◌, ℕ, ◌<◌, ◌≤◌, List, Option, IfSome}
 use Rattle.bit_columns.specs.Bits.{BitString, PackedCodes}
 use Rattle.column_bytes.specs.declared.form.Form.{Form}

@@ -1,24 +1,24 @@
--- The first place from one on that has something.
+-- The first place from a given one on that has a property.
 use Rattle.std.specs.Prelude.{◌≡◌, ℕ, ◌*◌, ◌<◌, ◌≤◌, Bool, true, false, List, length, Option, Some, None}
 use Rattle.bit_columns.specs.Bits.{BitString}
 
--- no place from one on has it, before another
+-- no place in `from..to` has it
 abbrev pub HasNone : (ℕ → Bool) → ℕ → ℕ → Type 0
 HasNone has from to = (i : ℕ) → from ≤ i → i < to → has i ≡ false
 
--- the first place from one on that has it, before another
+-- p is the first place in `from..to` that has it
 pub record IsFirst (has : ℕ → Bool) (from to p : ℕ) : Type 0 where
   pub behind : from ≤ p
   pub inside : p < to
   pub there : has p ≡ true
   pub between : HasNone has from p
 
--- the first such place, or nothing where there is none
+-- the first place in `from..to` that has it; None if none has
 abbrev pub TellsFirst : (ℕ → Bool) → ℕ → ℕ → Option ℕ → Type 0
 TellsFirst has from to None = HasNone has from to
 TellsFirst has from to (Some p) = IsFirst has from to p
 
--- the bytes in which the presence bits of n cells stand
+-- the bytes that hold the presence bits of n cells
 pub record AreBitsOf (n : ℕ) (bytes : List ℕ) (bits : BitString) : Type 0 where
   pub count : bits.count ≡ n
   pub bytes_are : bits.bytes ≡ bytes

@@ -1,4 +1,4 @@
-// A column of cells as bytes.
+// Encodes cells as the bytes of a column.
 ghost use Rattle.std.specs.Prelude.{◌≡◌, ◌<◌, ◌≤◌, ◌↔◌, ℕ, List, Option, length, map, is_some, option_map, IfOk, IfSome, IsTrue};
 ghost use Rattle.leaf_model.specs.declared.rows.Value.{Value};
 ghost use Rattle.leaf_model.specs.Lent.{each_value, lent_value};
@@ -17,7 +17,7 @@ use leaf_model::{LentValue, MAX_TEXT, Value};
 use std::alloc::{AllocError, Global};
 use std::marker::Model;
 
-/// A column as one run of bytes, whose inner places are offsets from its first. Contracts see the bytes.
+/// A column as bytes. The offsets in it count from its first byte, so it may be moved. Contracts see the bytes.
 #[derive(Drop)]
 pub struct Column {
     bytes: Vec<u8>,
@@ -56,7 +56,7 @@ fn is_of_kind(kind: Kind, cell: &Option<Value>) -> bool
     }
 }
 
-/// Whether each cell that is there is of the kind: no text has more than 65,535 bytes, and texts that are called a set are one.
+/// Whether each cell that is there is of the kind: a text has at most 65,535 bytes, and a set's texts are a set.
 pub fn are_of_kind(kind: Kind, cells: &[Option<Value>]) -> bool
     ensures { IsTrue result ↔ AreOfKind kind cells.now }
 {
@@ -90,7 +90,7 @@ fn lend_all(
     Ok(lent)
 }
 
-/// The bytes of a column of cells, as of cells that are lent.
+/// Encodes 1 to 65,536 cells of one kind, as `encode_refs`, from owned values. Err if memory runs out.
 pub fn encode(alloc: Global, kind: Kind, cells: &[Option<Value>]) -> Result<Column, AllocError>
     requires some { 0 < length cells.now }
     requires few { length cells.now ≤ 65536 }
@@ -102,7 +102,8 @@ pub fn encode(alloc: Global, kind: Kind, cells: &[Option<Value>]) -> Result<Colu
     encode_refs(alloc, kind, &lent)
 }
 
-/// The bytes of a column of integers, in the form that takes fewer: one for each of 1 to 65,536 cells, and where none is there any stands.
+/// Encodes 1 to 65,536 integers, in the form that takes fewer bytes: one for each cell, and any for a missing one. Err
+/// if memory runs out.
 pub fn encode_numbers(
     alloc: Global,
     integers: &[i64],
@@ -111,14 +112,15 @@ pub fn encode_numbers(
     requires some { 0 < length integers.now }
     requires few { length integers.now ≤ 65536 }
     requires same { length present.now ≡ length integers.now }
-    ensures cells { (cells : List (Option Value)) → map is_some cells ≡ present.now → AreIntegers cells integers.now → IfOk result (λ column. HasCells column (length present.now) cells) }
+    ensures cells { (cells : List (Option Value)) → map is_some cells ≡ present.now
+        → AreIntegers cells integers.now → IfOk result (λ column. HasCells column (length present.now) cells) }
     ensures kind { IfOk result (λ column. kind_in column ≡ Ints) }
 {
     let bytes = integer_column(alloc, integers, present)?;
     Ok(Column { bytes })
 }
 
-/// The bytes of a column of texts: a code for each of 1 to 65,536 cells, and where none is there any stands.
+/// Encodes 1 to 65,536 texts: a code of `set` for each cell, and any for a missing one. Err if memory runs out.
 pub fn encode_codes(
     alloc: Global,
     set: &TextSet,
@@ -130,15 +132,17 @@ pub fn encode_codes(
     requires same { length present.now ≡ length codes.now }
     requires texts { AreTexts set.now }
     requires each { length set.now ≤ length codes.now }
-    ensures cells { (cells : List (Option Value)) → map is_some cells ≡ present.now → IsCoding cells codes.now (Entries set.now) → IfOk result (λ column. HasCells column (length present.now) cells) }
+    ensures cells { (cells : List (Option Value))
+        → map is_some cells ≡ present.now → IsCoding cells codes.now (Entries set.now)
+        → IfOk result (λ column. HasCells column (length present.now) cells) }
     ensures kind { IfOk result (λ column. kind_in column ≡ Texts) }
 {
     let bytes = text_column(alloc, set, codes, present)?;
     Ok(Column { bytes })
 }
 
-/// The bytes of a column of 1 to 65,536 cells that are lent, each that is there of the kind: integers in the form that takes
-/// fewer bytes, and codes of the least width that holds them.
+/// Encodes 1 to 65,536 borrowed cells of one kind: integers in the form that takes fewer bytes, codes with the least
+/// width that holds them. Err if memory runs out.
 pub fn encode_refs(
     alloc: Global,
     kind: Kind,

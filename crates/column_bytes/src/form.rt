@@ -1,14 +1,14 @@
-// How the cells of a column are coded.
+// The form of a column: how its codes give the cells.
 
 // What the codes of a column stand for.
 #[derive(Clone, Copy, PartialEq, Eq)]
 pub(crate) enum Form {
-    // What is to be added to one base.
+    // Each is an offset from one base.
     Offset,
-    // Differences between neighbours, with an anchor at each 64th place.
+    // Each is a difference from the cell before, with an anchor at each 64th place.
     Delta,
-    // Places of texts in a dictionary.
+    // Each is the index of a text in a dictionary.
     Dictionary,
-    // Places of sets in a dictionary of sets.
+    // Each is the index of a set in a dictionary of sets.
     Sets,
 }

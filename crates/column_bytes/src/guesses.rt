@@ -1,16 +1,16 @@
-// Guesses at the codes of texts: any would do, since a guess is tried before it is used.
+// Guesses at the codes of texts. Each guess is tested before it is used, so a wrong one does no harm.
 use std::alloc::{AllocError, Global};
 
-/// How many guesses are kept.
+/// The number of guesses.
 const KEPT: usize = 1024;
 
-/// The code that a text had last, by a few of its bytes.
+/// The last code of a text, by a hash of a few of its bytes.
 #[derive(Drop)]
 pub(crate) struct Guesses {
     codes: Vec<u32>,
 }
 
-/// The place of a text among the guesses: its length and its last bytes tell most texts of a column apart.
+/// The index of a text's guess. The length and the last bytes tell most texts of a column apart.
 fn place_of(bytes: &[u8]) -> usize {
     let mut mixed = bytes.len();
     for byte in bytes.iter().rev().take(4) {
@@ -26,7 +26,7 @@ impl Guesses {
         }
     }
 
-    /// Where the text may stand.
+    /// The code that the text may have.
     pub(crate) fn guess(&self, bytes: &[u8]) -> usize {
         match self.codes.get(place_of(bytes)) {
             None => 0,
@@ -34,7 +34,7 @@ impl Guesses {
         }
     }
 
-    /// Notes where the text stands.
+    /// Notes the code of the text.
     pub(crate) fn keep(&mut self, bytes: &[u8], code: usize) -> Result<(), AllocError> {
         if self.codes.is_empty() {
             self.codes.resize(KEPT, 0)?;

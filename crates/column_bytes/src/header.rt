@@ -1,4 +1,4 @@
-// The header of a column: kind, form, width, presence, the number of cells, and where the parts stand.
+// The header of a column: kind, form, width, presence, the number of cells, and the offsets of the three parts.
 ghost use Rattle.std.specs.Prelude.{◌≡◌, ◌+◌, ◌<◌, ◌≤◌, ◌==◌, ◌↔◌, IsTrue, IfSome, IfNone, length, slice_index};
 ghost use Rattle.column_bytes.specs.declared.form.Form.{Form};
 ghost use Rattle.column_bytes.specs.Column.{form_at, width_in, count_in, codes_from, extra_from, AreFields, AreOffsets, IsHeader};
@@ -73,7 +73,7 @@ fn fields_of(bytes: &[u8], form: Form) -> Header
     }
 }
 
-/// The header of the bytes. None exactly where it breaks a rule by itself.
+/// Reads the header of the bytes. None exactly if it breaks a rule of headers.
 pub(crate) fn header_of(bytes: &[u8]) -> Option<Header>
     ensures header { IfSome result (λ header. IsHeader bytes.now header.form) }
     ensures only { IfNone result ((form : Form) → IsHeader bytes.now form → ⊥) }

@@ -1,4 +1,4 @@
-// All cells in order: each difference is added once, and no text is looked at.
+// Decodes all cells in order. Each difference is added once, and no text is read.
 ghost use Rattle.std.specs.Prelude.{◌≡◌, ℕ, ◌+◌, ◌-◌, ◌*◌, ◌/◌, ◌%◌, ◌<◌, ◌≤◌, length, pos, ◌+ℤ◌, FitsSigned, slice_index, slice_index_or, IfSome, None};
 ghost use Rattle.std.specs.Int.{w64, div_ceil};
 ghost use Rattle.bit_columns.specs.Bits.{presence};
@@ -42,7 +42,7 @@ pub(crate) fn fill_present(presence: &Option<PresenceBits>, present: &mut [bool]
     }
 }
 
-// The base and what is to be added to it. Where the cell is missing, that may be no i64.
+// The base plus an offset. That of a missing cell may overflow.
 pub(crate) fn offset_sum(base: i64, code: u64) -> i64
     ensures { FitsSigned w64 (base +ℤ pos code) → result ≡ base +ℤ pos code }
 {
@@ -52,14 +52,15 @@ pub(crate) fn offset_sum(base: i64, code: u64) -> i64
 /// Writes the integers of the offset form.
 pub(crate) fn fill_offsets(base: i64, codes: &[u64], values: &mut [i64])
     requires { length values.old ≡ length codes.now }
-    ensures { (i : ℕ) → i < length codes.now → FitsSigned w64 (base +ℤ pos (slice_index codes.now i)) → slice_index_or values.new i (pos 0) ≡ base +ℤ pos (slice_index codes.now i) }
+    ensures { (i : ℕ) → i < length codes.now → FitsSigned w64 (base +ℤ pos (slice_index codes.now i))
+        → slice_index_or values.new i (pos 0) ≡ base +ℤ pos (slice_index codes.now i) }
 {
     for i in 0..codes.len() {
         values[i] = offset_sum(base, codes[i]);
     }
 }
 
-// The slot at a place, given the one before.
+// The integer at place i in the delta form, given the one before.
 fn next_slot(extra: &[u8], codes: &[u64], i: usize, before: i64) -> i64
     requires within { i < length codes.now }
     requires anchored { length extra.now ≡ 8 * div_ceil (length codes.now) 64 }
@@ -77,7 +78,8 @@ fn next_slot(extra: &[u8], codes: &[u64], i: usize, before: i64) -> i64
 pub(crate) fn fill_slots(extra: &[u8], codes: &[u64], values: &mut [i64])
     requires same { length values.old ≡ length codes.now }
     requires anchored { length extra.now ≡ 8 * div_ceil (length codes.now) 64 }
-    ensures { (i : ℕ) → i < length codes.now → slice_index_or values.new i (pos 0) ≡ slot (anchors_at (length codes.now) extra.now) codes.now i }
+    ensures { (i : ℕ) → i < length codes.now
+        → slice_index_or values.new i (pos 0) ≡ slot (anchors_at (length codes.now) extra.now) codes.now i }
 {
     let mut before = 0;
     for i in 0..codes.len() {
@@ -86,12 +88,13 @@ pub(crate) fn fill_slots(extra: &[u8], codes: &[u64], values: &mut [i64])
     }
 }
 
-/// Writes the integers of a column of integers. Where a cell is missing, any integer stands.
+/// Writes the integers of a column of integers, and any integer for a missing cell.
 pub(crate) fn fill_values(form: Form, extra: &[u8], codes: &[u64], values: &mut [i64])
     requires same { length values.old ≡ length codes.now }
     requires extra { IsExtra form (length codes.now) extra.now }
     requires kind { kind_of (book_of form (length codes.now) extra.now) ≡ Ints }
-    ensures { (i : ℕ) → i < length codes.now → IsCode (book_of form (length codes.now) extra.now) (slice_index codes.now i)
+    ensures { (i : ℕ) → i < length codes.now
+        → IsCode (book_of form (length codes.now) extra.now) (slice_index codes.now i)
         → value_at (book_of form (length codes.now) extra.now) codes.now i ≡ Int (slice_index_or values.new i (pos 0)) }
 {
     match form {

@@ -1,4 +1,4 @@
-// Coding integers: by offsets from the least, or by the differences between neighbours.
+// Codes integers as offsets from the least, or as differences from the one before.
 ghost use Rattle.std.specs.Prelude.{◌≡◌, ℕ, ◌+◌, ◌*◌, ◌<◌, ◌≤◌, ◌^◌, length, map, List, is_some, IfOk, IfSome, Some, option_map, pos, ◌+ℤ◌, ◌≤ℤ◌, FitsSigned, slice_index, slice_index_or, Option};
 ghost use Rattle.std.specs.Int.{w64};
 ghost use Rattle.leaf_model.specs.Lent.{each_value, lent_value};
@@ -16,7 +16,7 @@ use delta_codes::{delta, zigzag};
 use leaf_model::LentValue;
 use std::alloc::{AllocError, Global};
 
-// The integer that a value is.
+// The integer of a value.
 fn integer_of(value: &LentValue) -> i64
     requires { IsOfKind Ints (lent_value value.now) }
     ensures { lent_value value.now ≡ Int result }
@@ -27,7 +27,7 @@ fn integer_of(value: &LentValue) -> i64
     }
 }
 
-// The first integer that is there, or 0.
+// The first integer that is there; 0 if there is none.
 fn first_integer(cells: &[Option<LentValue>]) -> i64 {
     for cell in cells {
         if let Some(LentValue::Int(integer)) = cell {
@@ -37,7 +37,7 @@ fn first_integer(cells: &[Option<LentValue>]) -> i64 {
     0
 }
 
-/// The integer of a cell, or the one before where it is missing.
+/// The integer of a cell; `before` if it is missing.
 pub fn integer_or(cell: &Option<LentValue>, before: i64) -> i64
     requires { IfSome (option_map lent_value cell.now) (IsOfKind Ints) }
     ensures { (value : Value) → option_map lent_value cell.now ≡ Some value → value ≡ Int result }
@@ -48,7 +48,7 @@ pub fn integer_or(cell: &Option<LentValue>, before: i64) -> i64
     }
 }
 
-// An integer for each cell. A missing one has that of the cell before, so that it makes no code longer.
+// One integer for each cell. A missing one gets that of the cell before, so that no code becomes wider.
 pub(crate) fn integers_of(
     alloc: Global,
     cells: &[Option<LentValue>],
@@ -79,8 +79,10 @@ fn least_of(integers: &[i64]) -> i64
 fn offset_codes(alloc: Global, integers: &[i64], base: i64) -> Result<Vec<u64>, AllocError>
     requires { (i : ℕ) → i < length integers.now → base ≤ℤ slice_index_or integers.now i (pos 0) }
     ensures same { IfOk result (λ codes. length codes.items ≡ length integers.now) }
-    ensures each { IfOk result (λ codes. (i : ℕ) → i < length integers.now → base +ℤ pos (slice_index codes.items i) ≡ slice_index_or integers.now i (pos 0)) }
-    ensures fit { IfOk result (λ codes. (i : ℕ) → i < length integers.now → FitsSigned w64 (slice_index_or integers.now i (pos 0))) }
+    ensures each { IfOk result (λ codes. (i : ℕ)
+        → i < length integers.now → base +ℤ pos (slice_index codes.items i) ≡ slice_index_or integers.now i (pos 0)) }
+    ensures fit { IfOk result (λ codes.
+        (i : ℕ) → i < length integers.now → FitsSigned w64 (slice_index_or integers.now i (pos 0))) }
 {
     let mut codes = Vec::with_capacity(alloc, integers.len())?;
     for integer in integers {
@@ -92,7 +94,8 @@ fn offset_codes(alloc: Global, integers: &[i64], base: i64) -> Result<Vec<u64>, 
 fn integer_bytes(alloc: Global, integers: &[i64]) -> Result<Vec<u8>, AllocError>
     requires { length integers.now ≤ 65536 }
     ensures len { IfOk result (λ bytes. length bytes.items ≡ 8 * length integers.now) }
-    ensures each { IfOk result (λ bytes. (i : ℕ) → i < length integers.now → i64_at bytes.items (8 * i) ≡ slice_index_or integers.now i (pos 0)) }
+    ensures each { IfOk result (λ bytes.
+        (i : ℕ) → i < length integers.now → i64_at bytes.items (8 * i) ≡ slice_index_or integers.now i (pos 0)) }
 {
     let mut bytes = Vec::with_capacity(alloc, 8 * integers.len())?;
     for integer in integers {
@@ -101,7 +104,7 @@ fn integer_bytes(alloc: Global, integers: &[i64]) -> Result<Vec<u8>, AllocError>
     Ok(bytes)
 }
 
-// The codes of some integers, and what stands behind them.
+// The codes of integers, and the extra part: the base or the anchors.
 #[derive(Drop)]
 pub(crate) struct Coding {
     pub codes: Vec<u64>,
@@ -111,7 +114,8 @@ pub(crate) struct Coding {
 fn offset_coding(alloc: Global, integers: &[i64]) -> Result<Coding, AllocError>
     requires some { 0 < length integers.now }
     ensures extra { IfOk result (λ coding. length coding.extra.items ≡ 8) }
-    ensures codes { IfOk result (λ coding. AreCodesOf integers.now coding.codes.items (book_of Form.Offset (length integers.now) coding.extra.items)) }
+    ensures codes { IfOk result (λ coding.
+        AreCodesOf integers.now coding.codes.items (book_of Form.Offset (length integers.now) coding.extra.items)) }
 {
     let base = least_of(integers);
     let codes = offset_codes(alloc, integers, base)?;
@@ -122,7 +126,8 @@ fn offset_coding(alloc: Global, integers: &[i64]) -> Result<Coding, AllocError>
 pub(crate) fn delta_coding(alloc: Global, integers: &[i64]) -> Result<Coding, AllocError>
     requires few { length integers.now ≤ 65536 }
     ensures extra { IfOk result (λ coding. IsExtra Form.Delta (length integers.now) coding.extra.items) }
-    ensures codes { IfOk result (λ coding. AreCodesOf integers.now coding.codes.items (book_of Form.Delta (length integers.now) coding.extra.items)) }
+    ensures codes { IfOk result (λ coding.
+        AreCodesOf integers.now coding.codes.items (book_of Form.Delta (length integers.now) coding.extra.items)) }
 {
     let deltas = delta(alloc, integers)?;
     let extra = integer_bytes(alloc, deltas.anchors.as_slice())?;
@@ -132,7 +137,7 @@ pub(crate) fn delta_coding(alloc: Global, integers: &[i64]) -> Result<Coding, Al
     })
 }
 
-// The column of the integers in one form.
+// Writes the column of the integers in the given form.
 pub(crate) fn write_integers(
     alloc: Global,
     form: Form,
@@ -145,21 +150,24 @@ pub(crate) fn write_integers(
     requires same { length present.now ≡ length integers.now }
     requires extra { IsExtra form (length integers.now) coding.now.extra.items }
     requires small { length coding.now.extra.items ≤ 2 ^ 40 }
-    requires codes { AreCodesOf integers.now coding.now.codes.items (book_of form (length integers.now) coding.now.extra.items) }
-    ensures cells { (cells : List (Option Value)) → map is_some cells ≡ present.now → AreIntegers cells integers.now → IfOk result (λ bytes. HasCells bytes.items (length present.now) cells) }
-    ensures kind { IfOk result (λ bytes. kind_in bytes.items ≡ kind_of (book_of form (length integers.now) coding.now.extra.items)) }
+    requires codes { AreCodesOf integers.now coding.now.codes.items
+        (book_of form (length integers.now) coding.now.extra.items) }
+    ensures cells { (cells : List (Option Value)) → map is_some cells ≡ present.now
+        → AreIntegers cells integers.now → IfOk result (λ bytes. HasCells bytes.items (length present.now) cells) }
+    ensures kind { IfOk result (λ bytes.
+        kind_in bytes.items ≡ kind_of (book_of form (length integers.now) coding.now.extra.items)) }
 {
     write(alloc, form, present, &coding.codes, &coding.extra)
 }
 
-// How many bits a number takes.
+// The bits that a number takes.
 fn bits_of(number: u64) -> usize
     ensures { result ≤ 64 }
 {
     (64 - number.leading_zeros()) as usize
 }
 
-// How many bytes codes of a width take.
+// The bytes that `count` codes of `width` bits take.
 fn packed_len(count: usize, width: usize) -> usize
     requires count { count ≤ 65536 }
     requires width { width ≤ 64 }
@@ -168,7 +176,7 @@ fn packed_len(count: usize, width: usize) -> usize
     (count * width).div_ceil(8)
 }
 
-// Whether the differences between neighbours take fewer bytes than the offsets from the least: both are measured in one walk.
+// Whether the delta form takes fewer bytes than the offset form. One walk measures both.
 fn is_delta_shorter(integers: &[i64]) -> bool
     requires some { 0 < length integers.now }
     requires few { length integers.now ≤ 65536 }
@@ -192,7 +200,7 @@ fn is_delta_shorter(integers: &[i64]) -> bool
     delta < offset
 }
 
-/// The bytes of a column of integers, in the form that takes fewer: one for each cell, and where none is there any stands.
+/// The bytes of a column of integers, in the form that takes fewer: one for each cell, and any for a missing one.
 pub(crate) fn integer_column(
     alloc: Global,
     integers: &[i64],
@@ -201,7 +209,8 @@ pub(crate) fn integer_column(
     requires some { 0 < length integers.now }
     requires few { length integers.now ≤ 65536 }
     requires same { length present.now ≡ length integers.now }
-    ensures cells { (cells : List (Option Value)) → map is_some cells ≡ present.now → AreIntegers cells integers.now → IfOk result (λ bytes. HasCells bytes.items (length present.now) cells) }
+    ensures cells { (cells : List (Option Value)) → map is_some cells ≡ present.now
+        → AreIntegers cells integers.now → IfOk result (λ bytes. HasCells bytes.items (length present.now) cells) }
     ensures kind { IfOk result (λ bytes. kind_in bytes.items ≡ Ints) }
 {
     if is_delta_shorter(integers) {
@@ -213,7 +222,7 @@ pub(crate) fn integer_column(
     }
 }
 
-/// The bytes of a column of integers.
+/// The bytes of a column of integers, of borrowed cells.
 pub(crate) fn encode_integers(
     alloc: Global,
     cells: &[Option<LentValue>],

@@ -1,6 +1,6 @@
-// What a column holds.
+// The kind of a column.
 
-/// What the cells of a column that are there hold.
+/// The kind of value that the cells of a column hold. A cell may also be missing.
 #[derive(Clone, Copy, PartialEq, Eq)]
 pub enum Kind {
     /// Integers of 64 bits.

@@ -1,4 +1,4 @@
-//! One column of a block as bytes: packed codes, presence, and what the codes stand for, behind a header of offsets.
+//! One column of a block as bytes: a header of offsets, presence bits, packed codes, and what the codes stand for.
 #![tactic(auto)]
 
 mod column;

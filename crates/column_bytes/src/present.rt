@@ -1,4 +1,4 @@
-// The next cell that is there, by the presence bits. A byte of zeros is passed over whole.
+// Finds the next cell that is there, by the presence bits. A byte of zeros is skipped at once.
 ghost use Rattle.std.specs.Prelude.{◌≡◌, ℕ, ◌/◌, ◌<◌, ◌≤◌, slice_index, IfSome};
 ghost use Rattle.bit_columns.specs.Bits.{is_present};
 ghost use Rattle.column_bytes.specs.Cells.{is_there};
@@ -6,7 +6,7 @@ ghost use Rattle.column_bytes.specs.Next.{AreBitsOf, TellsFirst};
 
 use bit_columns::PresenceBits;
 
-// The first place from one on whose bit is 1, before another.
+// The first place in `from..to` whose bit is 1.
 fn next_between(bits: &PresenceBits, from: u32, to: u32) -> Option<u32>
     requires { to ≤ bits.now.count }
     ensures { TellsFirst (is_present bits.now.bytes) from to result }
@@ -19,7 +19,7 @@ fn next_between(bits: &PresenceBits, from: u32, to: u32) -> Option<u32>
     None
 }
 
-// The first place from one on whose bit is 1, before another, in one byte: a byte of zeros has none.
+// The first place in `from..to` whose bit is 1, if all of them stand in this byte. A zero byte has none.
 fn next_in_byte(byte: u8, bits: &PresenceBits, from: u32, to: u32) -> Option<u32>
     requires inside { to ≤ bits.now.count }
     requires at { (i : ℕ) → from ≤ i → i < to → slice_index bits.now.bytes (i / 8) ≡ byte }
@@ -32,7 +32,7 @@ fn next_in_byte(byte: u8, bits: &PresenceBits, from: u32, to: u32) -> Option<u32
     }
 }
 
-// The first place from one on whose bit is 1, byte by byte.
+// The first place from `from` on whose bit is 1, byte by byte.
 fn next_bit(bits: &PresenceBits, bytes: &[u8], from: u32, count: u32) -> Option<u32>
     requires few { count ≤ 65536 }
     requires bits { AreBitsOf count bytes.now bits.now }
@@ -48,7 +48,7 @@ fn next_bit(bits: &PresenceBits, bytes: &[u8], from: u32, count: u32) -> Option<
     None
 }
 
-/// The first place from one on that has a cell, of so many places.
+/// The first of the `count` places, from `from` on, that has a cell.
 pub(crate) fn next_present(
     presence: &Option<PresenceBits>,
     bytes: &[u8],

@@ -1,4 +1,4 @@
-// Coding sets: each text once, each set once as the numbers of its texts, and a code for each cell.
+// Codes sets: each distinct text once, each distinct set once as indices of its texts, and a code for each cell.
 ghost use Rattle.std.specs.Prelude.{◌≡◌, ℕ, ◌+◌, ◌*◌, ◌<◌, ◌≤◌, ◌^◌, ◌++◌, List, [], length, map, slice_index_or, IfOk, IfSome, OnOk, Some, option_map};
 ghost use Rattle.std.specs.List.{All};
 ghost use Rattle.leaf_model.specs.Lent.{each_value, lent_texts, lent_value};
@@ -21,7 +21,7 @@ use crate::writer::{present_in, put_u32, write};
 use leaf_model::{LentTexts, LentValue};
 use std::alloc::{AllocError, Global};
 
-// The numbers of the texts of a set, in the set's order.
+// The indices of the texts of a set, in the order of the set. New texts are appended to `texts`.
 fn numbers_of<'a>(
     alloc: Global,
     members: &LentTexts<'a>,
@@ -29,7 +29,8 @@ fn numbers_of<'a>(
 ) -> Result<Vec<u32>, AllocError>
     requires members { IsSet (lent_texts members.now) }
     requires few { length texts.old + length (lent_texts members.now) ≤ 67108864 }
-    ensures numbers { IfOk result (λ numbers. AreNumbers (length texts.new) numbers.items × (texts_by texts.new numbers.items ≡ lent_texts members.now)) }
+    ensures numbers { IfOk result (λ numbers.
+        AreNumbers (length texts.new) numbers.items × (texts_by texts.new numbers.items ≡ lent_texts members.now)) }
     ensures kept { OnOk result (AreKept texts.old texts.new) }
     ensures texts { OnOk result (AreTexts texts.old → AreTexts texts.new) }
     ensures grows { OnOk result (length texts.new ≤ length texts.old + length (lent_texts members.now)) }
@@ -52,7 +53,8 @@ fn set_code<'a>(
 ) -> Result<u64, AllocError>
     requires kind { IsOfKind kinds.Sets (lent_value value.now) }
     requires few { length texts.old ≤ 67107840 }
-    ensures code { IfOk result (λ code. (code < length sets.new) × (lent_value value.now ≡ values.Set (texts_by texts.new (slice_index_or sets.new code [])))) }
+    ensures code { IfOk result (λ code. (code < length sets.new)
+        × (lent_value value.now ≡ values.Set (texts_by texts.new (slice_index_or sets.new code [])))) }
     ensures kept { OnOk result (AreKept texts.old texts.new) }
     ensures sets { OnOk result (AreKept sets.old sets.new) }
     ensures held { OnOk result (AreSetCodes texts.old sets.old → AreSetCodes texts.new sets.new) }
@@ -70,7 +72,7 @@ fn set_code<'a>(
     }
 }
 
-// The code of a cell's set, or the one before where the cell is missing.
+// The code of a cell's set; the one before if the cell is missing.
 fn code_or<'a>(
     alloc: Global,
     cell: &Option<LentValue<'a>>,
@@ -80,7 +82,8 @@ fn code_or<'a>(
 ) -> Result<u64, AllocError>
     requires kind { IfSome (option_map lent_value cell.now) (IsOfKind kinds.Sets) }
     requires few { length texts.old ≤ 67107840 }
-    ensures code { IfOk result (λ code. (value : Value) → option_map lent_value cell.now ≡ Some value → (code < length sets.new) × (value ≡ values.Set (texts_by texts.new (slice_index_or sets.new code [])))) }
+    ensures code { IfOk result (λ code. (value : Value) → option_map lent_value cell.now ≡ Some value
+        → (code < length sets.new) × (value ≡ values.Set (texts_by texts.new (slice_index_or sets.new code [])))) }
     ensures kept { OnOk result (AreKept texts.old texts.new) }
     ensures sets { OnOk result (AreKept sets.old sets.new) }
     ensures held { OnOk result (AreSetCodes texts.old sets.old → AreSetCodes texts.new sets.new) }
@@ -97,7 +100,7 @@ fn code_or<'a>(
     }
 }
 
-// A code for each cell. A missing one has that of the cell before, so that it makes no code longer.
+// A code for each cell. A missing one gets that of the cell before, so that no code becomes wider.
 fn cell_codes<'a>(
     alloc: Global,
     cells: &[Option<LentValue<'a>>],
@@ -108,7 +111,8 @@ fn cell_codes<'a>(
     requires no_sets { sets.old ≡ [] }
     requires small { length cells.now ≤ 65536 }
     requires kind { AreOfKind kinds.Sets (each_value cells.now) }
-    ensures coding { IfOk result (λ codes. IsCoding (each_value cells.now) codes.items (Sets (sets_by texts.new sets.new))) }
+    ensures coding { IfOk result (λ codes.
+        IsCoding (each_value cells.now) codes.items (Sets (sets_by texts.new sets.new))) }
     ensures held { OnOk result (AreSetCodes texts.new sets.new) }
     ensures few { OnOk result (length sets.new ≤ length cells.now) }
     ensures texts { OnOk result (length texts.new ≤ 67108864) }
@@ -123,13 +127,14 @@ fn cell_codes<'a>(
     Ok(codes)
 }
 
-// The number of sets, and where each ends among all members.
+// The number of sets, and for each set the number of members up to its end.
 fn set_ends(alloc: Global, sets: &[Vec<u32>]) -> Result<Vec<u8>, AllocError>
     requires few { length sets.now ≤ 65536 }
     requires small { length (joined (numbers_in sets.now)) < 4294967296 }
     ensures len { IfOk result (λ bytes. length bytes.items ≡ 4 + 4 * length sets.now) }
     ensures count { IfOk result (λ bytes. u32_at bytes.items 0 ≡ length sets.now) }
-    ensures ends { IfOk result (λ bytes. (k : ℕ) → k < length sets.now → u32_at bytes.items (4 + 4 * k) ≡ end_at (numbers_in sets.now) (k + 1)) }
+    ensures ends { IfOk result (λ bytes.
+        (k : ℕ) → k < length sets.now → u32_at bytes.items (4 + 4 * k) ≡ end_at (numbers_in sets.now) (k + 1)) }
 {
     let mut bytes = Vec::with_capacity(alloc, 4 + 4 * sets.len())?;
     put_u32(&mut bytes, sets.len() as u32)?;
@@ -141,7 +146,7 @@ fn set_ends(alloc: Global, sets: &[Vec<u32>]) -> Result<Vec<u8>, AllocError>
     Ok(bytes)
 }
 
-// The numbers of a set, four bytes each.
+// Appends the members of a set, four bytes each.
 #[tactic(auto, using(crate::proofs::SetBytes::numbers_more))]
 fn put_numbers(out: &mut Vec<u8>, numbers: &[u32]) -> Result<(), AllocError>
     ensures { OnOk result (out.new.items ≡ out.old.items ++ number_bytes numbers.now) }
@@ -161,7 +166,7 @@ fn put_sets(out: &mut Vec<u8>, sets: &[Vec<u32>]) -> Result<(), AllocError>
     Ok(())
 }
 
-// A dictionary of the sets as bytes.
+// The bytes of a dictionary of sets.
 fn set_dictionary_bytes(
     alloc: Global,
     texts: &[&str],
@@ -182,7 +187,7 @@ fn set_dictionary_bytes(
     Ok(bytes)
 }
 
-/// The bytes of a column of sets.
+/// The bytes of a column of sets, of borrowed cells.
 pub(crate) fn encode_sets(alloc: Global, cells: &[Option<LentValue>]) -> Result<Vec<u8>, AllocError>
     requires some { 0 < length cells.now }
     requires few { length cells.now ≤ 65536 }

@@ -1,4 +1,4 @@
-// Sets as the numbers of their texts, each once, in the order in which they were first met.
+// Distinct sets as indices of their texts, in the order of their first occurrence.
 ghost use Rattle.std.specs.Prelude.{◌≡◌, ◌<◌, ℕ, List, [], length, slice_index_or, IfOk, OnOk};
 ghost use Rattle.dictionaries.specs.Dictionary.{with_text};
 ghost use Rattle.dictionaries.specs.Sets.{numbers_in};
@@ -7,7 +7,7 @@ use indexmap::IndexSet;
 use std::alloc::{AllocError, Global};
 use std::marker::Model;
 
-/// Contracts see the numbers in the order of their codes.
+/// Distinct sets as lists of indices. Contracts see them in the order of their codes.
 #[derive(Drop)]
 pub(crate) struct SetNumbers {
     sets: IndexSet<Vec<u32>>,
@@ -31,7 +31,7 @@ impl SetNumbers {
         }
     }
 
-    /// The code of a set, which is put behind the others where it was not met before.
+    /// The code of a set. A new set is appended, and its code is its index.
     pub(crate) fn code_of(&mut self, numbers: Vec<u32>) -> Result<u64, AllocError>
         ensures sets { OnOk result (self.new ≡ with_text self.old numbers.items) }
         ensures below { IfOk result (λ code. code < length self.new) }

@@ -1,4 +1,4 @@
-// A set in the extra part of a column.
+// A set in the bytes of a column.
 ghost use Rattle.std.specs.Prelude.{◌≡◌, ◌<◌, [], length, slice_index_or};
 ghost use Rattle.dictionaries.specs.Dictionary.{text_count};
 ghost use Rattle.dictionaries.specs.Sets.{IsSetDictionary, set_in, sets_part};
@@ -6,7 +6,7 @@ ghost use Rattle.dictionaries.specs.Sets.{IsSetDictionary, set_in, sets_part};
 use dictionaries::{text_of_set, texts_in_set};
 use std::marker::Model;
 
-/// The texts of a set, lent by the column: ascending, each once. Contracts see them as the list.
+/// The texts of a set, strictly ascending, borrowed from the column. Contracts see them as the list.
 #[derive(Drop)]
 pub struct SetRef<'a> {
     extra: &'a [u8],
@@ -34,14 +34,14 @@ impl<'a> SetRef<'a> {
         SetRef { extra, set }
     }
 
-    /// How many texts it has, at most 1,024.
+    /// The number of texts, at most 1,024.
     pub fn len(&self) -> u32
         ensures { result ≡ length self.now }
     {
         texts_in_set(self.extra, self.set)
     }
 
-    /// A text by its place.
+    /// Text i of the set.
     pub fn text(&self, i: u32) -> &'a str
         requires { i < length self.now }
         ensures { result.now ≡ slice_index_or self.now i [] }

@@ -1,4 +1,4 @@
-// Coding texts: each text once, in the order of their first place, and a code for each place.
+// Codes texts: each distinct text once, in the order of its first occurrence, and a code for each cell.
 ghost use Rattle.std.specs.Prelude.{◌≡◌, ℕ, ◌+◌, ◌*◌, ◌<◌, ◌≤◌, ◌^◌, ◌++◌, [], length, take, slice_index_or, IfOk, IfSome, OnOk, Some, option_map, List, Option, map, is_some};
 ghost use Rattle.std.specs.List.{All};
 ghost use Rattle.leaf_model.specs.Lent.{each_value, lent_value};
@@ -18,7 +18,7 @@ use delta_codes::Codes;
 use leaf_model::{LentValue, Text, Texts};
 use std::alloc::{AllocError, Global};
 
-/// The texts of a list, each once, and a code for each of the list's places.
+/// The distinct texts of a list, and a code for each of its elements.
 #[derive(Drop)]
 pub struct Dict {
     pub texts: Texts,
@@ -52,7 +52,7 @@ fn codes_of<'a>(
     Ok(codes)
 }
 
-/// The texts in the order of their first place, and the codes that stand for them.
+/// The distinct texts in the order of their first occurrence, and a code for each element. Err if memory runs out.
 pub fn dictionary(alloc: Global, values: &[Text]) -> Result<Dict, AllocError>
     ensures texts { IfOk result (λ dict. dict.texts ≡ distinct values.now) }
     ensures codes { IfOk result (λ dict. texts_by dict.texts dict.codes ≡ values.now) }
@@ -84,14 +84,15 @@ fn value_code<'a>(set: &mut TextSet<'a>, value: &LentValue<'a>) -> Result<u64, A
     }
 }
 
-/// The code of a cell's text, or the one before where the cell is missing.
+/// The code of a cell's text; `before` if the cell is missing. A new text is appended to `set`.
 pub fn code_or<'a>(
     set: &mut TextSet<'a>,
     cell: &Option<LentValue<'a>>,
     before: u64,
 ) -> Result<u64, AllocError>
     requires { IfSome (option_map lent_value cell.now) (IsOfKind kinds.Texts) }
-    ensures code { IfOk result (λ code. (value : Value) → option_map lent_value cell.now ≡ Some value → (code < length set.new) × (value ≡ values.Text (slice_index_or set.new code []))) }
+    ensures code { IfOk result (λ code. (value : Value) → option_map lent_value cell.now ≡ Some value
+        → (code < length set.new) × (value ≡ values.Text (slice_index_or set.new code []))) }
     ensures kept { OnOk result (AreKept set.old set.new) }
     ensures texts { OnOk result (AreTexts set.old → AreTexts set.new) }
     ensures grows { OnOk result (length set.new ≤ length set.old + 1) }
@@ -105,7 +106,7 @@ pub fn code_or<'a>(
     }
 }
 
-// A code for each cell. A missing one has that of the cell before, so that it makes no code longer.
+// A code for each cell. A missing one gets that of the cell before, so that no code becomes wider.
 fn cell_codes<'a>(
     alloc: Global,
     cells: &[Option<LentValue<'a>>],
@@ -126,13 +127,14 @@ fn cell_codes<'a>(
     Ok(codes)
 }
 
-// The number of texts, and where each ends among their bytes.
+// The number of texts, and for each text the number of bytes up to its end.
 fn ends_of(alloc: Global, texts: &[&str]) -> Result<Vec<u8>, AllocError>
     requires few { length texts.now ≤ 67108864 }
     requires small { length (joined (lent texts.now)) < 4294967296 }
     ensures len { IfOk result (λ bytes. length bytes.items ≡ 4 + 4 * length texts.now) }
     ensures count { IfOk result (λ bytes. u32_at bytes.items 0 ≡ length texts.now) }
-    ensures ends { IfOk result (λ bytes. (k : ℕ) → k < length texts.now → u32_at bytes.items (4 + 4 * k) ≡ end_at (lent texts.now) (k + 1)) }
+    ensures ends { IfOk result (λ bytes.
+        (k : ℕ) → k < length texts.now → u32_at bytes.items (4 + 4 * k) ≡ end_at (lent texts.now) (k + 1)) }
 {
     let mut bytes = Vec::with_capacity(alloc, 4 + 4 * texts.len())?;
     put_u32(&mut bytes, texts.len() as u32)?;
@@ -153,7 +155,7 @@ fn put_texts(out: &mut Vec<u8>, texts: &[&str]) -> Result<(), AllocError>
     Ok(())
 }
 
-// A dictionary of the texts as bytes.
+// The bytes of a dictionary of texts.
 pub(crate) fn dictionary_bytes(alloc: Global, texts: &[&str]) -> Result<Vec<u8>, AllocError>
     requires few { length texts.now ≤ 67108864 }
     requires small { length (joined (lent texts.now)) < 4294967296 }
@@ -167,7 +169,7 @@ pub(crate) fn dictionary_bytes(alloc: Global, texts: &[&str]) -> Result<Vec<u8>,
     Ok(bytes)
 }
 
-/// The bytes of a column of texts: a code for each cell, and where none is there any stands.
+/// The bytes of a column of texts: a code for each cell, and any for a missing one.
 pub(crate) fn text_column(
     alloc: Global,
     set: &TextSet,
@@ -179,14 +181,16 @@ pub(crate) fn text_column(
     requires same { length present.now ≡ length codes.now }
     requires texts { AreTexts set.now }
     requires each { length set.now ≤ length codes.now }
-    ensures cells { (cells : List (Option Value)) → map is_some cells ≡ present.now → IsCoding cells codes.now (Entries set.now) → IfOk result (λ bytes. HasCells bytes.items (length present.now) cells) }
+    ensures cells { (cells : List (Option Value))
+        → map is_some cells ≡ present.now → IsCoding cells codes.now (Entries set.now)
+        → IfOk result (λ bytes. HasCells bytes.items (length present.now) cells) }
     ensures kind { IfOk result (λ bytes. kind_in bytes.items ≡ kinds.Texts) }
 {
     let extra = dictionary_bytes(alloc, set.as_slice())?;
     write(alloc, Form::Dictionary, present, codes, &extra)
 }
 
-/// The bytes of a column of texts.
+/// The bytes of a column of texts, of borrowed cells.
 pub(crate) fn encode_texts(
     alloc: Global,
     cells: &[Option<LentValue>],

@@ -1,4 +1,4 @@
-// Texts, each once, in the order in which they were first met.
+// Distinct texts, in the order of their first occurrence.
 ghost use Rattle.std.specs.Prelude.{◌≡◌, ◌<◌, [], length, slice_index_or, IfOk, IfSome, IsTrue, IsUtf8, OnOk};
 ghost use Rattle.dictionaries.specs.Dictionary.{lent, with_text};
 
@@ -7,7 +7,7 @@ use indexmap::IndexSet;
 use std::alloc::{AllocError, Global};
 use std::marker::Model;
 
-/// Whether the text stands at a place.
+/// Whether the text at `place` is this one.
 fn stands_at(texts: &[&str], place: usize, text: &str) -> bool
     ensures below { IsTrue result → place < length texts.now }
     ensures same { IsTrue result → slice_index_or (lent texts.now) place [] ≡ text.now }
@@ -18,7 +18,8 @@ fn stands_at(texts: &[&str], place: usize, text: &str) -> bool
     }
 }
 
-/// Contracts see the texts in the order of their codes. Where a text was met last is tried before it is looked up.
+/// Distinct texts. Contracts see them in the order of their codes. A text is tried at the code that it had last, before
+/// it is looked up.
 #[derive(Drop)]
 pub struct TextSet<'a> {
     texts: IndexSet<&'a str>,
@@ -44,7 +45,7 @@ impl<'a> TextSet<'a> {
         }
     }
 
-    /// The code that was guessed, where the text has it.
+    /// The guessed code of a text. None if another text has that code.
     fn guessed(&self, text: &str) -> Option<usize>
         ensures below { IfSome result (λ code. code < length self.now) }
         ensures code { IfSome result (λ code. slice_index_or self.now code [] ≡ text.now) }
@@ -57,7 +58,7 @@ impl<'a> TextSet<'a> {
         }
     }
 
-    /// The code of a text that is looked up, and is noted for the next guess.
+    /// Looks the code of a text up, and notes it for the next guess. A new text is appended.
     fn looked_up(&mut self, text: &'a str) -> Result<u64, AllocError>
         ensures texts { OnOk result (self.new ≡ with_text self.old text.now) }
         ensures below { IfOk result (λ code. code < length self.new) }
@@ -69,7 +70,7 @@ impl<'a> TextSet<'a> {
         Ok(code as u64)
     }
 
-    /// The code of a text, which is put behind the others where it was not met before.
+    /// The code of a text. A new text is appended, and its code is its index.
     pub(crate) fn code_of(&mut self, text: &'a str) -> Result<u64, AllocError>
         ensures texts { OnOk result (self.new ≡ with_text self.old text.now) }
         ensures below { IfOk result (λ code. code < length self.new) }

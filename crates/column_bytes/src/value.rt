@@ -1,8 +1,8 @@
-// The value of a cell.
+// The value of a cell that a column lends.
 
 use crate::set_ref::SetRef;
 
-/// The value of a cell that is there, its texts lent by the column.
+/// The value of a cell that is there; its texts are borrowed from the column.
 #[derive(Drop)]
 pub enum ValueRef<'a> {
     Int(i64),

@@ -1,4 +1,4 @@
-// A column in bytes that are lent.
+// Reads a column from borrowed bytes.
 ghost use Rattle.std.specs.Prelude.{◌≡◌, ℕ, ◌+◌, ◌-◌, ◌*◌, ◌^◌, ◌<◌, ◌≤◌, ◌==◌, ◌↔◌, Bool, true, List, length, pos, ◌+ℤ◌, FitsSigned, ℤ, [], false, slice_index, slice_index_or, Option, IfOk, IsOk, IsTrue, IsSome, IfSome, Some, None, is_some, option_map, if◌then◌else◌, MatchOption, slice_range};
 ghost use Rattle.std.specs.Int.{w64, div_ceil};
 ghost use Rattle.bit_columns.specs.Bits.{code, codes};
@@ -28,7 +28,7 @@ use std::sync::ledger::Ledger;
 #[derive(Debug, Clone, Copy, PartialEq, Eq)]
 pub struct NoColumn;
 
-/// A column in bytes that are lent. Contracts see which cells are there, their codes, and what codes stand for.
+/// A column over borrowed bytes. Contracts see which cells are there, their codes, and what the codes stand for.
 #[derive(Drop)]
 pub struct ColumnView<'a> {
     form: Form,
@@ -50,7 +50,7 @@ impl<'a> Model for ColumnView<'a> {
     ghost invariant = { λ column. IsHeldColumn column.form column.count column.presence column.presence_bytes.now column.packed column.extra.now };
 }
 
-// The base and what is to be added to it, which the column's reading found to be an i64.
+// The base plus an offset. The reading of the column tested that this is an i64.
 fn offset_value(base: i64, code: u64) -> i64
     requires { FitsSigned w64 (base +ℤ pos code) }
     ensures { result ≡ base +ℤ pos code }
@@ -103,7 +103,7 @@ fn is_code(form: Form, extra: &[u8], count: u32, code: u64) -> bool
     }
 }
 
-// Whether each cell that is there has a code that stands for a value, one by one.
+// Whether the code of each cell that is there stands for a value, tested one by one.
 fn is_each_code(
     form: Form,
     count: u32,
@@ -125,7 +125,7 @@ fn is_each_code(
     true
 }
 
-// The greatest code of a width.
+// The greatest code of `width` bits.
 fn greatest_code(width: u8) -> u64
     requires { width ≤ 64 }
     ensures { result + 1 ≡ 2 ^ width }
@@ -137,7 +137,7 @@ fn greatest_code(width: u8) -> u64
     }
 }
 
-// A code that stands for a value, and above which none does, where 0 does.
+// The greatest code that stands for a value, if 0 does.
 fn last_code(form: Form, extra: &[u8], count: u32) -> u64
     requires extra { IsExtra form count extra.now }
     requires some { IsCode (book_of form count extra.now) 0 }
@@ -151,12 +151,13 @@ fn last_code(form: Form, extra: &[u8], count: u32) -> u64
     }
 }
 
-// Whether the code of each cell stands for a value, that of a missing one too.
+// Whether each code stands for a value, also those of missing cells.
 fn is_every_code(header: &Header, packed: &Packed, extra: &[u8]) -> bool
     requires width { header.now.width ≤ 64 }
     requires same { packed.now.width ≡ header.now.width }
     requires extra { IsExtra header.now.form header.now.count extra.now }
-    ensures { IsTrue result → (i : ℕ) → i < packed.now.count → IsCode (book_of header.now.form header.now.count extra.now) (code packed.now.bytes packed.now.width i) }
+    ensures { IsTrue result → (i : ℕ) → i < packed.now.count
+        → IsCode (book_of header.now.form header.now.count extra.now) (code packed.now.bytes packed.now.width i) }
 {
     if !is_code(header.form, extra, header.count, 0) {
         return false;
@@ -165,7 +166,8 @@ fn is_every_code(header: &Header, packed: &Packed, extra: &[u8]) -> bool
     greatest_code(header.width) <= last || packed.are_at_most(last)
 }
 
-// Whether each cell that is there has a code that stands for a value. Missing ones are looked at only where some code is none.
+// Whether the code of each cell that is there stands for a value. Cells are tested one by one only if some code stands
+// for none.
 fn are_codes(
     header: &Header,
     presence: &Option<PresenceBits>,
@@ -189,7 +191,8 @@ fn value_in<'a>(form: Form, packed: &Packed, extra: &'a [u8], i: u32) -> ValueRe
     requires inside { i < packed.now.count }
     requires extra { IsExtra form packed.now.count extra.now }
     requires code { IsCode (book_of form packed.now.count extra.now) (code packed.now.bytes packed.now.width i) }
-    ensures { value_of result ≡ value_at (book_of form packed.now.count extra.now) (codes packed.now.bytes packed.now.width packed.now.count) i }
+    ensures { value_of result ≡ value_at (book_of form packed.now.count extra.now)
+        (codes packed.now.bytes packed.now.width packed.now.count) i }
 {
     match form {
         Form::Offset => ValueRef::Int(offset_value(i64_at(extra, 0), packed.get(i))),
@@ -199,7 +202,7 @@ fn value_in<'a>(form: Form, packed: &Packed, extra: &'a [u8], i: u32) -> ValueRe
     }
 }
 
-// The integer at a place of a column of integers, given the one before it, if there is one.
+// The integer at place i of a column of integers, given the one before it, if there is one.
 #[inline(always)]
 fn integer_in(form: Form, packed: &Packed, extra: &[u8], i: u32, before: i64) -> i64
     requires few { packed.now.count ≤ 65536 }
@@ -207,8 +210,10 @@ fn integer_in(form: Form, packed: &Packed, extra: &[u8], i: u32, before: i64) ->
     requires extra { IsExtra form packed.now.count extra.now }
     requires kind { kind_of (book_of form packed.now.count extra.now) ≡ Ints }
     requires code { IsCode (book_of form packed.now.count extra.now) (code packed.now.bytes packed.now.width i) }
-    requires before { 0 < i → value_at (book_of form packed.now.count extra.now) (codes packed.now.bytes packed.now.width packed.now.count) (i - 1) ≡ Int before }
-    ensures { value_at (book_of form packed.now.count extra.now) (codes packed.now.bytes packed.now.width packed.now.count) i ≡ Int result }
+    requires before { 0 < i → value_at (book_of form packed.now.count extra.now)
+        (codes packed.now.bytes packed.now.width packed.now.count) (i - 1) ≡ Int before }
+    ensures { value_at (book_of form packed.now.count extra.now)
+        (codes packed.now.bytes packed.now.width packed.now.count) i ≡ Int result }
 {
     let code = packed.get(i);
     match form {
@@ -218,9 +223,10 @@ fn integer_in(form: Form, packed: &Packed, extra: &[u8], i: u32, before: i64) ->
     }
 }
 
-// The column that the bytes are. None exactly where they are none.
+// Reads the bytes as a column. None exactly if they are none.
 pub(crate) fn view_of(bytes: &[u8]) -> Option<ColumnView<'_>>
-    ensures column { IfSome result (λ view. (form : Form) × IsColumn bytes.now form × (view ≡ coded_in form bytes.now)) }
+    ensures column { IfSome result (λ view.
+        (form : Form) × IsColumn bytes.now form × (view ≡ coded_in form bytes.now)) }
     ensures only { (form : Form) → IsColumn bytes.now form → IsSome result }
 {
     let Some(header) = header_of(bytes) else {
@@ -251,7 +257,7 @@ pub(crate) fn view_of(bytes: &[u8]) -> Option<ColumnView<'_>>
 }
 
 impl<'a> ColumnView<'a> {
-    /// The column that the bytes are. NoColumn exactly where they mean no list of cells. It takes one step.
+    /// Reads the bytes as a column, in one step. NoColumn exactly if they mean no list of cells.
     pub fn read<L: Ledger>(
         bytes: &'a [u8],
         steps: &mut Steps<L>,
@@ -268,7 +274,7 @@ impl<'a> ColumnView<'a> {
         }
     }
 
-    /// What the cells that are there hold.
+    /// The kind of the values.
     pub fn kind(&self) -> Kind
         ensures { result ≡ kind_of self.now.book }
     {
@@ -279,7 +285,7 @@ impl<'a> ColumnView<'a> {
         }
     }
 
-    /// How many cells there are, missing ones among them: 1 to 65,536.
+    /// The number of cells, missing ones included: 1 to 65,536.
     pub fn len(&self) -> u32
         ensures len { result ≡ length self.now.codes }
         ensures some { 0 < result }
@@ -288,7 +294,7 @@ impl<'a> ColumnView<'a> {
         self.count
     }
 
-    /// The cell at a place, or None where it is missing. In the delta form up to 63 differences are added.
+    /// The cell at place i. None if it is missing. The delta form adds up to 63 differences.
     pub fn cell(&self, i: u32) -> Option<ValueRef<'a>>
         requires { i < length self.now.codes }
         ensures { option_map value_of result ≡ cell_at self.now i }
@@ -300,7 +306,7 @@ impl<'a> ColumnView<'a> {
         }
     }
 
-    /// Whether there is a cell at a place. Its value is not looked at.
+    /// Whether the cell at place i is there. Its value is not read.
     pub fn has_cell(&self, i: u32) -> bool
         requires { i < length self.now.codes }
         ensures { result ≡ is_some (cell_at self.now i) }
@@ -308,15 +314,16 @@ impl<'a> ColumnView<'a> {
         is_there(&self.presence, i)
     }
 
-    /// The first place from `from` on that has a cell, or None where none has. Presence bits are read a byte at a time.
+    /// The first place from `from` on that has a cell. None if there is none. A zero byte of presence bits is skipped
+    /// at once.
     pub fn next_cell(&self, from: u32) -> Option<u32>
         ensures { TellsFirst (λ i. is_some (cell_at self.now i)) from (length self.now.codes) result }
     {
         next_present(&self.presence, self.presence_bytes, from, self.count)
     }
 
-    /// The integer that the cell at a place holds, given the integer that the cell before it holds, if there is one.
-    /// In the delta form one difference is added to it at most, so that a walk over all places takes a step for each.
+    /// The integer at place i, given the one before it, if there is one. The delta form adds at most one difference, so
+    /// a walk over all places takes one step for each.
     #[inline(always)]
     pub fn next_integer(&self, i: u32, before: i64) -> i64
         requires inside { i < length self.now.codes }
@@ -327,8 +334,8 @@ impl<'a> ColumnView<'a> {
         integer_in(self.form, &self.packed, self.extra, i, before)
     }
 
-    /// The integers of a column of integers, in order: which cells are there, and their values.
-    /// Each slice has a place for each cell. The codes are written as well; the value of a missing cell means nothing.
+    /// Decodes a column of integers in order: the codes, which cells are there, and their values. Each slice has a
+    /// place for each cell. The value of a missing cell means nothing.
     pub fn integers(&self, codes: &mut [u64], present: &mut [bool], values: &mut [i64])
         requires kind { kind_of self.now.book ≡ Ints }
         requires codes { length codes.old ≡ length self.now.codes }
@@ -341,20 +348,21 @@ impl<'a> ColumnView<'a> {
         fill_values(self.form, self.extra, codes, values);
     }
 
-    /// The codes of a column of texts or sets, in order: which cells are there, and the codes of their values.
-    /// Each slice has a place for each cell. The code of a missing cell means nothing.
+    /// Decodes a column of texts or sets in order: the codes, and which cells are there. Each slice has a place for
+    /// each cell. The code of a missing cell means nothing.
     pub fn codes(&self, codes: &mut [u64], present: &mut [bool])
         requires kind { has_entries (kind_of self.now.book) ≡ true }
         requires codes { length codes.old ≡ length self.now.codes }
         requires present { length present.old ≡ length self.now.codes }
         ensures cells { cells_of self.now ≡ entry_cells (entries self.now.book) present.new codes.new }
-        ensures below { (i : ℕ) → i < length self.now.codes → slice_index_or present.new i false ≡ true → slice_index codes.new i < length (entries self.now.book) }
+        ensures below { (i : ℕ) → i < length self.now.codes
+            → slice_index_or present.new i false ≡ true → slice_index codes.new i < length (entries self.now.book) }
     {
         self.packed.fill(codes);
         fill_present(&self.presence, present);
     }
 
-    /// How many values the codes of a column of texts or sets stand for; 0 in a column of integers.
+    /// The number of texts or sets in the dictionary; 0 for a column of integers.
     pub fn entries(&self) -> u32
         ensures { result ≡ length (entries self.now.book) }
     {
@@ -365,7 +373,7 @@ impl<'a> ColumnView<'a> {
         }
     }
 
-    /// The value that a code stands for.
+    /// The text or set of a code.
     pub fn entry(&self, code: u32) -> ValueRef<'a>
         requires { code < length (entries self.now.book) }
         ensures { value_of result ≡ slice_index_or (entries self.now.book) code no_value }

@@ -1,4 +1,4 @@
-// Writing a column: the header, and the three parts behind it.
+// Writes a column: the header, then the three parts.
 ghost use Rattle.std.specs.Prelude.{◌≡◌, ◌+◌, ◌*◌, ◌<◌, ◌≤◌, ◌^◌, ◌++◌, [], length, map, List, Bool, true, IfOk, OnOk, Option, is_some, if◌then◌else◌};
 ghost use Rattle.std.specs.Int.{div_ceil};
 ghost use Rattle.byteorder.specs.Endian.{little_bytes};
@@ -101,7 +101,7 @@ fn form_byte(form: Form) -> u8
     }
 }
 
-// Kind, form, width, and whether presence bits follow.
+// The first four bytes of the header: kind, form, width, and whether presence bits follow.
 fn front_of(form: Form, width: u8, all_there: bool) -> [u8; 4]
     ensures { result ≡ front_bytes form width (if all_there then 0 else 1) }
 {
@@ -120,7 +120,7 @@ fn are_all_there(present: &[bool]) -> bool
     true
 }
 
-/// Which of the cells are there.
+/// For each cell whether it is there.
 pub(crate) fn present_in(
     alloc: Global,
     cells: &[Option<LentValue>],
@@ -130,7 +130,7 @@ pub(crate) fn present_in(
     cells.iter().map(|cell| cell.is_some()).collect(alloc)
 }
 
-/// The presence part of a column, which is left out where all cells are there.
+/// The presence part of a column. It is empty if all cells are there.
 #[derive(Drop)]
 struct Presence {
     all_there: bool,
@@ -138,8 +138,10 @@ struct Presence {
 }
 
 fn presence_of(alloc: Global, present: &[bool]) -> Result<Presence, AllocError>
-    ensures part { IfOk result (λ made. IsPresence (presence_bits made.all_there made.bytes.items (length present.now)) made.bytes.items (length present.now)) }
-    ensures there { IfOk result (λ made. there (presence_bits made.all_there made.bytes.items (length present.now)) (length present.now) ≡ present.now) }
+    ensures part { IfOk result (λ made. IsPresence
+        (presence_bits made.all_there made.bytes.items (length present.now)) made.bytes.items (length present.now)) }
+    ensures there { IfOk result (λ made.
+        there (presence_bits made.all_there made.bytes.items (length present.now)) (length present.now) ≡ present.now) }
 {
     if are_all_there(present) {
         Ok(Presence {
@@ -154,7 +156,7 @@ fn presence_of(alloc: Global, present: &[bool]) -> Result<Presence, AllocError>
     }
 }
 
-/// The bytes of a column whose cells are there as said, with a code for each, and what the codes stand for.
+/// The bytes of a column, given which cells are there, a code for each cell, and what the codes stand for.
 pub(crate) fn write(
     alloc: Global,
     form: Form,
@@ -167,7 +169,8 @@ pub(crate) fn write(
     requires same { length codes.now ≡ length present.now }
     requires extra { IsExtra form (length present.now) extra.now }
     requires small { length extra.now ≤ 2 ^ 40 }
-    ensures cells { (cells : List (Option Value)) → map is_some cells ≡ present.now → IsCoding cells codes.now (book_of form (length present.now) extra.now)
+    ensures cells { (cells : List (Option Value))
+        → map is_some cells ≡ present.now → IsCoding cells codes.now (book_of form (length present.now) extra.now)
         → IfOk result (λ bytes. HasCells bytes.items (length present.now) cells) }
     ensures kind { IfOk result (λ bytes. kind_in bytes.items ≡ kind_of (book_of form (length present.now) extra.now)) }
 {

@@ -1,63 +1,63 @@
--- Dictionaries: the texts of a column, each once, in the order of their first place.
+-- Dictionaries of texts: the distinct texts of a column, in the order of their first occurrence.
 use Rattle.std.specs.Prelude.{◌≡◌, ℕ, zero, suc, ◌+◌, ◌*◌, ◌<◌, ◌≤◌, List, [], ◌∷◌, ◌++◌, length, map, drop, fold, slice_index_or, slice_range, bytes_eq, if◌then◌else◌, IsUtf8}
 use Rattle.std.specs.Borrow.{Bor}
 use Rattle.std.specs.List.{range_with_len, list_any}
 use Rattle.dictionaries.specs.Fields.{u32_at}
 
--- how many texts a dictionary's bytes say that they hold
+-- the number of texts, as the bytes state it
 abbrev pub text_count : List ℕ → ℕ
 text_count extra = u32_at extra 0
 
--- where text k begins among the bytes of the texts: at the end of the one before, or at 0
+-- where text k begins in the bytes of all texts: at the end of the one before, or at 0
 abbrev pub text_from : List ℕ → ℕ → ℕ
 text_from extra zero = 0
 text_from extra (suc k) = u32_at extra (4 + 4 * k)
 
--- text k: the texts' bytes stand behind the ends
+-- text k; the bytes of all texts follow the ends
 abbrev pub text_at : List ℕ → ℕ → List ℕ
 text_at extra k = slice_range (drop (4 + 4 * text_count extra) extra) (text_from extra k) (text_from extra (suc k))
 
 abbrev pub texts_at : List ℕ → List (List ℕ)
 texts_at extra = map (text_at extra) (range_with_len 0 (text_count extra))
 
--- UTF-8 of at most 65,535 bytes
+-- a text: UTF-8 of at most 65,535 bytes
 pub record IsText (text : List ℕ) : Type 0 where
   pub utf8 : IsUtf8 text
   pub short : length text ≤ 65535
 
--- a count, as many ends that do not fall, and as many bytes as the last end
+-- a count, that many ends, none less than the one before, and as many bytes as the last end says
 pub record AreEnds (extra : List ℕ) : Type 0 where
   pub counted : 4 ≤ length extra
   pub whole : 4 + 4 * text_count extra + text_from extra (text_count extra) ≡ length extra
   pub rising : (k : ℕ) → k < text_count extra → text_from extra k ≤ text_from extra (suc k)
 
--- such ends, and each text is one
+-- these ends, and each text is valid
 pub record IsDictionary (extra : List ℕ) : Type 0 where
   pub ends : AreEnds extra
   pub texts : (k : ℕ) → k < text_count extra → IsText (text_at extra k)
 
 -- ---- the dictionary of a list of texts
 
--- one text more, behind the others where it is not among them
+-- the text, appended unless it is among the others
 abbrev pub with_text : List (List ℕ) → List ℕ → List (List ℕ)
 with_text seen text = if list_any (bytes_eq text) seen then seen else seen ++ text ∷ []
 
--- each text once, in the order of their first place
+-- the distinct texts, in the order of their first occurrence
 abbrev pub distinct : List (List ℕ) → List (List ℕ)
 distinct texts = fold with_text [] texts
 
--- the texts that codes stand for
+-- the texts that the codes stand for
 abbrev pub texts_by : List (List ℕ) → List ℕ → List (List ℕ)
 texts_by texts codes = map (λ code. slice_index_or texts code []) codes
 
--- each is UTF-8 of at most 65,535 bytes
+-- each is a valid text
 abbrev pub AreTexts : List (List ℕ) → Type 0
 AreTexts texts = (k : ℕ) → k < length texts → IsText (slice_index_or texts k [])
 
--- what some texts that are lent are
+-- the bytes of borrowed texts
 abbrev pub lent : List (Bor (List ℕ)) → List (List ℕ)
 lent texts = map (λ (text : Bor (List ℕ)). text.now) texts
 
--- each text of the one list stands at its place in the other
+-- the old list is a prefix of the new one
 abbrev pub AreKept : List (List ℕ) → List (List ℕ) → Type 0
 AreKept old new = (k : ℕ) → k < length old → (k < length new) × (slice_index_or new k [] ≡ slice_index_or old k [])

@@ -1,4 +1,4 @@
--- Dictionaries of sets: a dictionary of texts, and behind it a count, ends, and members, each of which is the number of a text.
+-- Dictionaries of sets: a dictionary of texts, then a count, ends and members. A member is the index of a text.
 use Rattle.std.specs.Prelude.{◌≡◌, ℕ, suc, ◌+◌, ◌-◌, ◌*◌, ◌<◌, ◌≤◌, List, [], ◌∷◌, ◌++◌, length, map, take, drop, slice_index, slice_index_or, Vec}
 use Rattle.byteorder.specs.Endian.{little_bytes}
 use Rattle.std.specs.declared.alloc.Global.{Global}
@@ -7,18 +7,19 @@ use Rattle.leaf_model.specs.Values.{IsSet}
 use Rattle.dictionaries.specs.Fields.{u32_at}
 use Rattle.dictionaries.specs.Dictionary.{AreTexts, IsDictionary, text_count, text_from, texts_at, texts_by}
 
--- how many bytes the dictionary of texts in front says that it takes
+-- the length of the dictionary of texts, as its bytes state it
 abbrev pub texts_size : List ℕ → ℕ
 texts_size extra = 4 + 4 * text_count extra + text_from extra (text_count extra)
 
 abbrev pub texts_part : List ℕ → List ℕ
 texts_part extra = take (texts_size extra) extra
 
--- what stands behind it, with a count and ends as a dictionary has them; but an end counts members, and a member takes four bytes
+-- the bytes after it: a count and ends as in a dictionary of texts, but an end counts members, and a member takes four
+-- bytes
 abbrev pub sets_part : List ℕ → List ℕ
 sets_part extra = drop (texts_size extra) extra
 
--- the number of the text that is member j of all
+-- member j: the index of a text
 abbrev pub member_at : List ℕ → ℕ → ℕ
 member_at part j = u32_at part (4 + 4 * text_count part + 4 * j)
 
@@ -26,41 +27,41 @@ member_at part j = u32_at part (4 + 4 * text_count part + 4 * j)
 abbrev pub set_at : List (List ℕ) → List ℕ → ℕ → List (List ℕ)
 set_at texts part k = map (λ j. slice_index_or texts (member_at part j) []) (range_with_len (text_from part k) (text_from part (suc k) - text_from part k))
 
--- set k of a whole dictionary of sets
+-- set k of a dictionary of sets
 abbrev pub set_in : List ℕ → ℕ → List (List ℕ)
 set_in extra k = set_at (texts_at (texts_part extra)) (sets_part extra) k
 
 abbrev pub sets_at : List ℕ → List (List (List ℕ))
 sets_at extra = map (set_in extra) (range_with_len 0 (text_count (sets_part extra)))
 
--- a count, as many ends that do not fall, and as many members as the last end; nothing follows
+-- a count, that many ends, none less than the one before, and as many members as the last end says; nothing follows
 pub record AreSetEnds (part : List ℕ) : Type 0 where
   pub counted : 4 ≤ length part
   pub whole : 4 + 4 * text_count part + 4 * text_from part (text_count part) ≡ length part
   pub rising : (k : ℕ) → k < text_count part → text_from part k ≤ text_from part (suc k)
 
--- a dictionary of texts, and behind it such ends, of which each member is the number of a text
+-- a dictionary of texts, then such ends; each member is the index of a text
 pub record AreNumbered (texts part : List ℕ) : Type 0 where
   pub dictionary : IsDictionary texts
   pub ends : AreSetEnds part
   pub members : (j : ℕ) → j < text_from part (text_count part) → member_at part j < text_count texts
 
--- so, and the texts of each set are one
+-- a dictionary of sets: such parts, and the texts of each set are a set
 pub record IsSetDictionary (extra : List ℕ) : Type 0 where
   pub numbered : AreNumbered (texts_part extra) (sets_part extra)
   pub each : (k : ℕ) → k < text_count (sets_part extra) → IsSet (set_in extra k)
 
 -- ---- what is written
 
--- the numbers that some vectors hold
+-- the items of each vector
 abbrev pub numbers_in : List (Vec ℕ Global) → List (List ℕ)
 numbers_in sets = map (λ (v : Vec ℕ Global). v.items) sets
 
--- each is the number of one of so many texts
+-- each number is the index of one of n texts
 abbrev pub AreNumbers : ℕ → List ℕ → Type 0
 AreNumbers n numbers = (k : ℕ) → k < length numbers → slice_index numbers k < n
 
--- the sets whose texts have these numbers
+-- the sets that the lists of indices stand for
 abbrev pub sets_by : List (List ℕ) → List (List ℕ) → List (List (List ℕ))
 sets_by texts sets = map (texts_by texts) sets
 
@@ -69,7 +70,7 @@ abbrev pub number_bytes : List ℕ → List ℕ
 number_bytes [] = []
 number_bytes (n ∷ ns) = little_bytes 4 n ++ number_bytes ns
 
--- texts, and sets by the numbers of their texts
+-- distinct texts, and sets as lists of their indices
 pub record AreSetCodes (texts sets : List (List ℕ)) : Type 0 where
   pub each_text : AreTexts texts
   pub numbers : (k : ℕ) → k < length sets → AreNumbers (length texts) (slice_index_or sets k [])

@@ -1,4 +1,4 @@
-//! Numbers and dictionaries in the bytes of a column: texts by their ends, and sets by the numbers of their texts.
+//! Reads numbers and dictionaries in the bytes of a column. A dictionary has texts, or texts and sets of them.
 #![tactic(auto)]
 
 mod fields;

@@ -1,4 +1,4 @@
-// The dictionary of a column of sets: a dictionary of texts, a count, ends, and members.
+// Reads a dictionary of sets: a dictionary of texts, then a count of sets, their ends, and the members.
 ghost use Rattle.std.specs.Prelude.{◌≡◌, ℕ, suc, ◌+◌, ◌-◌, ◌*◌, ◌<◌, ◌≤◌, ◌↔◌, [], length, IsSome, IsTrue, IsUtf8, IfSome, slice_index_or};
 ghost use Rattle.leaf_model.specs.Sets.{GoesUp};
 ghost use Rattle.leaf_model.specs.Values.{IsSet};
@@ -9,7 +9,7 @@ use crate::fields::u32_at;
 use crate::texts::{ends_rise, is_dictionary, text_bytes, text_count, text_from};
 use leaf_model::{MAX_MEMBERS, MAX_TEXT};
 
-// Where the dictionary of texts in front ends, where that is within the bytes.
+// The length of the dictionary of texts at the start. None if it would pass the end of the bytes.
 fn texts_end(extra: &[u8]) -> Option<usize>
     ensures end { IfSome result (λ end. (end ≡ texts_size extra.now) × (end ≤ length extra.now)) }
     ensures only { IsDictionary (texts_part extra.now) → IsSome result }
@@ -40,7 +40,7 @@ fn are_set_ends(part: &[u8]) -> bool
     ends_rise(part, count)
 }
 
-// The number of the text that a member is.
+// Member j: the index of a text.
 fn member_at(part: &[u8], j: usize) -> u32
     requires ends { AreSetEnds part.now }
     requires within { j < text_from part.now (text_count part.now) }
@@ -49,7 +49,7 @@ fn member_at(part: &[u8], j: usize) -> u32
     u32_at(part, 4 + 4 * text_count(part) as usize + 4 * j)
 }
 
-// Whether each member is the number of a text.
+// Whether each member is the index of a text.
 fn are_members(part: &[u8], texts: u32) -> bool
     requires { AreSetEnds part.now }
     ensures { IsTrue result ↔ ((j : ℕ) → j < text_from part.now (text_count part.now) → member_at part.now j < texts) }
@@ -63,7 +63,7 @@ fn are_members(part: &[u8], texts: u32) -> bool
     true
 }
 
-// How many members a set has.
+// The number of texts of set k.
 fn set_len(part: &[u8], k: usize) -> usize
     requires ends { AreSetEnds part.now }
     requires within { k < text_count part.now }
@@ -72,7 +72,7 @@ fn set_len(part: &[u8], k: usize) -> usize
     text_from(part, k + 1) - text_from(part, k)
 }
 
-// A text of a set.
+// Text i of set k.
 fn text_in<'a>(texts: &'a [u8], part: &[u8], k: usize, i: usize) -> &'a [u8]
     requires numbered { AreNumbered texts.now part.now }
     requires within { k < text_count part.now }
@@ -84,7 +84,7 @@ fn text_in<'a>(texts: &'a [u8], part: &[u8], k: usize, i: usize) -> &'a [u8]
     text_bytes(texts, member as usize)
 }
 
-// Whether a text of a set comes behind the one before it.
+// Whether text i of set k is greater than the one before it.
 fn goes_up(texts: &[u8], part: &[u8], k: usize, i: usize) -> bool
     requires numbered { AreNumbered texts.now part.now }
     requires within { k < text_count part.now }
@@ -97,7 +97,7 @@ fn goes_up(texts: &[u8], part: &[u8], k: usize, i: usize) -> bool
             .is_lt()
 }
 
-// Whether the texts of a set are one.
+// Whether the texts of set k are a set.
 fn is_set_at(texts: &[u8], part: &[u8], k: usize) -> bool
     requires numbered { AreNumbered texts.now part.now }
     requires within { k < text_count part.now }
@@ -121,7 +121,7 @@ fn is_set_at(texts: &[u8], part: &[u8], k: usize) -> bool
     true
 }
 
-// Whether the texts of each set are one.
+// Whether the texts of each set are a set.
 fn are_sets(texts: &[u8], part: &[u8]) -> bool
     requires { AreNumbered texts.now part.now }
     ensures { IsTrue result ↔ ((k : ℕ) → k < text_count part.now → IsSet (set_at (texts_at texts.now) part.now k)) }
@@ -151,7 +151,7 @@ pub fn is_set_dictionary(extra: &[u8]) -> bool
     are_numbered(texts, part) && are_sets(texts, part)
 }
 
-// The dictionary of texts, and what stands behind it.
+// Splits the bytes into the dictionary of texts, and the sets after it.
 fn parts_of(extra: &[u8]) -> (&[u8], &[u8])
     requires { IsSetDictionary extra.now }
     ensures texts { result.0.now ≡ texts_part extra.now }
@@ -163,7 +163,7 @@ fn parts_of(extra: &[u8]) -> (&[u8], &[u8])
     }
 }
 
-/// How many sets a dictionary has.
+/// The number of sets.
 pub fn set_count(extra: &[u8]) -> u32
     requires { IsSetDictionary extra.now }
     ensures { result ≡ text_count (sets_part extra.now) }
@@ -171,7 +171,7 @@ pub fn set_count(extra: &[u8]) -> u32
     text_count(parts_of(extra).1)
 }
 
-/// How many texts a set has.
+/// The number of texts of a set.
 pub fn texts_in_set(extra: &[u8], set: usize) -> u32
     requires dictionary { IsSetDictionary extra.now }
     requires within { set < text_count (sets_part extra.now) }
@@ -180,7 +180,7 @@ pub fn texts_in_set(extra: &[u8], set: usize) -> u32
     set_len(parts_of(extra).1, set) as u32
 }
 
-/// A text of a set.
+/// Text i of a set.
 pub fn text_of_set(extra: &[u8], set: usize, i: u32) -> &str
     requires dictionary { IsSetDictionary extra.now }
     requires within { set < text_count (sets_part extra.now) }
@@ -188,6 +188,6 @@ pub fn text_of_set(extra: &[u8], set: usize, i: u32) -> &str
     ensures { result.now ≡ slice_index_or (set_at (texts_at (texts_part extra.now)) (sets_part extra.now) set) i [] }
 {
     let (texts, part) = parts_of(extra);
-    // The dictionary's texts were found to be UTF-8 when the column was read.
+    // Each text was tested to be UTF-8 when the column was read.
     unsafe { std::str::from_utf8_unchecked(text_in(texts, part, set, i as usize)) }
 }

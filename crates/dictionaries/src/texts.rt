@@ -1,11 +1,11 @@
-// The dictionary of a column: a count, ends, and texts.
+// Reads a dictionary of texts: a count, the end of each text, and the bytes of all texts.
 ghost use Rattle.std.specs.Prelude.{◌≡◌, ℕ, suc, ◌+◌, ◌*◌, ◌<◌, ◌≤◌, ◌↔◌, IsTrue, length};
 ghost use Rattle.dictionaries.specs.Dictionary.{text_count, text_from, text_at, IsText, AreEnds, IsDictionary};
 
 use crate::fields::u32_at;
 use leaf_model::MAX_TEXT;
 
-/// How many texts a dictionary has.
+/// The number of texts.
 pub fn text_count(extra: &[u8]) -> u32
     requires { 4 ≤ length extra.now }
     ensures { result ≡ text_count extra.now }
@@ -13,7 +13,7 @@ pub fn text_count(extra: &[u8]) -> u32
     u32_at(extra, 0)
 }
 
-// Where a text begins among the bytes of the texts.
+// The offset of text k in the bytes of all texts.
 pub(crate) fn text_from(extra: &[u8], k: usize) -> usize
     requires { 4 + 4 * k ≤ length extra.now }
     ensures value { result ≡ text_from extra.now k }
@@ -26,7 +26,7 @@ pub(crate) fn text_from(extra: &[u8], k: usize) -> usize
     }
 }
 
-// Whether no end is below the one before.
+// Whether no end is less than the one before.
 pub(crate) fn ends_rise(extra: &[u8], count: usize) -> bool
     requires { 4 + 4 * count ≤ length extra.now }
     ensures { IsTrue result ↔ ((k : ℕ) → k < count → text_from extra.now k ≤ text_from extra.now (suc k)) }
@@ -53,7 +53,7 @@ fn are_ends(extra: &[u8]) -> bool
     ends_rise(extra, count)
 }
 
-// Where a text begins and ends among the bytes of the texts.
+// The offsets of the start and the end of text k in the bytes of all texts.
 fn text_range(extra: &[u8], k: usize) -> (usize, usize)
     requires ends { AreEnds extra.now }
     requires within { k < text_count extra.now }
@@ -100,12 +100,12 @@ pub fn is_dictionary(extra: &[u8]) -> bool
     are_ends(extra) && are_texts(extra)
 }
 
-/// A text by its code.
+/// Text k.
 pub fn text_of(extra: &[u8], k: usize) -> &str
     requires dictionary { IsDictionary extra.now }
     requires within { k < text_count extra.now }
     ensures { result.now ≡ text_at extra.now k }
 {
-    // The dictionary's texts were found to be UTF-8 when the column was read.
+    // Each text was tested to be UTF-8 when the column was read.
     unsafe { std::str::from_utf8_unchecked(text_bytes(extra, k)) }
 }

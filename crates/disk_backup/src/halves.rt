@@ -17,11 +17,15 @@ pub fn bring<B: Berth>(end: u64, owed: &[u8], laid: &mut bool, berth: &mut B) ->
     ensures cause { HasCause (B.meaning berth.old).disk_faults (B.meaning berth.new).disk_faults result }
     ensures time { Passes (B.meaning berth.old) (B.meaning berth.new) }
     ensures reads { (B.meaning berth.new).disk_reads ≡ (B.meaning berth.old).disk_reads }
-    ensures region { IsTrue (B.meaning berth.old).tells → (B.meaning berth.new).held.region ≡ (B.meaning berth.old).held.region }
+    ensures region { IsTrue (B.meaning berth.old).tells
+        → (B.meaning berth.new).held.region ≡ (B.meaning berth.old).held.region }
     ensures crash { IsTrue (B.meaning berth.old).tells
-        → Throughout (Came end (OwingAfter laid.old owed.now) (EitherWay owed.now) (B.meaning berth.old)) (B.meaning berth.old) (B.meaning berth.new)
-        × OnOk result (EachNow (Came end (OwingAfter laid.old owed.now) (λ front. OpenAfter front owed.now) (B.meaning berth.old)) (B.meaning berth.new))
-        × OnErr result (EachNow (Came end (OwingAfter laid.old owed.now) (OwingAfter laid.new owed.now) (B.meaning berth.old)) (B.meaning berth.new)) }
+        → Throughout (Came end (OwingAfter laid.old owed.now) (EitherWay owed.now) (B.meaning berth.old))
+        (B.meaning berth.old) (B.meaning berth.new)
+        × OnOk result (EachNow (Came end (OwingAfter laid.old owed.now)
+        (λ front. OpenAfter front owed.now) (B.meaning berth.old)) (B.meaning berth.new))
+        × OnErr result (EachNow (Came end (OwingAfter laid.old owed.now)
+        (OwingAfter laid.new owed.now) (B.meaning berth.old)) (B.meaning berth.new)) }
 {
     lay_once(end, owed, laid, berth)?;
     open_gate(end, berth)
@@ -37,10 +41,13 @@ fn lay_once<B: Berth>(end: u64, owed: &[u8], laid: &mut bool, berth: &mut B) -> 
     ensures cause { HasCause (B.meaning berth.old).disk_faults (B.meaning berth.new).disk_faults result }
     ensures time { Passes (B.meaning berth.old) (B.meaning berth.new) }
     ensures reads { (B.meaning berth.new).disk_reads ≡ (B.meaning berth.old).disk_reads }
-    ensures region { IsTrue (B.meaning berth.old).tells → (B.meaning berth.new).held.region ≡ (B.meaning berth.old).held.region }
+    ensures region { IsTrue (B.meaning berth.old).tells
+        → (B.meaning berth.new).held.region ≡ (B.meaning berth.old).held.region }
     ensures crash { IsTrue (B.meaning berth.old).tells
-        → Throughout (Came end (OwingAfter laid.old owed.now) (OwingAfter laid.old owed.now) (B.meaning berth.old)) (B.meaning berth.old) (B.meaning berth.new)
-        × OnOk result (EachNow (Came end (OwingAfter laid.old owed.now) (λ front. LaidAfter front owed.now) (B.meaning berth.old)) (B.meaning berth.new)) }
+        → Throughout (Came end (OwingAfter laid.old owed.now) (OwingAfter laid.old owed.now) (B.meaning berth.old))
+        (B.meaning berth.old) (B.meaning berth.new)
+        × OnOk result (EachNow (Came end (OwingAfter laid.old owed.now)
+        (λ front. LaidAfter front owed.now) (B.meaning berth.old)) (B.meaning berth.new)) }
 {
     if *laid {
         return Ok(());
@@ -57,10 +64,13 @@ fn lay<B: Berth>(end: u64, owed: &[u8], berth: &mut B) -> Result<(), Failed>
     ensures cause { HasCause (B.meaning berth.old).disk_faults (B.meaning berth.new).disk_faults result }
     ensures time { Passes (B.meaning berth.old) (B.meaning berth.new) }
     ensures reads { (B.meaning berth.new).disk_reads ≡ (B.meaning berth.old).disk_reads }
-    ensures region { IsTrue (B.meaning berth.old).tells → (B.meaning berth.new).held.region ≡ (B.meaning berth.old).held.region }
+    ensures region { IsTrue (B.meaning berth.old).tells
+        → (B.meaning berth.new).held.region ≡ (B.meaning berth.old).held.region }
     ensures crash { IsTrue (B.meaning berth.old).tells
-        → Throughout (Came end ClosedAfter ClosedAfter (B.meaning berth.old)) (B.meaning berth.old) (B.meaning berth.new)
-        × OnOk result (EachNow (Came end ClosedAfter (λ front. LaidAfter front owed.now) (B.meaning berth.old)) (B.meaning berth.new)) }
+        → Throughout (Came end ClosedAfter ClosedAfter (B.meaning berth.old))
+        (B.meaning berth.old) (B.meaning berth.new)
+        × OnOk result (EachNow (Came end ClosedAfter (λ front. LaidAfter front owed.now) (B.meaning berth.old))
+        (B.meaning berth.new)) }
 {
     berth.disk_write(end + 1, owed)?;
     berth.disk_sync()
@@ -71,10 +81,13 @@ fn open_gate<B: Berth>(end: u64, berth: &mut B) -> Result<(), Failed>
     ensures cause { HasCause (B.meaning berth.old).disk_faults (B.meaning berth.new).disk_faults result }
     ensures time { Passes (B.meaning berth.old) (B.meaning berth.new) }
     ensures reads { (B.meaning berth.new).disk_reads ≡ (B.meaning berth.old).disk_reads }
-    ensures region { IsTrue (B.meaning berth.old).tells → (B.meaning berth.new).held.region ≡ (B.meaning berth.old).held.region }
+    ensures region { IsTrue (B.meaning berth.old).tells
+        → (B.meaning berth.new).held.region ≡ (B.meaning berth.old).held.region }
     ensures crash { (owed : List ℕ) → IsTrue (B.meaning berth.old).tells
-        → Throughout (Came end (λ front. LaidAfter front owed) (λ front. LaidAfter front owed) (B.meaning berth.old)) (B.meaning berth.old) (B.meaning berth.new)
-        × OnOk result (EachNow (Came end (λ front. LaidAfter front owed) (λ front. OpenAfter front owed) (B.meaning berth.old)) (B.meaning berth.new)) }
+        → Throughout (Came end (λ front. LaidAfter front owed) (λ front. LaidAfter front owed) (B.meaning berth.old))
+        (B.meaning berth.old) (B.meaning berth.new)
+        × OnOk result (EachNow (Came end (λ front. LaidAfter front owed)
+        (λ front. OpenAfter front owed) (B.meaning berth.old)) (B.meaning berth.new)) }
 {
     berth.disk_write(end, &[1])?;
     berth.disk_sync()

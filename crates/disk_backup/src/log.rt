@@ -81,11 +81,14 @@ impl BackupLog {
         ensures cause { HasCause (B.meaning berth.old).disk_faults (B.meaning berth.new).disk_faults result }
         ensures time { Passes (B.meaning berth.old) (B.meaning berth.new) }
         ensures reads { (B.meaning berth.new).disk_reads ≡ (B.meaning berth.old).disk_reads }
-        ensures region { IsTrue (B.meaning berth.old).tells → (B.meaning berth.new).held.region ≡ (B.meaning berth.old).held.region }
+        ensures region { IsTrue (B.meaning berth.old).tells
+            → (B.meaning berth.new).held.region ≡ (B.meaning berth.old).held.region }
         // Whatever log each disk has that a crash may leave.
-        ensures crash { IsTrue (B.meaning berth.old).tells → Settled self.old self.new result (B.meaning berth.old) (B.meaning berth.new) }
+        ensures crash { IsTrue (B.meaning berth.old).tells
+            → Settled self.old self.new result (B.meaning berth.old) (B.meaning berth.new) }
         // Where they all have the same.
-        ensures log { (writes : List ℕ → List Write) → IsTrue (B.meaning berth.old).tells → HaveLog self.old writes (B.meaning berth.old)
+        ensures log { (writes : List ℕ → List Write)
+            → IsTrue (B.meaning berth.old).tells → HaveLog self.old writes (B.meaning berth.old)
             → KeepsLog self.old self.new writes result (B.meaning berth.old) (B.meaning berth.new) }
     {
         if self.owes() {
@@ -101,8 +104,10 @@ impl BackupLog {
         ensures cause { HasCause (B.meaning berth.old).disk_faults (B.meaning berth.new).disk_faults result }
         ensures time { Passes (B.meaning berth.old) (B.meaning berth.new) }
         ensures reads { (B.meaning berth.new).disk_reads ≡ (B.meaning berth.old).disk_reads }
-        ensures region { IsTrue (B.meaning berth.old).tells → (B.meaning berth.new).held.region ≡ (B.meaning berth.old).held.region }
-        ensures crash { IsTrue (B.meaning berth.old).tells → Settled self.old self.new result (B.meaning berth.old) (B.meaning berth.new) }
+        ensures region { IsTrue (B.meaning berth.old).tells
+            → (B.meaning berth.new).held.region ≡ (B.meaning berth.old).held.region }
+        ensures crash { IsTrue (B.meaning berth.old).tells
+            → Settled self.old self.new result (B.meaning berth.old) (B.meaning berth.new) }
     {
         bring(self.end, self.owed.bytes(), &mut self.laid, berth)?;
         self.end += self.owed.bytes().len() as u64;

@@ -21,12 +21,15 @@ pub fn step<B: Berth>(alloc: Global, at: u64, len: u64, berth: &mut B) -> Result
     requires short { len < 2 ^ 63 }
     ensures stays { IsTrue (B.meaning berth.old).tells → Stays (B.meaning berth.old) (B.meaning berth.new) }
     ensures time { Passes (B.meaning berth.old) (B.meaning berth.new) }
-    ensures cause { result ≡ Err fault.DiskFault → Rose (B.meaning berth.old).disk_faults (B.meaning berth.new).disk_faults }
+    ensures cause { result ≡ Err fault.DiskFault
+        → Rose (B.meaning berth.old).disk_faults (B.meaning berth.new).disk_faults }
     ensures record { IfOk result GivesRecord }
     ensures goes_on { IfOk result (ScansOn (record { at = at; len = len })) }
-    ensures step { (records : List LogRecord) → IsTrue (B.meaning berth.old).tells → len ≡ length (B.meaning berth.old).held.disk → Scanned (B.meaning berth.old).held.disk records at
+    ensures step { (records : List LogRecord) → IsTrue (B.meaning berth.old).tells
+        → len ≡ length (B.meaning berth.old).held.disk → Scanned (B.meaning berth.old).held.disk records at
         → IfOk result (StepIs (B.meaning berth.old).held.disk records len) }
-    ensures damaged { (records : List LogRecord) → IsTrue (B.meaning berth.old).tells → len ≡ length (B.meaning berth.old).held.disk → Scanned (B.meaning berth.old).held.disk records at
+    ensures damaged { (records : List LogRecord) → IsTrue (B.meaning berth.old).tells
+        → len ≡ length (B.meaning berth.old).held.disk → Scanned (B.meaning berth.old).held.disk records at
         → result ≡ Err fault.DiskDamaged → Damaged (B.meaning berth.old).held.disk at }
 {
     if !is_open(at, berth)? {
@@ -40,8 +43,11 @@ pub fn step<B: Berth>(alloc: Global, at: u64, len: u64, berth: &mut B) -> Result
 fn is_open<B: Berth>(at: u64, berth: &mut B) -> Result<bool, LogFault>
     ensures stays { IsTrue (B.meaning berth.old).tells → Stays (B.meaning berth.old) (B.meaning berth.new) }
     ensures time { Passes (B.meaning berth.old) (B.meaning berth.new) }
-    ensures cause { result ≡ Err fault.DiskFault → Rose (B.meaning berth.old).disk_faults (B.meaning berth.new).disk_faults }
-    ensures told { IsTrue (B.meaning berth.old).tells → at < length (B.meaning berth.old).held.disk → (result ≢ Err fault.DiskDamaged) × IfOk result (λ is. is ≡ nat_eq (get_or (B.meaning berth.old).held.disk at 0) 1) }
+    ensures cause { result ≡ Err fault.DiskFault
+        → Rose (B.meaning berth.old).disk_faults (B.meaning berth.new).disk_faults }
+    ensures told { IsTrue (B.meaning berth.old).tells
+        → at < length (B.meaning berth.old).held.disk → (result ≢ Err fault.DiskDamaged)
+        × IfOk result (λ is. is ≡ nat_eq (get_or (B.meaning berth.old).held.disk at 0) 1) }
 {
     let mut gate = [0];
     if berth.disk_read(at, &mut gate)? < 1 {
@@ -59,12 +65,16 @@ fn record_at<B: Berth>(
 ) -> Result<(FlushRecord, u64), LogFault>
     ensures stays { IsTrue (B.meaning berth.old).tells → Stays (B.meaning berth.old) (B.meaning berth.new) }
     ensures time { Passes (B.meaning berth.old) (B.meaning berth.new) }
-    ensures cause { result ≡ Err fault.DiskFault → Rose (B.meaning berth.old).disk_faults (B.meaning berth.new).disk_faults }
+    ensures cause { result ≡ Err fault.DiskFault
+        → Rose (B.meaning berth.old).disk_faults (B.meaning berth.new).disk_faults }
     ensures record { IfOk result (λ x. IsRecord (record_is x.0)) }
     ensures room { IfOk result (λ x. x.1 < len) }
     ensures writes { IfOk result (λ x. at + length x.0.writes ≤ x.1) }
-    ensures told { IsTrue (B.meaning berth.old).tells → len ≡ length (B.meaning berth.old).held.disk → IfOk result (λ x. Found (drop at (B.meaning berth.old).held.disk) (record_is x.0) × (x.1 ≡ at + length (record_bytes (record_is x.0)))) }
-    ensures damaged { IsTrue (B.meaning berth.old).tells → len ≡ length (B.meaning berth.old).held.disk → result ≡ Err fault.DiskDamaged → NoRecord (drop at (B.meaning berth.old).held.disk) }
+    ensures told { IsTrue (B.meaning berth.old).tells → len ≡ length (B.meaning berth.old).held.disk
+        → IfOk result (λ x. Found (drop at (B.meaning berth.old).held.disk) (record_is x.0)
+        × (x.1 ≡ at + length (record_bytes (record_is x.0)))) }
+    ensures damaged { IsTrue (B.meaning berth.old).tells → len ≡ length (B.meaning berth.old).held.disk
+        → result ≡ Err fault.DiskDamaged → NoRecord (drop at (B.meaning berth.old).held.disk) }
 {
     let size = record_size(at, len, berth)?;
     let bytes = bytes_at(alloc, at, size, berth)?;
@@ -86,10 +96,13 @@ fn record_at<B: Berth>(
 fn record_size<B: Berth>(at: u64, len: u64, berth: &mut B) -> Result<u64, LogFault>
     ensures stays { IsTrue (B.meaning berth.old).tells → Stays (B.meaning berth.old) (B.meaning berth.new) }
     ensures time { Passes (B.meaning berth.old) (B.meaning berth.new) }
-    ensures cause { result ≡ Err fault.DiskFault → Rose (B.meaning berth.old).disk_faults (B.meaning berth.new).disk_faults }
+    ensures cause { result ≡ Err fault.DiskFault
+        → Rose (B.meaning berth.old).disk_faults (B.meaning berth.new).disk_faults }
     ensures room { IfOk result (λ size. at + size < len) }
-    ensures told { IsTrue (B.meaning berth.old).tells → len ≡ length (B.meaning berth.old).held.disk → IfOk result (λ size. size ≡ size_at (drop at (B.meaning berth.old).held.disk)) }
-    ensures damaged { IsTrue (B.meaning berth.old).tells → len ≡ length (B.meaning berth.old).held.disk → result ≡ Err fault.DiskDamaged → len ≤ at + size_at (drop at (B.meaning berth.old).held.disk) }
+    ensures told { IsTrue (B.meaning berth.old).tells → len ≡ length (B.meaning berth.old).held.disk
+        → IfOk result (λ size. size ≡ size_at (drop at (B.meaning berth.old).held.disk)) }
+    ensures damaged { IsTrue (B.meaning berth.old).tells → len ≡ length (B.meaning berth.old).held.disk
+        → result ≡ Err fault.DiskDamaged → len ≤ at + size_at (drop at (B.meaning berth.old).held.disk) }
 {
     if at >= len || len - at <= 8 {
         return Err(LogFault::DiskDamaged);
@@ -110,9 +123,12 @@ fn record_size<B: Berth>(at: u64, len: u64, berth: &mut B) -> Result<u64, LogFau
 fn bytes_at<B: Berth>(alloc: Global, at: u64, size: u64, berth: &mut B) -> Result<Vec<u8>, LogFault>
     ensures stays { IsTrue (B.meaning berth.old).tells → Stays (B.meaning berth.old) (B.meaning berth.new) }
     ensures time { Passes (B.meaning berth.old) (B.meaning berth.new) }
-    ensures cause { result ≡ Err fault.DiskFault → Rose (B.meaning berth.old).disk_faults (B.meaning berth.new).disk_faults }
+    ensures cause { result ≡ Err fault.DiskFault
+        → Rose (B.meaning berth.old).disk_faults (B.meaning berth.new).disk_faults }
     ensures size { IfOk result (λ bytes. length bytes.items ≡ size) }
-    ensures told { IsTrue (B.meaning berth.old).tells → at + size ≤ length (B.meaning berth.old).held.disk → (result ≢ Err fault.DiskDamaged) × IfOk result (λ bytes. bytes.items ≡ take size (drop at (B.meaning berth.old).held.disk)) }
+    ensures told { IsTrue (B.meaning berth.old).tells
+        → at + size ≤ length (B.meaning berth.old).held.disk → (result ≢ Err fault.DiskDamaged)
+        × IfOk result (λ bytes. bytes.items ≡ take size (drop at (B.meaning berth.old).held.disk)) }
 {
     let size = size as usize;
     let mut bytes = Vec::new(alloc);

@@ -132,17 +132,24 @@ impl Drain {
         ensures image { self.new.image ≡ self.old.image }
         ensures layout { head_of self.old.image ≡ Version layout }
         ensures step { IfOk result (λ s. IsStep self.old s self.new) }
-        ensures told { IsTrue (B.meaning berth.old).tells → Draining self.old (B.meaning berth.old).held.region → OnOk result (Draining self.new (B.meaning berth.new).held.region) }
+        ensures told { IsTrue (B.meaning berth.old).tells → Draining self.old (B.meaning berth.old).held.region
+            → OnOk result (Draining self.new (B.meaning berth.new).held.region) }
         ensures room { IsTrue (B.meaning berth.old).tells → Draining self.old (B.meaning berth.old).held.region
             → OnOk result (length (B.meaning berth.new).held.region + held self.new ≤ length self.new.image) }
-        ensures failed { IsTrue (B.meaning berth.old).tells → Draining self.old (B.meaning berth.old).held.region → IsClosed (B.meaning berth.old).held.region
-            → OnErr result (IsClosed (B.meaning berth.new).held.region ⊎ ((B.meaning berth.new).held.region ≡ self.old.image)) }
-        ensures disk { IsTrue (B.meaning berth.old).tells → (B.meaning berth.new).held.disk ≡ (B.meaning berth.old).held.disk }
-        ensures disks { IsTrue (B.meaning berth.old).tells → Ended SameDisk (B.meaning berth.old) (B.meaning berth.new) }
+        ensures failed { IsTrue (B.meaning berth.old).tells
+            → Draining self.old (B.meaning berth.old).held.region → IsClosed (B.meaning berth.old).held.region
+            → OnErr result (IsClosed (B.meaning berth.new).held.region
+            ⊎ ((B.meaning berth.new).held.region ≡ self.old.image)) }
+        ensures disk { IsTrue (B.meaning berth.old).tells
+            → (B.meaning berth.new).held.disk ≡ (B.meaning berth.old).held.disk }
+        ensures disks { IsTrue (B.meaning berth.old).tells
+            → Ended SameDisk (B.meaning berth.old) (B.meaning berth.new) }
         // What a crash leaves at each moment, and how long the region is during the step.
-        ensures moments { IsTrue (B.meaning berth.old).tells → Draining self.old (B.meaning berth.old).held.region → AllClosed (B.meaning berth.old)
+        ensures moments { IsTrue (B.meaning berth.old).tells
+            → Draining self.old (B.meaning berth.old).held.region → AllClosed (B.meaning berth.old)
             → Throughout (DrainsFrom self.old (B.meaning berth.old)) (B.meaning berth.old) (B.meaning berth.new) }
-        ensures inside { IsTrue (B.meaning berth.old).tells → Draining self.old (B.meaning berth.old).held.region → self.old.next ≢ next.Begin
+        ensures inside { IsTrue (B.meaning berth.old).tells
+            → Draining self.old (B.meaning berth.old).held.region → self.old.next ≢ next.Begin
             → Meanwhile (IsInRoom self.old) (B.meaning berth.old) (B.meaning berth.new) }
         // At every moment of the first step the region is a prefix of what it was, or has at most 16 bytes.
         ensures begun { IsTrue (B.meaning berth.old).tells → self.old.next ≡ next.Begin
@@ -174,17 +181,24 @@ impl Drain {
         requires copies { self.old.next ≡ next.Copy }
         ensures image { self.new.image ≡ self.old.image }
         ensures step { IfOk result (λ s. IsStep self.old s self.new) }
-        ensures told { IsTrue (B.meaning berth.old).tells → Draining self.old (B.meaning berth.old).held.region → OnOk result (Draining self.new (B.meaning berth.new).held.region) }
+        ensures told { IsTrue (B.meaning berth.old).tells → Draining self.old (B.meaning berth.old).held.region
+            → OnOk result (Draining self.new (B.meaning berth.new).held.region) }
         ensures room { IsTrue (B.meaning berth.old).tells → Draining self.old (B.meaning berth.old).held.region
             → OnOk result (length (B.meaning berth.new).held.region + held self.new ≤ length self.new.image) }
-        ensures failed { IsTrue (B.meaning berth.old).tells → Draining self.old (B.meaning berth.old).held.region → IsClosed (B.meaning berth.old).held.region
-            → OnErr result (IsClosed (B.meaning berth.new).held.region ⊎ ((B.meaning berth.new).held.region ≡ self.old.image)) }
-        ensures disk { IsTrue (B.meaning berth.old).tells → (B.meaning berth.new).held.disk ≡ (B.meaning berth.old).held.disk }
-        ensures disks { IsTrue (B.meaning berth.old).tells → Ended SameDisk (B.meaning berth.old) (B.meaning berth.new) }
+        ensures failed { IsTrue (B.meaning berth.old).tells
+            → Draining self.old (B.meaning berth.old).held.region → IsClosed (B.meaning berth.old).held.region
+            → OnErr result (IsClosed (B.meaning berth.new).held.region
+            ⊎ ((B.meaning berth.new).held.region ≡ self.old.image)) }
+        ensures disk { IsTrue (B.meaning berth.old).tells
+            → (B.meaning berth.new).held.disk ≡ (B.meaning berth.old).held.disk }
+        ensures disks { IsTrue (B.meaning berth.old).tells
+            → Ended SameDisk (B.meaning berth.old) (B.meaning berth.new) }
         // What a crash leaves at each moment, and how long the region is during the step.
-        ensures moments { IsTrue (B.meaning berth.old).tells → Draining self.old (B.meaning berth.old).held.region → AllClosed (B.meaning berth.old)
+        ensures moments { IsTrue (B.meaning berth.old).tells
+            → Draining self.old (B.meaning berth.old).held.region → AllClosed (B.meaning berth.old)
             → Throughout (DrainsFrom self.old (B.meaning berth.old)) (B.meaning berth.old) (B.meaning berth.new) }
-        ensures inside { IsTrue (B.meaning berth.old).tells → Draining self.old (B.meaning berth.old).held.region → self.old.next ≢ next.Begin
+        ensures inside { IsTrue (B.meaning berth.old).tells
+            → Draining self.old (B.meaning berth.old).held.region → self.old.next ≢ next.Begin
             → Meanwhile (IsInRoom self.old) (B.meaning berth.old) (B.meaning berth.new) }
         ensures time { Passes (B.meaning berth.old) (B.meaning berth.new) }
         ensures cause { HasCause (B.meaning berth.old).region_faults (B.meaning berth.new).region_faults result }
@@ -213,7 +227,8 @@ impl Drain {
         ensures layout { head_of self.now.image ≡ Version layout }
         ensures flag { take 1 self.now.image ≡ 1 ∷ [] }
         ensures long { 16 ≤ length self.now.image }
-        ensures whole { self.now.next ≡ next.Begin → joined self.now.heap ++ directory_of self.now.image ≡ drop 16 self.now.image }
+        ensures whole { self.now.next ≡ next.Begin
+            → joined self.now.heap ++ directory_of self.now.image ≡ drop 16 self.now.image }
     {
         let _ = &self.next;
     }

@@ -36,11 +36,13 @@ impl Plan {
         requires parts { AllByRecursion (λ (t : DrainTable). IsParts t.parts) tables.now }
         requires log_end { log_end < 2 ^ 63 }
         requires room { HasRoom tables.now sizes }
-        ensures bytes { IfOk result (λ plan. plan.directory.items ≡ directory_bytes (planned_directory tables.now log_end)) }
+        ensures bytes { IfOk result (λ plan.
+            plan.directory.items ≡ directory_bytes (planned_directory tables.now log_end)) }
         ensures place { IfOk result (λ plan. plan.place ≡ 16 + tables_size tables.now) }
         ensures fits { IfOk result (λ plan. plan.place + length plan.directory.items < 2 ^ 63) }
         ensures empty { IfOk result (λ plan. plan.columns.items ≡ []) }
-        ensures capacity { IfOk result (λ plan. deque_len plan.columns + tables_count tables.now ≤ deque_capacity plan.columns) }
+        ensures capacity { IfOk result (λ plan.
+            deque_len plan.columns + tables_count tables.now ≤ deque_capacity plan.columns) }
     {
         let directory = directory_of(alloc, tables, log_end)?;
         Ok(Plan {

@@ -86,7 +86,8 @@ fn with_tables(start: Sizes, tables: &[DrainTable]) -> Sizes
 }
 
 fn with_table(start: Sizes, table: &DrainTable) -> Sizes
-    ensures grew { Grew start result (columns_count table.now.parts.blocks) (blocks_size table.now.parts.blocks) (25 + length table.now.name + blocks_entries table.now.parts.blocks) }
+    ensures grew { Grew start result (columns_count table.now.parts.blocks)
+        (blocks_size table.now.parts.blocks) (25 + length table.now.name + blocks_entries table.now.parts.blocks) }
     ensures short { HasShort table.now }
 {
     let name = table.name.as_str().len() as u64;
@@ -109,7 +110,8 @@ fn with_blocks(start: Sizes, blocks: &[RowBlock]) -> Sizes
 }
 
 fn with_block(start: Sizes, block: &RowBlock) -> Sizes
-    ensures grew { Grew start result (length block.now.columns) (columns_size block.now.columns) (8 + columns_entries block.now.columns) }
+    ensures grew { Grew start result (length block.now.columns)
+        (columns_size block.now.columns) (8 + columns_entries block.now.columns) }
     ensures short { AreShort block.now }
 {
     let begun = Sizes {

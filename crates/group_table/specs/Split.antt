@@ -1,4 +1,4 @@
--- The groups of some rows in two tables.
+-- The groups of rows, in two tables.
 use Rattle.std.specs.Prelude.{◌≡◌, ℕ, List}
 use Rattle.std.specs.List.{AllByRecursion}
 use Rattle.leaf_model.specs.declared.rows.Row.{Row}
@@ -7,12 +7,12 @@ use Rattle.leaf_model.specs.declared.groups.Group.{Group}
 use Rattle.leaf_model.specs.Groups.{groups}
 use Rattle.group_table.specs.Joined.{joined, IsWithin}
 
--- the groups that a query makes of some rows
+-- groups that the query makes of some list of rows
 pub record IsMade (q : Query) (gs : List Group) : Type 0 where
   pub rows : List Row
   pub is : gs ≡ groups q rows
 
--- two tables, each made of some of n rows, and what they are together
+-- two tables of groups, each of at most n rows, whose merge has groups within n
 pub record IsSplit (n : ℕ) (q : Query) (settled fresh : List Group) : Type 0 where
   pub mine : IsMade q settled
   pub others : IsMade q fresh

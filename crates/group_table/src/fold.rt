@@ -1,4 +1,4 @@
-// Rows folded into a table of groups, or onto one that is there.
+// Folds rows into a table of groups, or onto one that is there.
 ghost use Rattle.std.specs.Prelude.{◌≡◌, ◌≤◌, ◌<◌, ◌+◌, ◌++◌, ℕ, List, [], IfOk, drop, length, take};
 ghost use Rattle.std.specs.List.{AllByRecursion};
 ghost use Rattle.std.specs.Vec.{vec_len};
@@ -15,7 +15,7 @@ use crate::tables::{Guessed, Tables, join_both, take_row};
 use leaf_model::{Groups, LentRows, LentValue, Query};
 use std::alloc::{AllocError, Global};
 
-/// So many rows go into the fresh table before it is settled, and no more rows are taken where so many groups are settled.
+/// The fresh table is settled after `fresh` rows, and no more rows are taken once `settled` groups are settled.
 #[derive(Clone, Copy)]
 pub struct Limits {
     pub fresh: usize,
@@ -27,7 +27,7 @@ const LIMITS: Limits = Limits {
     settled: 16384,
 };
 
-/// A table of the first so many rows, and the rows that are left.
+/// The table of the first `rows` rows, and the rows that are left.
 #[derive(Drop)]
 struct Filled<'a> {
     table: Groups,
@@ -35,7 +35,7 @@ struct Filled<'a> {
     left: LentRows<'a>,
 }
 
-/// Room for what a row has of each that is looked for.
+/// A list with a place for each value of a row that is looked for.
 fn room_for<'a>(alloc: Global, count: usize) -> Result<Vec<Option<LentValue<'a>>>, AllocError>
     ensures { IfOk result (λ room. vec_len room ≡ count) }
 {
@@ -48,7 +48,7 @@ fn no_groups(alloc: Global) -> Groups
     Groups::of(Vec::new(alloc))
 }
 
-/// A table that is settled.
+/// Two tables: `start` is settled, and the fresh one is empty.
 fn begun(alloc: Global, start: Groups) -> Tables
     ensures settled { result.settled.items ≡ start }
     ensures fresh { result.fresh.items ≡ [] }
@@ -59,7 +59,7 @@ fn begun(alloc: Global, start: Groups) -> Tables
     }
 }
 
-/// Takes rows until the table is full.
+/// Folds rows until the table is full.
 fn fill<'a>(
     alloc: Global,
     query: &Query,
@@ -71,9 +71,11 @@ fn fill<'a>(
     requires start { MayGrow query.now (length (kept horizon (lent_rows rows.now))) start }
     ensures bound { IfOk result (λ first. first.rows ≤ length (lent_rows rows.now)) }
     ensures some { IfOk result (λ first. 0 < length (lent_rows rows.now) → 0 < first.rows) }
-    ensures value { (xs : List Row) → start ≡ groups query.now xs → IfOk result (λ first. first.table ≡ groups query.now (xs ++ kept horizon (take first.rows (lent_rows rows.now)))) }
+    ensures value { (xs : List Row) → start ≡ groups query.now xs → IfOk result (λ first.
+        first.table ≡ groups query.now (xs ++ kept horizon (take first.rows (lent_rows rows.now)))) }
     ensures left { IfOk result (λ first. lent_rows first.left ≡ drop first.rows (lent_rows rows.now)) }
-    ensures within { (m : ℕ) → AllByRecursion (IsWithin m) start → IfOk result (λ first. AllByRecursion (IsWithin (m + length (kept horizon (take first.rows (lent_rows rows.now))))) first.table) }
+    ensures within { (m : ℕ) → AllByRecursion (IsWithin m) start → IfOk result (λ first.
+        AllByRecursion (IsWithin (m + length (kept horizon (take first.rows (lent_rows rows.now))))) first.table) }
 {
     let sought = sought_by(alloc, query)?;
     let mut seen = room_for(alloc, sought.len())?;
@@ -102,7 +104,7 @@ fn fill<'a>(
     Ok(Filled { table, rows, left })
 }
 
-/// What one table can't take is folded in halves.
+/// Folds rows onto `start`. Rows that one table cannot take are folded in halves, which are then merged.
 pub fn fold_within(
     alloc: Global,
     query: &Query,
@@ -112,8 +114,10 @@ pub fn fold_within(
     limits: Limits,
 ) -> Result<Groups, AllocError>
     requires start { MayGrow query.now (length (kept horizon (lent_rows rows.now))) start }
-    ensures value { (xs : List Row) → start ≡ groups query.now xs → IfOk result (λ gs. gs ≡ groups query.now (xs ++ kept horizon (lent_rows rows.now))) }
-    ensures within { (m : ℕ) → AllByRecursion (IsWithin m) start → IfOk result (λ gs. AllByRecursion (IsWithin (m + length (kept horizon (lent_rows rows.now)))) gs) }
+    ensures value { (xs : List Row) → start ≡ groups query.now xs
+        → IfOk result (λ gs. gs ≡ groups query.now (xs ++ kept horizon (lent_rows rows.now))) }
+    ensures within { (m : ℕ) → AllByRecursion (IsWithin m) start
+        → IfOk result (λ gs. AllByRecursion (IsWithin (m + length (kept horizon (lent_rows rows.now)))) gs) }
 {
     let first = fill(alloc, query, start, rows, horizon, limits)?;
     if first.rows == rows.len() {
@@ -126,7 +130,7 @@ pub fn fold_within(
     merge(alloc, mine, theirs)
 }
 
-/// The groups of the rows that pass, by key ascending.
+/// The groups of the rows that pass, ascending by key. Err if memory runs out.
 pub fn fold_rows(alloc: Global, query: &Query, rows: &LentRows) -> Result<Groups, AllocError>
     ensures value { IfOk result (λ gs. gs ≡ groups query.now (lent_rows rows.now)) }
     ensures within { IfOk result (λ gs. AllByRecursion (IsWithin (length (lent_rows rows.now))) gs) }
@@ -138,7 +142,7 @@ pub fn fold_rows(alloc: Global, query: &Query, rows: &LentRows) -> Result<Groups
     fold_within(alloc, query, none, rows, None, LIMITS)
 }
 
-/// The groups of some rows, with those of the rows from the horizon on.
+/// The groups `start` joined with those of the rows at or after the horizon. Err if memory runs out.
 pub fn fold_onto(
     alloc: Global,
     query: &Query,
@@ -147,8 +151,10 @@ pub fn fold_onto(
     horizon: i64,
 ) -> Result<Groups, AllocError>
     requires { MayGrow query.now (length (rows_from horizon (lent_rows rows.now))) start }
-    ensures value { (xs : List Row) → start ≡ groups query.now xs → IfOk result (λ gs. gs ≡ groups query.now (xs ++ rows_from horizon (lent_rows rows.now))) }
-    ensures within { (m : ℕ) → AllByRecursion (IsWithin m) start → IfOk result (λ gs. AllByRecursion (IsWithin (m + length (rows_from horizon (lent_rows rows.now)))) gs) }
+    ensures value { (xs : List Row) → start ≡ groups query.now xs
+        → IfOk result (λ gs. gs ≡ groups query.now (xs ++ rows_from horizon (lent_rows rows.now))) }
+    ensures within { (m : ℕ) → AllByRecursion (IsWithin m) start
+        → IfOk result (λ gs. AllByRecursion (IsWithin (m + length (rows_from horizon (lent_rows rows.now)))) gs) }
 {
     // What a query looks for may be long, and is listed only if a row is looked at.
     if rows.len() == 0 {

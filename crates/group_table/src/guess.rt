@@ -1,4 +1,4 @@
-// Guesses at the places of keys in a table.
+// A hash table that guesses the places of keys in a table of groups.
 use crate::seen::see_key;
 use leaf_model::{Group, Key, LentTexts, LentValue};
 use std::alloc::{AllocError, Global};
@@ -8,7 +8,7 @@ fn mix_word(mixed: u64, word: u64) -> u64 {
     mixed ^ (mixed >> 32)
 }
 
-/// The first bytes, up to 64 of them, by eights.
+/// Mixes in the first bytes, at most 64, eight at a time.
 fn mix_front(mixed: u64, bytes: &[u8]) -> u64 {
     let mut mixed = mixed;
     let mut rest = match bytes.get(..64) {
@@ -22,7 +22,7 @@ fn mix_front(mixed: u64, bytes: &[u8]) -> u64 {
     mixed
 }
 
-/// The first and the last bytes tell most names apart, and a long text costs no more than a short one.
+/// Mixes in the first and the last bytes. They tell most names apart, and a long text costs no more than a short one.
 fn mix_text(mixed: u64, text: &str) -> u64 {
     let bytes = text.as_bytes();
     let mut last: u64 = 2;
@@ -32,7 +32,7 @@ fn mix_text(mixed: u64, text: &str) -> u64 {
     mix_word(mix_front(mixed, bytes), last)
 }
 
-/// Text by text, and how many there are.
+/// Mixes in each text, and their number.
 fn mix_texts(mixed: u64, texts: &LentTexts) -> u64 {
     let mut mixed = mixed;
     let mut left = *texts;
@@ -58,7 +58,7 @@ fn mix(mixed: u64, seen: Option<LentValue>) -> u64 {
     }
 }
 
-/// A number made of a row's keys, never 0.
+/// The hash of a row's keys, never 0.
 pub fn mix_seen(keys: &[Option<LentValue>]) -> u32 {
     let mut mixed: u64 = 0;
     for key in keys {
@@ -67,7 +67,7 @@ pub fn mix_seen(keys: &[Option<LentValue>]) -> u32 {
     (mix_word(mixed, 3) >> 32) as u32 | 1
 }
 
-/// The same number, made of a group's keys.
+/// The same hash, of a group's keys.
 fn mix_keys(keys: &[Key]) -> u32 {
     let mut mixed: u64 = 0;
     for key in keys {
@@ -84,7 +84,8 @@ struct Guess {
 
 const NONE: Guess = Guess { mixed: 0, at: 0 };
 
-/// Where keys stand in a table, by the numbers made of them. A guess is tried before it is used, so that any would do.
+/// Guesses at the places of keys in a table, by hash. Each guess is tested before it is used, so a wrong one does no
+/// harm.
 #[derive(Drop)]
 pub struct Guesses {
     slots: Vec<Guess>,
@@ -97,7 +98,7 @@ impl Guesses {
         })
     }
 
-    /// The slot of that number, or the empty one where it would go.
+    /// The slot of a hash, or the empty slot where it would go.
     fn slot(&self, mixed: u32) -> usize {
         let count = self.slots.len();
         let first = ((u64::from(mixed)).wrapping_mul(count as u64) >> 32) as usize;
@@ -116,7 +117,7 @@ impl Guesses {
         first
     }
 
-    /// None where no such number was kept.
+    /// The place that was kept for a hash. None if none was.
     pub fn guess(&self, mixed: u32) -> Option<usize> {
         match self.slots.get(self.slot(mixed)) {
             None => None,
@@ -137,7 +138,7 @@ impl Guesses {
         }
     }
 
-    /// Guesses for that table; at most half of the slots are taken.
+    /// Makes the guesses for this table. At most half of the slots are taken.
     pub fn renew(&mut self, alloc: Global, table: &[Group]) -> Result<(), AllocError> {
         if self.slots.len() < table.len().saturating_mul(2) {
             self.slots = vec![in alloc; NONE; table.len().saturating_mul(4)]?;

@@ -60,7 +60,7 @@ fn join_folds(mut mine: Vec<Fold>, theirs: &[Fold]) -> Vec<Fold>
     mine
 }
 
-/// As many folds as both have.
+/// Joins two lists of folds, place by place.
 fn join_all_folds(mut mine: Vec<Fold>, theirs: &[Fold]) -> Vec<Fold>
     requires { AllByRecursion FitsFold (joined_folds mine.items theirs.now) }
     ensures { result.items ≡ joined_folds mine.items theirs.now }
@@ -80,11 +80,13 @@ fn join_group(mine: Group, theirs: &Group) -> Group
     }
 }
 
-/// Takes the group that stands first in both tables together.
+/// Takes the least group off both tables, joined if both have its keys.
 fn take_first(mine: &mut VecDeque<Group>, theirs: &mut VecDeque<Group>) -> Option<Group>
     requires { AllByRecursion FitsGroup (joined mine.old.items theirs.old.items) }
-    ensures taken { joined mine.old.items theirs.old.items ≡ option_to_list result ++ joined mine.new.items theirs.new.items }
-    ensures fewer { OnSome result (deque_len mine.new + deque_len theirs.new < deque_len mine.old + deque_len theirs.old) }
+    ensures taken { joined mine.old.items theirs.old.items
+        ≡ option_to_list result ++ joined mine.new.items theirs.new.items }
+    ensures fewer { OnSome result
+        (deque_len mine.new + deque_len theirs.new < deque_len mine.old + deque_len theirs.old) }
     ensures all { IfNone result (joined mine.old.items theirs.old.items ≡ []) }
 {
     let order = match mine.front() {
@@ -132,11 +134,13 @@ pub fn join_tables(alloc: Global, a: Groups, b: Groups) -> Result<Groups, AllocE
     Ok(Groups::of(out))
 }
 
-/// The groups of both lists of rows together.
+/// Merges the groups of two lists of rows into those of both. Err if memory runs out.
 pub fn merge(alloc: Global, a: Groups, b: Groups) -> Result<Groups, AllocError>
     requires { AllByRecursion FitsGroup (joined a b) }
-    ensures within { (m n : ℕ) → AllByRecursion (IsWithin m) a → AllByRecursion (IsWithin n) b → IfOk result (λ gs. AllByRecursion (IsWithin (m + n)) gs) }
-    ensures both { (q : Query) → (xs ys : List Row) → a ≡ groups q xs → b ≡ groups q ys → IfOk result (λ gs. gs ≡ groups q (xs ++ ys)) }
+    ensures within { (m n : ℕ) → AllByRecursion (IsWithin m) a
+        → AllByRecursion (IsWithin n) b → IfOk result (λ gs. AllByRecursion (IsWithin (m + n)) gs) }
+    ensures both { (q : Query) → (xs ys : List Row)
+        → a ≡ groups q xs → b ≡ groups q ys → IfOk result (λ gs. gs ≡ groups q (xs ++ ys)) }
 {
     Ok(join_tables(alloc, a, b)?)
 }

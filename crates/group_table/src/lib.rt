@@ -1,4 +1,4 @@
-//! Groups of rows: rows folded by their keys, and two tables of groups merged into one.
+//! Groups of rows: folds rows by their keys, and merges two tables of groups.
 #![tactic(auto)]
 
 mod fold;

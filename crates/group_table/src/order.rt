@@ -1,4 +1,4 @@
-// The order of a group's keys and a row's.
+// Compares the keys of a group with those of a row.
 ghost use Rattle.std.specs.Prelude.{◌≡◌, map, Some};
 ghost use Rattle.leaf_model.specs.Groups.{key_cmp, key_of, keys_cmp};
 ghost use Rattle.leaf_model.specs.Lent.{lent_value};
@@ -8,7 +8,7 @@ use crate::seen::see_key;
 use leaf_model::{Key, LentValue};
 use std::cmp::Ordering;
 
-/// Integers, then texts by their bytes, then sets as lists of texts.
+/// Integers come before texts, and texts before sets. Texts compare by bytes, sets as lists of texts.
 fn compare_values(a: &LentValue, b: &LentValue) -> Ordering
     ensures { result ≡ key_cmp (key_of (Some (lent_value a.now))) (key_of (Some (lent_value b.now))) }
 {
@@ -31,7 +31,7 @@ fn compare_values(a: &LentValue, b: &LentValue) -> Ordering
     }
 }
 
-/// What is missing stands before every value.
+/// A missing value comes before every other.
 fn compare_seen(a: Option<LentValue>, b: Option<LentValue>) -> Ordering
     ensures { result ≡ key_cmp (seen_key a.entry) (seen_key b.entry) }
 {
@@ -47,7 +47,7 @@ fn compare_seen(a: Option<LentValue>, b: Option<LentValue>) -> Ordering
     }
 }
 
-/// Lists of keys compare from the left, as `Keys::compare`; a row's keys are not copied yet.
+/// Lexicographic order, as in `Keys::compare`. The row's keys are not copied.
 pub fn compare_with(a: &[Key], b: &[Option<LentValue>]) -> Ordering
     ensures { result ≡ keys_cmp a.now (map seen_key b.now) }
 {

@@ -1,4 +1,4 @@
-// The conditions of a query.
+// Tests the conditions of a query.
 ghost use Rattle.std.specs.Prelude.{◌≡◌, ◌≤◌, length, Some, option_map, option_and_then};
 ghost use Rattle.std.specs.List.{list_all};
 ghost use Rattle.leaf_model.specs.Groups.{op_accepts, set_accepts, compares, cond_accepts, passes, value_of, as_int};
@@ -9,7 +9,7 @@ use crate::seen::SeenRow;
 use leaf_model::{Cond, LentTexts, LentValue, Op, Query, Value};
 use std::cmp::Ordering;
 
-/// Whether the operator takes a value that compares so with its own. One that asks for a member takes none.
+/// Whether the operator accepts this order of the cell and the constant. `Has` accepts none.
 pub fn accepts(op: &Op, order: Ordering) -> bool
     ensures { result ≡ op_accepts op.now order }
 {
@@ -85,7 +85,7 @@ fn meets_conds(query: &Query, row: &SeenRow) -> bool
     meets_all(query.conds.as_slice(), row.conds)
 }
 
-/// Whether the time is in the range and each condition holds.
+/// Whether the row's time is in the query's range, and each condition holds.
 pub fn is_passing(query: &Query, row: &SeenRow) -> bool
     requires { AreSeen query.now row.now }
     ensures { result ≡ passes query.now (seen_row row.now) }
@@ -93,7 +93,7 @@ pub fn is_passing(query: &Query, row: &SeenRow) -> bool
     query.from <= row.row.time && row.row.time <= query.to && meets_conds(query, row)
 }
 
-/// The integer that was seen.
+/// The value as an integer. None if it is missing, or of another kind.
 pub fn int_of(seen: Option<LentValue>) -> Option<i64>
     ensures { result ≡ option_and_then as_int (option_map lent_value seen.entry) }
 {

@@ -1,4 +1,4 @@
-// The folds of one row.
+// Folds one row.
 ghost use Rattle.std.specs.Prelude.{◌≡◌, ◌^◌, [], ◌∷◌, length, map, IfOk, option_and_then, option_map, option_to_list};
 ghost use Rattle.std.specs.List.{AllByRecursion};
 ghost use Rattle.leaf_model.specs.Groups.{agg_ints, as_int, fold_of};
@@ -11,7 +11,7 @@ use crate::seen::SeenRow;
 use leaf_model::{Agg, Fold, Folds, LentValue, Query};
 use std::alloc::{AllocError, Global};
 
-/// The fold of no cell.
+/// The fold of no integers.
 fn no_fold() -> Fold
     ensures value { result ≡ fold_of [] }
     ensures within { IsFoldWithin 1 result }
@@ -24,7 +24,7 @@ fn no_fold() -> Fold
     }
 }
 
-/// The fold of the integer that was seen.
+/// The fold of one value: of its integer, or of none.
 fn fold_cell(seen: Option<LentValue>) -> Fold
     ensures value { result ≡ fold_of (option_to_list (option_and_then as_int (option_map lent_value seen.entry))) }
     ensures within { IsFoldWithin 1 result }
@@ -69,7 +69,8 @@ fn folds_of(alloc: Global, aggs: &[Agg], seen: &[Option<LentValue>]) -> Result<F
 
 pub fn folds_of_row(alloc: Global, query: &Query, row: &SeenRow) -> Result<Folds, AllocError>
     requires { AreSeen query.now row.now }
-    ensures value { IfOk result (λ fs. fs ≡ map (λ agg. fold_of (agg_ints agg (seen_row row.now ∷ []))) query.now.aggs) }
+    ensures value { IfOk result (λ fs.
+        fs ≡ map (λ agg. fold_of (agg_ints agg (seen_row row.now ∷ []))) query.now.aggs) }
     ensures within { IfOk result (λ fs. AllByRecursion (IsFoldWithin 1) fs) }
 {
     folds_of(alloc, query.aggs.as_slice(), row.aggs)

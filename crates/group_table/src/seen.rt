@@ -1,4 +1,4 @@
-// What a query sees of a row: it is looked for once.
+// What a query reads of a row. Each name is looked up once.
 ghost use Rattle.std.specs.Prelude.{◌≡◌, ◌++◌, map, IfOk, Some};
 ghost use Rattle.leaf_model.specs.declared.queries.Cond.{Cond};
 ghost use Rattle.leaf_model.specs.declared.rows.Row.{Row};
@@ -10,7 +10,7 @@ ghost use Rattle.group_table.specs.Reads.{AreSeen, agg_name, names_in, seen_key,
 use leaf_model::{Agg, Cond, Key, Keys, LentRow, LentTexts, LentValue, Query, Sought, Text};
 use std::alloc::{AllocError, Global};
 
-/// A row, and what it has for each condition, each key and each aggregate of a query.
+/// A row, and its values for each condition, key and aggregate of a query.
 #[derive(Clone, Copy)]
 pub struct SeenRow<'s, 'a> {
     pub row: &'s LentRow<'a>,
@@ -20,7 +20,7 @@ pub struct SeenRow<'s, 'a> {
 }
 
 impl<'s, 'a> SeenRow<'s, 'a> {
-    /// What was seen stands in the order of `sought_by`.
+    /// `seen` has the row's values in the order of `sought_by`.
     pub fn of(
         query: &Query,
         row: &'s LentRow<'a>,
@@ -42,7 +42,8 @@ impl<'s, 'a> SeenRow<'s, 'a> {
 }
 
 fn look_for_conds<'q>(sought: &mut Vec<Sought<'q>>, conds: &'q [Cond]) -> Result<(), AllocError>
-    ensures { (row : Row) → IfOk result (λ done. map (sought_in row) sought.new.items ≡ map (sought_in row) sought.old.items ++ values_in row (map (λ (c : Cond). c.name) conds.now)) }
+    ensures { (row : Row) → IfOk result (λ done. map (sought_in row) sought.new.items
+        ≡ map (sought_in row) sought.old.items ++ values_in row (map (λ (c : Cond). c.name) conds.now)) }
 {
     for cond in conds {
         sought.push(Sought::of(&cond.name))?;
@@ -51,7 +52,8 @@ fn look_for_conds<'q>(sought: &mut Vec<Sought<'q>>, conds: &'q [Cond]) -> Result
 }
 
 fn look_for_keys<'q>(sought: &mut Vec<Sought<'q>>, names: &'q [Text]) -> Result<(), AllocError>
-    ensures { (row : Row) → IfOk result (λ done. map (sought_in row) sought.new.items ≡ map (sought_in row) sought.old.items ++ values_in row names.now) }
+    ensures { (row : Row) → IfOk result (λ done.
+        map (sought_in row) sought.new.items ≡ map (sought_in row) sought.old.items ++ values_in row names.now) }
 {
     for name in names {
         sought.push(Sought::of(name))?;
@@ -72,7 +74,8 @@ fn sought_for<'q>(agg: &'q Agg) -> Sought<'q>
 }
 
 fn look_for_aggs<'q>(sought: &mut Vec<Sought<'q>>, aggs: &'q [Agg]) -> Result<(), AllocError>
-    ensures { (row : Row) → IfOk result (λ done. map (sought_in row) sought.new.items ≡ map (sought_in row) sought.old.items ++ values_in row (map agg_name aggs.now)) }
+    ensures { (row : Row) → IfOk result (λ done. map (sought_in row) sought.new.items
+        ≡ map (sought_in row) sought.old.items ++ values_in row (map agg_name aggs.now)) }
 {
     for agg in aggs {
         sought.push(sought_for(agg))?;
@@ -80,9 +83,10 @@ fn look_for_aggs<'q>(sought: &mut Vec<Sought<'q>>, aggs: &'q [Agg]) -> Result<()
     Ok(())
 }
 
-/// What a query looks for in a row: for its conditions, for its keys, and for its aggregates.
+/// What a query looks up in a row: the names of its conditions, then of its keys, then of its aggregates.
 pub fn sought_by<'q>(alloc: Global, query: &'q Query) -> Result<Vec<Sought<'q>>, AllocError>
-    ensures { (row : Row) → IfOk result (λ sought. map (sought_in row) sought.items ≡ values_in row (names_in query.now)) }
+    ensures { (row : Row) → IfOk result (λ sought.
+        map (sought_in row) sought.items ≡ values_in row (names_in query.now)) }
 {
     let mut sought = Vec::new(alloc);
     look_for_conds(&mut sought, query.conds.as_slice())?;
@@ -91,7 +95,7 @@ pub fn sought_by<'q>(alloc: Global, query: &'q Query) -> Result<Vec<Sought<'q>>,
     Ok(sought)
 }
 
-/// A key of a table, as a row's are seen.
+/// A key of a table, in the form of a row's value.
 pub fn see_key(key: &Key) -> Option<LentValue<'_>>
     ensures { seen_key result ≡ key.now }
 {

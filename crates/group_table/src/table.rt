@@ -1,4 +1,4 @@
-// One row more in an ascending table of groups, in place.
+// Adds a row to an ascending table of groups, in place.
 ghost use Rattle.std.specs.Prelude.{◌≡◌, IfOk, List, [], ◌∷◌, ◌++◌, ◌≤◌, ◌<◌, ◌-◌, ◌^◌, length, map, take, drop, true, option_map};
 ghost use Rattle.std.specs.List.{AllByRecursion};
 ghost use Rattle.std.specs.Vec.{vec_len};
@@ -18,7 +18,7 @@ use leaf_model::{Agg, Fold, Folds, Group, LentValue, Query};
 use std::alloc::{AllocError, Global};
 use std::cmp::Ordering;
 
-/// A place in a table, and whether the keys that were looked for stand there.
+/// A place in a table, and whether the group there has the keys that were looked for.
 #[derive(Clone, Copy)]
 pub struct Place {
     pub at: usize,
@@ -35,29 +35,31 @@ fn stands_at(table: &[Group], place: usize, keys: &[Option<LentValue>]) -> bool
     }
 }
 
-/// Past the groups whose keys are below these.
+/// The number of groups whose keys are less than these.
 fn search_for(table: &[Group], keys: &[Option<LentValue>]) -> usize
     requires { Ascends (keys_in table.now) }
     ensures bound { result ≤ length table.now }
-    ensures place { (g : Group) → g.keys ≡ map seen_key keys.now → joined table.now (g ∷ []) ≡ take result table.now ++ put_first g (drop result table.now) }
+    ensures place { (g : Group) → g.keys ≡ map seen_key keys.now
+        → joined table.now (g ∷ []) ≡ take result table.now ++ put_first g (drop result table.now) }
 {
     table.partition_point(|group| compare_with(group.keys.as_slice(), keys) == Ordering::Less)
 }
 
-/// Where those keys stand, or would stand, in an ascending table.
+/// The place where these keys stand in an ascending table, or would stand.
 pub fn place_of(table: &[Group], keys: &[Option<LentValue>]) -> Place
     requires { Ascends (keys_in table.now) }
     ensures bound { result.at ≤ length table.now }
     ensures there { result.is_there ≡ is_first (map seen_key keys.now) (drop result.at table.now) }
     ensures inside { result.is_there ≡ true → result.at < length table.now }
-    ensures place { (g : Group) → g.keys ≡ map seen_key keys.now → joined table.now (g ∷ []) ≡ take result.at table.now ++ put_first g (drop result.at table.now) }
+    ensures place { (g : Group) → g.keys ≡ map seen_key keys.now
+        → joined table.now (g ∷ []) ≡ take result.at table.now ++ put_first g (drop result.at table.now) }
 {
     let at = search_for(table, keys);
     let is_there = stands_at(table, at, keys);
     Place { at, is_there }
 }
 
-/// Where those keys stand. With no guess they are not looked for.
+/// Finds the place of these keys, at the guess first. Without a guess they are taken as not there.
 pub fn find(table: &[Group], keys: &[Option<LentValue>], guess: Option<usize>) -> Place
     requires { Ascends (keys_in table.now) }
     ensures there { result.is_there ≡ true → is_first (map seen_key keys.now) (drop result.at table.now) ≡ true }
@@ -105,18 +107,21 @@ fn add_folds(folds: Vec<Fold>, query: &Query, row: &SeenRow) -> Vec<Fold>
     requires seen { AreSeen query.now row.now }
     requires same { vec_len folds ≡ length query.now.aggs }
     requires within { AllByRecursion (IsFoldWithin (2 ^ 64 - 2)) folds.items }
-    ensures value { result.items ≡ joined_folds folds.items (map (λ agg. fold_of (agg_ints agg (seen_row row.now ∷ []))) query.now.aggs) }
-    ensures row { AllByRecursion (IsFoldWithin 1) (map (λ agg. fold_of (agg_ints agg (seen_row row.now ∷ []))) query.now.aggs) }
+    ensures value { result.items
+        ≡ joined_folds folds.items (map (λ agg. fold_of (agg_ints agg (seen_row row.now ∷ []))) query.now.aggs) }
+    ensures row { AllByRecursion (IsFoldWithin 1)
+        (map (λ agg. fold_of (agg_ints agg (seen_row row.now ∷ []))) query.now.aggs) }
 {
     add_cells(folds, query.aggs.as_slice(), row.aggs)
 }
 
-/// A row more in the group of its keys.
+/// Adds a row to the group of its keys.
 pub fn add_to(alloc: Global, group: &mut Group, query: &Query, row: &SeenRow)
     requires seen { AreSeen query.now row.now }
     requires same { length group.old.folds ≡ length query.now.aggs }
     requires within { IsWithin (2 ^ 64 - 2) group.old }
-    ensures value { (ks : List Key) → group.new ≡ joined_group group.old (group_of query.now ks (seen_row row.now ∷ [])) }
+    ensures value { (ks : List Key)
+        → group.new ≡ joined_group group.old (group_of query.now ks (seen_row row.now ∷ [])) }
     ensures row { (ks : List Key) → IsWithin 1 (group_of query.now ks (seen_row row.now ∷ [])) }
 {
     let folds = std::mem::replace(&mut group.folds, Folds::of(Vec::new(alloc)));
@@ -124,7 +129,7 @@ pub fn add_to(alloc: Global, group: &mut Group, query: &Query, row: &SeenRow)
     group.folds = Folds::of(add_folds(folds.into_inner(), query, row));
 }
 
-/// A row at the place of its keys.
+/// Adds a row at the place of its keys: to the group there, or as a new group.
 pub fn put_row(
     alloc: Global,
     query: &Query,
@@ -138,8 +143,10 @@ pub fn put_row(
     requires inside { place.is_there ≡ true → place.at < vec_len table }
     requires same { AllByRecursion (λ (g : Group). length g.folds ≡ length query.now.aggs) table.items }
     requires within { AllByRecursion (IsWithin (2 ^ 64 - 2)) table.items }
-    ensures value { IfOk result (λ gs. gs.items ≡ take place.at table.items ++ put_first (group_of query.now (map seen_key row.now.keys.now) (seen_row row.now ∷ [])) (drop place.at table.items)) }
-    ensures row { IfOk result (λ gs. AllByRecursion (IsWithin 1) (group_of query.now (map seen_key row.now.keys.now) (seen_row row.now ∷ []) ∷ [])) }
+    ensures value { IfOk result (λ gs. gs.items ≡ take place.at table.items ++ put_first
+        (group_of query.now (map seen_key row.now.keys.now) (seen_row row.now ∷ [])) (drop place.at table.items)) }
+    ensures row { IfOk result (λ gs.
+        AllByRecursion (IsWithin 1) (group_of query.now (map seen_key row.now.keys.now) (seen_row row.now ∷ []) ∷ [])) }
 {
     if place.is_there {
         add_to(alloc, &mut table[place.at], query, row);

@@ -1,4 +1,5 @@
-// The groups of the rows so far, in two ascending tables: a row's keys are new seldom, and a large table is dear to shift.
+// The groups of the rows so far, in two ascending tables. New keys are rare, and to insert into a large table costs
+// much.
 ghost use Rattle.std.specs.Prelude.{◌≡◌, IfOk, List, [], ◌∷◌, ◌+◌, ◌-◌, ◌^◌, ℕ, length, true};
 ghost use Rattle.std.specs.List.{AllByRecursion};
 ghost use Rattle.leaf_model.specs.declared.queries.Query.{Query};
@@ -17,14 +18,14 @@ use crate::table::{add_to, find, place_of, put_row};
 use leaf_model::{Group, Groups, LentRow, Query};
 use std::alloc::{AllocError, Global};
 
-/// A table that no group is put into, and one for the rows whose keys were not found there.
+/// A settled table, which gets no new group, and a fresh one for rows whose keys were not found in it.
 #[derive(Drop)]
 pub struct Tables {
     pub settled: Vec<Group>,
     pub fresh: Vec<Group>,
 }
 
-/// Guesses for the settled table, and how many rows went into the fresh one since then.
+/// Guesses for the settled table, and the number of rows that went to the fresh one since it was settled.
 #[derive(Drop)]
 pub struct Guessed {
     settled: Guesses,
@@ -46,13 +47,14 @@ impl Guessed {
         self.settled.renew(alloc, settled)
     }
 
-    /// A settled table is dear to make again where it is large, and a fresh one to shift.
+    /// Whether to settle the fresh table. To rebuild a large settled table costs much, and so does an insert into a
+    /// large fresh one.
     fn is_due(&self, settled: usize, most: usize) -> bool {
         self.missed >= settled.max(64).min(most).max(settled / 8)
     }
 }
 
-/// The tables with one row more: in the settled one where its keys are found there.
+/// Adds a row: to the settled table if its keys are found there, else to the fresh one.
 fn add_row(
     alloc: Global,
     query: &Query,
@@ -62,8 +64,10 @@ fn add_row(
 ) -> Result<Tables, AllocError>
     requires seen { AreSeen query.now row.now }
     requires split { IsSplit (2 ^ 64 - 2) query.now tables.settled.items tables.fresh.items }
-    ensures value { IfOk result (λ ts. joined ts.settled.items ts.fresh.items ≡ joined (joined tables.settled.items tables.fresh.items) (groups query.now (seen_row row.now ∷ []))) }
-    ensures split { IfOk result (λ ts. (n : ℕ) → IsSplit n query.now tables.settled.items tables.fresh.items → IsSplit (n + 1) query.now ts.settled.items ts.fresh.items) }
+    ensures value { IfOk result (λ ts. joined ts.settled.items ts.fresh.items
+        ≡ joined (joined tables.settled.items tables.fresh.items) (groups query.now (seen_row row.now ∷ []))) }
+    ensures split { IfOk result (λ ts. (n : ℕ) → IsSplit n query.now tables.settled.items tables.fresh.items
+        → IsSplit (n + 1) query.now ts.settled.items ts.fresh.items) }
 {
     if !is_passing(query, row) {
         return Ok(tables);
@@ -83,7 +87,7 @@ fn add_row(
     })
 }
 
-/// One table of both.
+/// Merges both tables into one.
 pub fn join_both(alloc: Global, tables: Tables) -> Result<Groups, AllocError>
     requires { AllByRecursion FitsGroup (joined tables.settled.items tables.fresh.items) }
     ensures { IfOk result (λ gs. gs ≡ joined tables.settled.items tables.fresh.items) }
@@ -91,7 +95,7 @@ pub fn join_both(alloc: Global, tables: Tables) -> Result<Groups, AllocError>
     Ok(join_tables(alloc, Groups::of(tables.settled), Groups::of(tables.fresh))?)
 }
 
-/// Settles all groups where enough rows went into the fresh table.
+/// Settles all groups, once enough rows went to the fresh table.
 fn make_room(
     alloc: Global,
     tables: Tables,
@@ -99,8 +103,10 @@ fn make_room(
     most: usize,
 ) -> Result<Tables, AllocError>
     requires { AllByRecursion FitsGroup (joined tables.settled.items tables.fresh.items) }
-    ensures value { IfOk result (λ ts. joined ts.settled.items ts.fresh.items ≡ joined tables.settled.items tables.fresh.items) }
-    ensures split { IfOk result (λ ts. (n : ℕ) → (q : Query) → IsSplit n q tables.settled.items tables.fresh.items → IsSplit n q ts.settled.items ts.fresh.items) }
+    ensures value { IfOk result (λ ts.
+        joined ts.settled.items ts.fresh.items ≡ joined tables.settled.items tables.fresh.items) }
+    ensures split { IfOk result (λ ts. (n : ℕ) → (q : Query)
+        → IsSplit n q tables.settled.items tables.fresh.items → IsSplit n q ts.settled.items ts.fresh.items) }
 {
     if !guessed.is_due(tables.settled.len(), most) {
         return Ok(tables);
@@ -113,7 +119,7 @@ fn make_room(
     })
 }
 
-/// Whether a row counts.
+/// Whether a row is at or after the horizon, if there is one.
 fn is_kept(row: &LentRow, horizon: Option<i64>) -> bool
     ensures { result ≡ is_kept horizon (lent_row row.now) }
 {
@@ -123,7 +129,7 @@ fn is_kept(row: &LentRow, horizon: Option<i64>) -> bool
     }
 }
 
-/// The tables with one row more, where it counts.
+/// Adds a row, if it is at or after the horizon.
 pub fn take_row(
     alloc: Global,
     query: &Query,
@@ -134,9 +140,12 @@ pub fn take_row(
     most: usize,
 ) -> Result<Tables, AllocError>
     requires seen { AreSeen query.now row.now }
-    requires split { is_kept horizon (seen_row row.now) ≡ true → IsSplit (2 ^ 64 - 2) query.now tables.settled.items tables.fresh.items }
-    ensures value { IfOk result (λ ts. joined ts.settled.items ts.fresh.items ≡ joined (joined tables.settled.items tables.fresh.items) (groups query.now (kept horizon (seen_row row.now ∷ [])))) }
-    ensures split { IfOk result (λ ts. (n : ℕ) → IsSplit n query.now tables.settled.items tables.fresh.items → IsSplit (n + length (kept horizon (seen_row row.now ∷ []))) query.now ts.settled.items ts.fresh.items) }
+    requires split { is_kept horizon (seen_row row.now) ≡ true
+        → IsSplit (2 ^ 64 - 2) query.now tables.settled.items tables.fresh.items }
+    ensures value { IfOk result (λ ts. joined ts.settled.items ts.fresh.items ≡ joined
+        (joined tables.settled.items tables.fresh.items) (groups query.now (kept horizon (seen_row row.now ∷ [])))) }
+    ensures split { IfOk result (λ ts. (n : ℕ) → IsSplit n query.now tables.settled.items tables.fresh.items
+        → IsSplit (n + length (kept horizon (seen_row row.now ∷ []))) query.now ts.settled.items ts.fresh.items) }
 {
     if !is_kept(row.row, horizon) {
         return Ok(tables);

@@ -1,4 +1,5 @@
--- What commands, lanes and items did, also where there was no memory for their lines: then some of it was done, and nothing of it was lost.
+-- What commands, lanes and items did, also if memory for their lines ran out. Then some of their commands were played,
+-- and nothing that they did is lost.
 use Rattle.std.specs.Prelude.{◌≡◌, ◌⊎◌, ℕ, List, [], ◌∷◌, ◌++◌, map, Option, Some, None, Result, Ok, Err, Vec, IfSome, ⊤}
 use Rattle.std.specs.Global.{Global}
 use Rattle.std.specs.List.{AllByRecursion, AllZip}
@@ -17,17 +18,17 @@ use Rattle.lane_play.specs.Shortened.{Begins, BeginsItem}
 use Rattle.player.specs.Crew.{AllCounted}
 use Rattle.lane_play.specs.Played.{all_of}
 
--- the lines of an answer, where there was memory for them
+-- the lines of an answer, unless memory ran out
 abbrev pub told_lines : {E : Type 0} → Result (Vec Line Global) E → Option (List Line)
 told_lines (Ok lines) = Some lines.items
 told_lines (Err e) = None
 
--- of a lane that plays by itself
+-- the lines of a lane that plays by itself, unless memory ran out
 abbrev pub own_lines : Option (Vec Line Global) → Option (List Line)
 own_lines (Some lines) = Some lines.items
 own_lines None = None
 
--- The first commands of a lane were played; all of them where there are lines, which are theirs.
+-- A prefix of the lane's commands was played. If there are lines, all commands were, and the lines are theirs.
 pub record LaneWent {B : Type 0} (meaning : B → Meaning) (fleet : Fleet) (commands : List Command) (xs : List (Hold B)) (before : List Held) (lines : Option (List Line)) (ys : List (Hold B)) (after : List Held) : Type 0 where
   pub played : List Played
   pub rest : List Command
@@ -38,15 +39,15 @@ pub record LaneWent {B : Type 0} (meaning : B → Meaning) (fleet : Fleet) (comm
   pub heard : HearsAll fleet played before after
   pub lines_are : IfSome lines (λ ls. (rest ≡ []) × (ls ≡ lines_in (pieces_in played)))
 
--- the first of the commands of each lane
+-- of each lane a prefix
 abbrev pub AreBegun : List (List Command) → List (List Command) → Type 0
 AreBegun lanes wholes = AllZip (λ (lane whole : List Command). Begins lane whole) lanes wholes
 
--- the lines of each lane are of the fleet
+-- the lines of each lane name only tables of the fleet
 abbrev pub LanesFit : List (List ℕ) → List (List Played) → Type 0
 LanesFit names lanes = AllByRecursion (λ (lane : List Played). AllByRecursion (IsOf names) (lines_in (pieces_in lane))) lanes
 
--- the same of lanes one after another
+-- the same of lanes that play one after another
 pub record TurnsWent {B : Type 0} (meaning : B → Meaning) (fleet : Fleet) (lanes : List (List Command)) (xs : List (Hold B)) (before : List Held) (lines : Option (List Line)) (ys : List (Hold B)) (after : List Held) : Type 0 where
   pub played : List (List Played)
   pub begun : AreBegun (map commands_in played) lanes
@@ -56,7 +57,8 @@ pub record TurnsWent {B : Type 0} (meaning : B → Meaning) (fleet : Fleet) (lan
   pub heard : HearsAll fleet (all_of played) before after
   pub lines_are : IfSome lines (λ ls. (map commands_in played ≡ lanes) × (ls ≡ lane_lines 0 played))
 
--- And of lanes beside one another. Of their lines something is known where this holds: that all lanes of the burst were cut off.
+-- The same of lanes that play beside one another. If `whole` holds, all lanes of the burst were cut off, and their
+-- lines are known.
 pub record FansWent {B : Type 0} (meaning : B → Meaning) (fleet : Fleet) (whole : Type 0) (lanes : List (List Command)) (xs : List (Hold B)) (before : List Held) (lines : Option (List Line)) (ys : List (Hold B)) (after : List Held) : Type 0 where
   pub played : List (List Played)
   pub begun : AreBegun (map commands_in played) lanes
@@ -66,13 +68,13 @@ pub record FansWent {B : Type 0} (meaning : B → Meaning) (fleet : Fleet) (whol
   pub heard : HearsAll fleet (all_of played) before after
   pub lines_are : whole → IfSome lines (λ ls. (map commands_in played ≡ lanes) × (ls ≡ lane_lines 0 played))
 
--- the same, once all seats had met
+-- the same, after all seats met
 pub record BesideWent {B : Type 0} (meaning : B → Meaning) (fleet : Fleet) (lanes : List (List Command)) (xs : List (Hold B)) (before : List Held) (lines : Option (List Line)) (ys : List (Hold B)) (after : List Held) : Type 0 where
   pub met : List (Hold B)
   pub meet : AllMeet meaning xs met
   pub fans : FansWent meaning fleet ⊤ lanes met before lines ys after
 
--- An item, or how its lanes begin; and its lines, where there was memory for them: then all of it was played.
+-- An item, or prefixes of its lanes. If there are lines, all of it was played, and the lines are its.
 pub record ItemWent {B : Type 0} (meaning : B → Meaning) (fleet : Fleet) (item : Item) (xs : List (Hold B)) (before : List Held) (lines : Option (List Line)) (ys : List (Hold B)) (after : List Held) : Type 0 where
   pub played : PlayedItem
   pub begun : BeginsItem (item_of played) item
@@ -82,12 +84,12 @@ pub record ItemWent {B : Type 0} (meaning : B → Meaning) (fleet : Fleet) (item
   pub heard : HearsAll fleet (plays_of played) before after
   pub lines_are : IfSome lines (λ ls. (item_of played ≡ item) × (ls ≡ item_lines played))
 
--- for want of memory nothing was done
+-- memory ran out before anything was done
 pub record Nothing {B : Type 0} (xs : List (Hold B)) (before : List Held) (lines : Option (List Line)) (ys : List (Hold B)) (after : List Held) : Type 0 where
   pub refused : lines ≡ None
   pub holds : ys ≡ xs
   pub watches : after ≡ before
 
--- what a body that plays answers: W, or nothing was done
+-- W, or memory ran out before anything was done
 abbrev pub OrNothing : {B : Type 0} → Type 0 → List (Hold B) → List Held → Option (List Line) → List (Hold B) → List Held → Type 0
 OrNothing W xs before lines ys after = W ⊎ Nothing xs before lines ys after

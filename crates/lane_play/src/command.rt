@@ -1,4 +1,4 @@
-// One command of a crew.
+// Plays one command over a crew.
 ghost use Rattle.std.specs.Prelude.{◌≡◌, ◌⊎◌, IsErr, map};
 ghost use Rattle.leaf_moves.specs.Plays.{MayPlay};
 ghost use Rattle.player.specs.Crew.{AllPass, HasFor, PlaysWith, StillHas};
@@ -12,7 +12,7 @@ use std::alloc::{AllocError, Global};
 use std::sync::Wait;
 use std::thread::Threads;
 
-/// Plays a command by a crew that has what it needs.
+/// Plays a command over a crew that holds all that it needs. Gives its lines; Err if memory ran out.
 pub fn play_command<'t, R: Wait + Threads + Sync, B: Berth, G: Gate>(
     rt: &R,
     alloc: Global,

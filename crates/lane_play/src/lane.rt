@@ -1,4 +1,4 @@
-// The commands of a lane.
+// Plays the commands of a lane.
 ghost use Rattle.std.specs.Prelude.{◌≡◌, map};
 ghost use Rattle.std.specs.List.{AllByRecursion};
 ghost use Rattle.player.specs.Crew.{AllPass, StillHas};
@@ -16,7 +16,8 @@ use std::collections::VecDeque;
 use std::sync::Wait;
 use std::thread::Threads;
 
-/// Plays the commands of the lane with that number one after another, up to the first for whose lines there is no memory. The gate is passed before each.
+/// Plays the commands of lane `number`, one after another, and stops after the first whose lines find no memory. It
+/// passes the gate before each.
 pub fn play_lane<'t, R: Wait + Threads + Sync, B: Berth, G: Gate>(
     rt: &R,
     alloc: Global,

@@ -1,4 +1,4 @@
-//! The commands of one lane, played one after another over a crew.
+//! Plays the commands of one lane over a crew, one after another.
 #![tactic(auto)]
 
 mod command;

@@ -1,4 +1,4 @@
--- What a deed of one leaf does.
+-- What a deed does to one leaf.
 use Rattle.std.specs.Prelude.{◌≡◌, ℕ, ◌<◌, false, List, ⊤}
 use Rattle.berth_face.specs.Berth.{Meaning}
 use Rattle.leaf_steward.specs.declared.notes.Note.{Note}
@@ -10,12 +10,12 @@ use Rattle.leaf_moves.specs.Stage.{Leaf, Carries}
 use Rattle.leaf_moves.specs.Steps.{Moves}
 use Rattle.leaf_deeds.specs.Moves.{FaultRose}
 
--- a table that it is told of is one of so many
+-- the table of the deed, if it names one, is one of `tables`
 abbrev pub IsOfTables : ℕ → Deed → Type 0
 IsOfTables tables (Flush table) = table < tables
 IsOfTables tables _ = ⊤
 
--- what it does to a leaf and its berth, by its notes and how it ended
+-- what a deed does to a leaf and its berth, with its notes and its ending
 pub record Does (deed : Deed) (m m' : Meaning) (leaf : Leaf) (notes : List Note) (ends : Ending) (leaf' : Leaf) : Type 0 where
   pub moves : Moves deed m m' leaf notes ends leaf'
   pub carries : Carries leaf leaf' notes m m'

@@ -1,11 +1,11 @@
--- One leaf as somebody holds it.
+-- One leaf, as a player holds it.
 use Rattle.std.specs.Prelude.{◌≡◌, length}
 use Rattle.leaf_steward.specs.Seated.{Seated}
 use Rattle.leaf_moves.specs.Stage.{Leaf, IsDown, IsUp, IsPreparing, seated_of}
 use Rattle.leaf_deeds.specs.declared.leaf.OneLeaf.{OneLeaf}
 use Rattle.leaf_deeds.specs.declared.leaf.OneLeaf.TheVariants as one
 
--- what the leaf is, but for its berth
+-- the leaf without its berth
 abbrev pub state_of : {B : Type 0} → OneLeaf B → Leaf
 state_of (one.Down leaf) = IsDown leaf.0
 state_of (one.Up leaf) = IsUp leaf.0
@@ -16,11 +16,11 @@ berth_of (one.Down leaf) = leaf.1
 berth_of (one.Up leaf) = leaf.1
 berth_of (one.Preparing leaf) = leaf.1
 
--- its tables, and its steward's seats at them
+-- its tables, and the steward's seats at them
 abbrev pub seats_of : {B : Type 0} → OneLeaf B → Seated
 seats_of leaf = seated_of (state_of leaf)
 
--- the steward's seats are at the same tables still
+-- the steward still has seats at the same tables
 pub record KeepsSeats (x y : Seated) : Type 0 where
   pub names : y.names ≡ x.names
   pub tables : y.tables ≡ x.tables

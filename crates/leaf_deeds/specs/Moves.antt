@@ -28,9 +28,9 @@ use Rattle.leaf_deeds.specs.declared.drain.Shut.{Shut}
 use Rattle.leaf_deeds.specs.declared.drain.Shut.TheVariants as shut
 use Rattle.leaf_deeds.specs.Steps.{AreLeft, copy_left}
 
--- ---- what callers know of how a command ended
+-- ---- what the ending of a deed tells
 
--- a fault of the region or of the disk is told only where the count of its faults rose
+-- a fault of region or disk is told only if the count of its faults rose
 abbrev pub FaultRose : Ending → Meaning → Meaning → Type 0
 FaultRose ending.FaultRegion m m' = Rose m.region_faults m'.region_faults
 FaultRose ending.FaultDisk m m' = Rose m.disk_faults m'.disk_faults
@@ -38,7 +38,7 @@ FaultRose _ m m' = ⊤
 
 -- ---- drains
 
--- what region and disk hold of a leaf that copies its tables
+-- region and disk hold what belongs to a leaf that copies its tables
 abbrev pub CopyStands : Copying → Meaning → Type 0
 CopyStands c m = (writes : List ℕ → List Write) × Copies (watched_by c.seated) c.drain writes m
 
@@ -48,7 +48,7 @@ pub record CarriesCopy (x : Shutting) (c : Copying) (notes : List Note) (m m' : 
   pub stands : (base : NamedStates) → IsTrue m.tells → AreFounded x.serving.seated → Stands base (IsPreparing x) m
       → CopyStands c m' × moments.Told base (watched_by x.serving.seated) (watched_by c.seated) m m'
 
--- a leaf that copied its tables comes to rest; its disk was not read
+-- a leaf that copied its tables comes to rest, and its disk was not read
 pub record CopyRests (c : Copying) (y : Seated) (notes : List Note) (m m' : Meaning) : Type 0 where
   pub made : Makes m.clock m'.clock c.seated notes y
   pub reads : m'.disk_reads ≡ m.disk_reads
@@ -60,7 +60,7 @@ pub record Treated (x : Shutting) (made : ℕ) (notes : List Note) (y : Shutting
   pub steps : (copy : ℕ) → Steps (length x.serving.seated.tables) copy made (life.Shutting (progress_of x)) (noted_all notes) (life.Shutting (progress_of y))
   pub part : Part x.serving.seated notes y.serving.seated
 
--- all tables that were left were treated, by these notes, and the copy of them is planned
+-- all tables that were left were treated, with these notes, and their copy is planned
 pub record IsCopyReady (x : Shutting) (m : Meaning) (stop : Option ℕ) (notes : List Note) (c : Copying) (m' : Meaning) (left : Option ℕ) : Type 0 where
   pub whole : Shutting
   pub made : ℕ
@@ -73,7 +73,7 @@ pub record IsCopyReady (x : Shutting) (m : Meaning) (stop : Option ℕ) (notes :
   pub region : SameRegion m m'
   pub reads : m'.disk_reads ≡ m.disk_reads
 
--- as many steps were made as may be
+-- all steps that were allowed are made
 pub record IsStopped (x : Shutting) (m : Meaning) (stop : Option ℕ) (notes : List Note) (y : Shutting) (m' : Meaning) : Type 0 where
   pub made : ℕ
   pub all : stop ≡ Some made
@@ -105,7 +105,7 @@ berth_left (shut.Halted leaf) = leaf.1
 berth_left (shut.Starved leaf) = leaf.1
 berth_left (shut.Roomless leaf) = leaf.1
 
--- a fault of the disk is told only where the count of its faults rose
+-- a fault of the disk is told only if the count of its faults rose
 abbrev pub RoseShut : {B : Type 0} → ℕ → ℕ → Shut B → Type 0
 RoseShut before now (shut.Halted leaf) = Rose before now
 RoseShut before now _ = ⊤
@@ -118,7 +118,8 @@ MakesCopies copy made = 0 < copy → made < copy
 abbrev pub IsCopied : Copying → Meaning → Type 0
 IsCopied c m = IsClosed m.held.region ⊎ (m.held.region ≡ c.drain.image)
 
--- How a copy ends: each table is handed over, and the region is the image; or the region failed; or as many steps were made as may be, none of them the last.
+-- How a copy ends: each table is handed over, and the region is the image; or the region failed; or all steps that were
+-- allowed are made, and none was the last.
 pub data CopyEnds (c : Copying) (stop : Option ℕ) (m m' : Meaning) (notes : List Note) (ends : Ending) (y : Seated) : Type 0 where
   done : (made : ℕ)
       → suc made ≡ copy_left c
@@ -145,7 +146,7 @@ pub data CopyEnds (c : Copying) (stop : Option ℕ) (m m' : Meaning) (notes : Li
       → ends ≡ ending.Stopped
       → CopyEnds c stop m m' notes ends y
 
--- a leaf that shuts its tables is killed: each that is open is closed
+-- a leaf that shuts its tables is killed: each open table is closed
 pub record IsKilled (x : Shutting) (y : Seated) (notes : List Note) (m m' : Meaning) : Type 0 where
   pub count : ℕ
   pub all : length x.closed + count ≡ length x.serving.seated.tables

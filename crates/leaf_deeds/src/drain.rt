@@ -15,22 +15,22 @@ use std::alloc::Global;
 use std::sync::Wait;
 use std::thread::Threads;
 
-/// How the shutting of a leaf's tables ended.
+/// How the shutting of the tables ended.
 #[derive(Drop)]
 pub enum Shut<'t, B: Berth> {
-    /// All are treated, and the copy of them is planned.
+    /// All tables are treated, and their copy is planned.
     Ready(Copying<'t, B>),
     /// No step was left.
     Stopped(Preparing<'t, B>),
     /// The disk failed.
     Halted(Preparing<'t, B>),
-    /// There was no memory to seal a table, or for the copy.
+    /// Memory ran out, to seal a table or to plan the copy.
     Starved(Preparing<'t, B>),
     /// The copy has no room.
     Roomless(Preparing<'t, B>),
 }
 
-/// Treats the tables that are left, and copies them all into the region. Where that has not ended after so many steps, it kills the leaf.
+/// Treats the tables that are left, and copies all into the region. If the steps run out first, it kills the leaf.
 pub fn drain<'t, R: Wait + Threads + Sync, B: Berth, G: Gate>(
     rt: &R,
     alloc: Global,
@@ -65,7 +65,7 @@ pub fn drain<'t, R: Wait + Threads + Sync, B: Berth, G: Gate>(
     }
 }
 
-/// Treats one table after another until the copy of all is planned, or no step is left, or one fails.
+/// Treats one table after another, until the copy of all is planned, no step is left, or a step fails.
 fn shut_all<'t, R: Wait + Threads + Sync, B: Berth, G: Gate>(
     rt: &R,
     alloc: Global,
@@ -99,7 +99,7 @@ fn shut_all<'t, R: Wait + Threads + Sync, B: Berth, G: Gate>(
     }
 }
 
-/// Gives up a leaf whose drain is stopped.
+/// Kills a leaf whose drain is stopped.
 fn killed<'t, R: Wait + Threads + Sync, B: Berth, G: Gate>(
     rt: &R,
     gate: &G,
@@ -112,7 +112,7 @@ fn killed<'t, R: Wait + Threads + Sync, B: Berth, G: Gate>(
     leaf.kill(rt, gate, notes)
 }
 
-/// Copies the tables to the end, or until no step is left or the region fails.
+/// Copies the tables, until all are copied, no step is left, or the region fails.
 fn copy_all<'t, R: Wait + Threads + Sync, B: Berth, G: Gate>(
     rt: &R,
     gate: &G,

@@ -1,4 +1,4 @@
-// One leaf: down, up, or shutting its tables.
+// One leaf, and the deeds of its steward.
 ghost use Rattle.std.specs.Prelude.{◌≡◌, ◌<◌, false, [], length, slice_set, IsOk};
 ghost use Rattle.berth_face.specs.Berth.{Passes};
 ghost use Rattle.leaf_history.specs.History.{LegalFrom};
@@ -25,7 +25,7 @@ use std::alloc::Global;
 use std::sync::Wait;
 use std::thread::Threads;
 
-/// One leaf: down, up, or shutting its tables. A leaf that copies them never rests between two commands.
+/// One leaf: at rest, serving its tables, or shutting them. A leaf never rests between two commands while it copies.
 #[derive(Drop)]
 pub enum OneLeaf<'t, B: Berth> {
     Down(Down<'t, B>),
@@ -34,7 +34,7 @@ pub enum OneLeaf<'t, B: Berth> {
 }
 
 impl<'t, B: Berth> OneLeaf<'t, B> {
-    /// Lets the steward's seat of that table and a caller's see what the other has seen.
+    /// Lets the steward's seat at table `table` and a caller's seat learn what the other has seen.
     pub fn meet(&mut self, table: u32, seat: &mut Seat)
         requires table { table < length (seats_of self.old).tables }
         requires seats { length (seats_of self.old).seats ≡ length (seats_of self.old).tables }
@@ -56,7 +56,7 @@ impl<'t, B: Berth> OneLeaf<'t, B> {
         }
     }
 
-    /// Does what the leaf's steward is told, and says how that ended; the notes are of the entries that it made.
+    /// Does a deed of the leaf's steward. Gives how it ended; `notes` gets the notes of its entries.
     pub fn deed<R: Wait + Threads + Sync, G: Gate>(
         self,
         rt: &R,
@@ -109,7 +109,7 @@ impl<'t, B: Berth> OneLeaf<'t, B> {
         }
     }
 
-    /// Flushes the table in that place of a leaf that is up.
+    /// Flushes a table of a leaf that is up.
     fn flush<R: Wait + Threads + Sync, G: Gate>(
         &mut self,
         rt: &R,
@@ -133,7 +133,7 @@ impl<'t, B: Berth> OneLeaf<'t, B> {
         }
     }
 
-    /// Gives up a leaf that is not down, with what its tables hold.
+    /// Kills a leaf that is not down. What its tables hold is dropped.
     fn kill<R: Wait + Threads + Sync, G: Gate>(
         self,
         rt: &R,
@@ -157,7 +157,7 @@ impl<'t, B: Berth> OneLeaf<'t, B> {
         }
     }
 
-    /// Drains a leaf that is not down. Where that has not ended after so many steps, it kills the leaf.
+    /// Drains a leaf that is not down. If the steps run out first, it kills the leaf.
     fn drain<R: Wait + Threads + Sync, G: Gate>(
         self,
         rt: &R,

@@ -1,4 +1,4 @@
-//! What one leaf's steward is told to do, done: starts, flushes, drains and kills, with the notes that they make.
+//! The deeds of one leaf's steward: starts, flushes, drains and kills, with their notes.
 #![tactic(auto)]
 
 mod drain;

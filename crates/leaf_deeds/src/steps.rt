@@ -1,14 +1,14 @@
 // The steps that a drain may still make.
 ghost use Rattle.leaf_deeds.specs.Steps.{Spends};
 
-/// How many steps a drain may still make before it is stopped: as many as it takes, where none are counted.
+/// The steps that a drain may still make before it is stopped. None: as many as it takes.
 #[derive(Drop)]
 pub struct Steps {
     pub left: Option<u32>,
 }
 
 impl Steps {
-    /// Takes one step of those that are left, or answers false where none is.
+    /// Takes one of the steps that are left. False if none is.
     pub fn spend(&mut self) -> bool
         ensures { Spends self.old.left result self.new.left }
     {

@@ -11,17 +11,18 @@ use Rattle.leaf_machine.specs.declared.up.FlushReply.{FlushReply}
 use Rattle.leaf_machine.specs.declared.up.FlushReply.TheVariants.{Flushed, DiskFault, Worn}
 use Rattle.leaf_machine.specs.States.{Serving}
 
--- the note of what was owed, where anything was, once it is settled
+-- the note of the record that was owed, once it is settled; none if none was
 abbrev pub OwedNotes : Option LogRecord → Owing → List Note → Type 0
 OwedNotes None o notes = notes ≡ []
 OwedNotes (Some r) o notes = (number : ℕ) × (notes ≡ flushed_note o number ∷ [])
 
--- behind these entries the seat in that place is not worn
+-- after these entries the seat at the table is not worn
 abbrev pub FreshBehind : Seated → List Note → ℕ → Type 0
 FreshBehind x notes place = (from to : ℕ) × (y : Seated) × Makes from to x notes y × AtPlace (λ t v. IsFresh v) y place
 
--- A flush of the table in that place: what was owed is settled and noted; then the table, whose seat is not worn, is taken and noted as flushed, with one number of writes;
--- or the disk fails behind the taking; or the seat is worn, and the table is not taken; or the disk fails at what was owed.
+-- A flush of a table. done: what was owed is settled; then the table is taken, and noted as flushed with the same
+-- number of writes. half: the disk fails after the take, and the record is owed. worn: the seat is worn, and the table
+-- is not taken. stuck: the disk fails at what was owed.
 pub data Flushes (table : ℕ) (old new : Serving) (notes : List Note) (reply : FlushReply) : Type 0 where
   done : (first : List Note) (taking flushing n : ℕ)
       → OwedNotes old.owing.log.owed old.owing first

@@ -1,4 +1,4 @@
--- What a leaf leaves, once it is given up: another may begin over it.
+-- What a leaf leaves, whenever it is given up: another may begin over it.
 use Rattle.std.specs.Prelude.{ℕ, List, Option, IsTrue}
 use Rattle.leaf_model.specs.declared.writes.Write.{Write}
 use Rattle.row_records.specs.Records.{LogRecord}
@@ -9,7 +9,7 @@ use Rattle.crash_moments.specs.Watched.{Watched, IsFoundation}
 use Rattle.crash_states.specs.Standing.{Runs, Rests, tables_of}
 use Rattle.crash_states.specs.Beginning.{BeginsAgain}
 
--- Another leaf may begin where one rests, and where one runs.
+-- Another leaf may begin over the berth of a leaf at rest, and of one that runs.
 pub record LeavesBegin (m : Meaning) : Type 0 where
   pub rests : (ws : List Watched) (others : NamedStates) (least : List ℕ → List Write) (next : Option LogRecord)
       → IsTrue m.tells → Rests ws others least next m → BeginsAgain (tables_of others ws m) m

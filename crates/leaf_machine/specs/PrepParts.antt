@@ -1,4 +1,4 @@
--- What each part of a step of a leaf that shuts its tables does.
+-- What each part of a step does of a leaf that shuts its tables.
 use Rattle.std.specs.Prelude.{◌≡◌, ℕ, true, false, List, [], ◌∷◌, ◌++◌, length, None, Result, Ok, Err, IsTrue, ⊤}
 use Rattle.berth_face.specs.Berth.{Meaning, Passes}
 use Rattle.berth_face.specs.Causes.{Rose}
@@ -13,7 +13,7 @@ use Rattle.leaf_machine.specs.States.{Serving, Shutting, GoesOn}
 use Rattle.leaf_machine.specs.Flushes.{OwedNotes}
 use Rattle.leaf_machine.specs.Prepares.{Treats, Halts, Starves}
 
--- a part of a step: its entries stand behind the notes that were there, and the leaf goes on over its berth
+-- a part of a step: its entries are appended to the notes, and the leaf runs on over its berth
 pub record IsPartOfStep (x y : Serving) (before after : List Note) (m m' : Meaning) : Type 0 where
   pub made : NotesOn m.clock m'.clock x.seated before after y.seated
   pub crash : IsTrue m.tells → AreFounded x.seated → GoesOn x y m m'
@@ -21,34 +21,34 @@ pub record IsPartOfStep (x y : Serving) (before after : List Note) (m m' : Meani
   pub time : Passes m m'
   pub reads : m'.disk_reads ≡ m.disk_reads
 
--- a table more is treated, or the disk fails, or there is no memory
+-- Ok: one more table is treated; Err: the disk fails, or memory runs out
 abbrev pub IsNextTreated : {T : Type 0} → Shutting → Shutting → List Note → Result T PrepareFault → Type 0
 IsNextTreated x y notes (Ok done) = Treats x y notes
 IsNextTreated x y notes (Err DiskFault) = Halts x y notes
 IsNextTreated x y notes (Err NoRoom) = ⊥
 IsNextTreated x y notes (Err NoMemory) = Starves x y notes
 
--- a fault of the disk is told only where the count of its faults rose
+-- DiskFault is answered only if the count of the disk's faults rose
 abbrev pub RoseNext : {T : Type 0} → ℕ → ℕ → Result T PrepareFault → Type 0
 RoseNext before now (Ok done) = ⊤
 RoseNext before now (Err DiskFault) = Rose before now
 RoseNext before now (Err NoRoom) = ⊤
 RoseNext before now (Err NoMemory) = ⊤
 
--- no table is left to be treated, and nothing is owed
+-- no table is left to treat, and nothing is owed
 pub record IsAllTreated (x : Shutting) : Type 0 where
   pub shut : x.waits ≡ false
   pub all : length x.closed ≡ length x.serving.seated.tables
   pub none : x.serving.owing.log.owed ≡ None
 
--- what was owed is settled and noted
+-- the owed record is settled and noted
 pub record Settles (old new : Shutting) (notes : List Note) : Type 0 where
   pub noted : OwedNotes old.serving.owing.log.owed old.serving.owing notes
   pub closed : new.closed ≡ old.closed
   pub shut : new.waits ≡ old.waits
   pub owed : new.serving.owing.log.owed ≡ None
 
--- the next table is shut, all of it is in the log, and it is noted as closed and as flushed; its tail is not sealed
+-- the next table is shut, and noted as closed and as flushed; all of it is in the log, and its tail is not sealed
 pub record Shuts (old new : Shutting) (notes : List Note) : Type 0 where
   pub closing : ℕ
   pub flushing : ℕ
@@ -59,7 +59,7 @@ pub record Shuts (old new : Shutting) (notes : List Note) : Type 0 where
   pub shut : new.waits ≡ true
   pub owed : new.serving.owing.log.owed ≡ None
 
--- the next table is shut, or the disk fails behind that
+-- Ok: the next table is shut; Err: the disk failed
 abbrev pub ShutsNext : {T E : Type 0} → Shutting → Shutting → List Note → Result T E → Type 0
 ShutsNext x y notes (Ok done) = Shuts x y notes
 ShutsNext x y notes (Err fault) = Halts x y notes

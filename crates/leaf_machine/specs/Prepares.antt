@@ -1,4 +1,4 @@
--- What a step of a leaf that shuts its tables does.
+-- What a step does of a leaf that shuts its tables.
 use Rattle.std.specs.Prelude.{◌≡◌, ℕ, ◌<◌, ◌≤◌, ◌^◌, true, false, List, [], ◌∷◌, ◌++◌, length, IsSome, IsTrue, None, Result, Ok, Err, ⊤}
 use Rattle.leaf_model.specs.declared.writes.Write.{Write}
 use Rattle.berth_face.specs.Berth.{Meaning}
@@ -22,7 +22,7 @@ use Rattle.leaf_machine.specs.States.{Serving, Shutting, Copying, GoesOn, GoesOn
 use Rattle.leaf_machine.specs.Flushes.{OwedNotes}
 use Rattle.leaf_machine.specs.Shut.{AreTablesOf}
 
--- a leaf that serves and is told to shut
+-- a leaf that serves its tables begins to shut them
 abbrev pub begins : Serving → Shutting
 begins x = record { serving = x; closed = []; waits = false }
 
@@ -30,8 +30,9 @@ begins x = record { serving = x; closed = []; waits = false }
 abbrev pub AllTreated : Shutting → Type 0
 AllTreated x = treated x ≡ length x.serving.seated.tables
 
--- One table more is treated. What is owed is settled and noted; then the next table is shut, noted as closed, its writes are settled, it is noted as flushed, with one number of writes, and
--- its tail is sealed. Of a table that was shut before, what was left is done.
+-- One more table is treated. whole: the owed record is settled and noted; then the next table is shut, noted as closed,
+-- its record settled and noted as flushed with the same number of writes, and its tail sealed. rest: the table was shut
+-- before, and what was left to do is done.
 pub data Treats (old new : Shutting) (notes : List Note) : Type 0 where
   whole : (first : List Note) (closing flushing n : ℕ) (content : Table)
       → old.waits ≡ false
@@ -48,7 +49,8 @@ pub data Treats (old new : Shutting) (notes : List Note) : Type 0 where
       → new.serving.owing.log.owed ≡ None
       → Treats old new notes
 
--- The disk fails: at what was owed, and nothing was noted; or behind the shutting of the next table, whose record is owed.
+-- The disk fails. half: after the next table was shut, whose record is owed. stuck: at what was owed, and nothing was
+-- noted.
 pub data Halts (old new : Shutting) (notes : List Note) : Type 0 where
   half : (first : List Note) (closing n : ℕ) (content : Table)
       → old.waits ≡ false
@@ -70,7 +72,8 @@ pub data Halts (old new : Shutting) (notes : List Note) : Type 0 where
       → new.waits ≡ old.waits
       → Halts old new notes
 
--- There was no memory, and nothing is owed: for the copy, before a table is shut; or to seal the next table, which is shut and whole in the log; or one that was shut before.
+-- Memory ran out, and nothing is owed. before: no further table is shut. behind: the next table is shut and whole in
+-- the log, but not sealed. still: the same of a table that was shut before.
 pub data Starves (old new : Shutting) (notes : List Note) : Type 0 where
   before : old.waits ≡ false
       → OwedNotes old.serving.owing.log.owed old.serving.owing notes
@@ -94,19 +97,20 @@ pub data Starves (old new : Shutting) (notes : List Note) : Type 0 where
       → new.serving.owing.log.owed ≡ None
       → Starves old new notes
 
--- how it is told that no copy can be planned
+-- the refusal of a step for this refusal of the plan
 abbrev pub told_of_plan : PlanFault → PrepareFault
 told_of_plan plan.NoRoom = NoRoom
 told_of_plan plan.NoMemory = NoMemory
 
 -- ---- the copy
 
--- no image can be made of the tables
+-- the tables make no image
 abbrev pub HasNoRoom : Shutting → Type 0
 HasNoRoom x = (tables : List DrainTable) × AreTablesOf x.serving.seated.names x.closed tables × IsTrue (has_no_room tables)
 
--- the copy of a leaf all of whose tables are treated: it is an image of them, each that has rows has a column, those that are founded have no more columns than rows and cells were
--- added to them, and nothing of it is in the region yet
+-- the copy of a leaf whose tables are all treated: its image is one of these tables, and nothing of it is in the region
+-- yet; it has at least the columns that the rows need, and of founded tables at most one for each row and each cell
+-- that was added
 pub record IsCopyOf (x : Shutting) (c : Copying) : Type 0 where
   pub seated : c.seated ≡ x.serving.seated
   pub tables : List DrainTable
@@ -128,7 +132,8 @@ seats_of_step (Ok (prepared.More leaf)) = leaf.0.serving.seated
 seats_of_step (Ok (prepared.Ready leaf)) = leaf.0.seated
 seats_of_step (Err x) = x.0.0.serving.seated
 
--- Where a table is left to treat, one is treated, or the disk fails, or there is no memory for its content. Where none is, the copy is made, or has no room, or there is no memory.
+-- While a table is left to treat: one is treated, or the disk fails, or memory runs out. Afterwards: the copy is
+-- planned, or the tables make no image, or memory runs out.
 abbrev pub IsTreatingStep : {B : Type 0} → Shutting → List Note → Result (Prepared B) ((Shutting × B) × PrepareFault) → Type 0
 IsTreatingStep x notes (Ok (prepared.More leaf)) = (treated x < length x.serving.seated.tables) × Treats x leaf.0 notes
 IsTreatingStep x notes (Ok (prepared.Ready leaf)) = AllTreated x × (notes ≡ []) × IsCopyOf x leaf.0
@@ -136,7 +141,7 @@ IsTreatingStep x notes (Err ((y, b), DiskFault)) = (treated x < length x.serving
 IsTreatingStep x notes (Err ((y, b), NoRoom)) = AllTreated x × HasNoRoom x × (notes ≡ []) × (y ≡ x)
 IsTreatingStep x notes (Err ((y, b), NoMemory)) = Starves x y notes
 
--- founded tables make no image only where 2^25 rows, cells and writes were added to them
+-- founded tables that make no image had 2^25 rows, cells and writes added to them
 abbrev pub IsCrowded : Seated → Type 0
 IsCrowded x = AreFounded x → 2 ^ 25 ≤ bulk_added x.tables x.seats
 
@@ -152,7 +157,7 @@ StepGoesOn meaning x m (Ok (prepared.Ready leaf)) = (writes : List ℕ → List 
     → GoesOnCopying x.serving.seated leaf.0 m (meaning leaf.1)
 StepGoesOn meaning x m (Err ((y, b), fault)) = GoesOn x.serving y.serving m (meaning b)
 
--- a fault of the disk is told only where the count of its faults rose
+-- DiskFault is answered only if the count of the disk's faults rose
 abbrev pub RoseStep : {B : Type 0} → ℕ → ℕ → Result (Prepared B) ((Shutting × B) × PrepareFault) → Type 0
 RoseStep earlier now (Ok step) = ⊤
 RoseStep earlier now (Err (leaf, DiskFault)) = Rose earlier now

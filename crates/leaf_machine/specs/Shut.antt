@@ -1,4 +1,4 @@
--- The tables of a leaf that are shut, as it holds them for its drain.
+-- The shut tables of a leaf, as it holds them for its drain.
 use Rattle.std.specs.Prelude.{◌≡◌, ◌≤◌, ℕ, Bool, true, false, List, [], ◌∷◌, map, slice_get, Option, Some, None}
 use Rattle.std.specs.List.{AllZip}
 use Rattle.table_state.specs.declared.parts.Parts.{Parts}
@@ -9,30 +9,31 @@ use Rattle.leaf_table.specs.Turns.{is_founded}
 use Rattle.leaf_table.specs.Calls.{base_seen, state_seen}
 use Rattle.leaf_steward.specs.Seated.{Seated, AtEach}
 
--- what the parts of a table make, of which the disk is owed nothing
+-- the table that parts make up, without a pending record
 abbrev pub table_of_parts : Parts → Table
 table_of_parts p = record { contents = contents_of p; writes = p.writes; pending = None; store = no_store }
 
 abbrev pub drained_table : DrainTable → Table
 drained_table t = table_of_parts t.parts
 
--- the tables of these names and contents, as a drain takes them
+-- these names and contents are those of the tables that a drain takes
 pub record AreTablesOf (names : List (List ℕ)) (closed : List Table) (tables : List DrainTable) : Type 0 where
   pub names_are : map (λ (t : DrainTable). t.name) tables ≡ names
   pub closed_are : map drained_table tables ≡ closed
 
--- the names of those that are sealed, the content of all, how many columns the rows of each come to at most, and whether the last of them is not sealed yet
+-- the names of the sealed tables, the contents of all, a bound on the columns of each, and whether the last is not
+-- sealed yet
 pub record ShutState : Type 0 where
   pub names : List (List ℕ)
   pub closed : List Table
   pub columns : List ℕ
   pub waits : Bool
 
--- no table comes to more columns than before
+-- no bound on a table's columns rose
 abbrev pub AreNoMore : List ℕ → List ℕ → Type 0
 AreNoMore now before = AllZip (λ (n m : ℕ). n ≤ m) now before
 
--- of shut tables that are founded: each comes to at most a column for each row and each cell that its writes add
+-- shut tables that are founded have at most one column for each row and each cell that their writes add
 abbrev pub AreFewShut : Seated → List ℕ → Type 0
 AreFewShut x columns = AtEach (λ place t v. is_founded (base_seen t) ≡ true → (n : ℕ) → slice_get columns place ≡ Some n → n ≤ added_count (state_seen (base_seen t) v).writes) x
 
@@ -44,7 +45,7 @@ abbrev pub last_columns : Option Table → List ℕ
 last_columns None = []
 last_columns (Some t) = columns_most t.store ∷ []
 
--- how many columns each of them has
+-- the number of columns of each table
 abbrev pub drained_columns : List DrainTable → List ℕ
 drained_columns tables = map (λ (t : DrainTable). columns_count t.parts.blocks) tables
 

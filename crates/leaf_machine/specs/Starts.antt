@@ -22,7 +22,7 @@ use Rattle.leaf_machine.specs.declared.faults.StartFault.{StartFault}
 use Rattle.leaf_machine.specs.declared.faults.StartFault.TheVariants.{RegionFault, DiskFault, DiskDamaged, Stranger, NoMemory, Worn}
 use Rattle.leaf_machine.specs.States.{Serving, SeatsTold}
 
--- how a refusal of the opening is told
+-- the refusal of a start for this refusal of the opening
 abbrev pub told_of : OpenFault → StartFault
 told_of found.RegionFault = RegionFault
 told_of found.DiskFault = DiskFault
@@ -30,12 +30,12 @@ told_of found.DiskDamaged = DiskDamaged
 told_of (found.Stranger name) = Stranger name
 told_of found.NoMemory = NoMemory
 
--- the berth that a start hands back
+-- the berth that a start gives back
 abbrev pub berth_after : {B X Y V W : Type 0} → Result ((X × B) × V) ((Y × B) × W) → B
 berth_after (Ok x) = x.0.1
 berth_after (Err x) = x.0.1
 
--- the seats that it hands back
+-- the seats that a start gives back
 abbrev pub seats_after : {B V W : Type 0} → Result ((Serving × B) × V) ((Seated × B) × W) → Seated
 seats_after (Ok x) = x.0.0.seated
 seats_after (Err x) = x.0.0
@@ -52,7 +52,8 @@ IsOpenedNote (Flushed n) = ⊥
 IsOpenedNote (Closed n) = ⊥
 IsOpenedNote Handed = ⊥
 
--- A start opens each table with what it finds; or it is refused, before anything is touched since a seat is worn, or for what it finds, and makes no entry.
+-- A start opens each table with what it finds. Or it is refused and makes no entry: for a worn seat before anything is
+-- touched, or for what it finds.
 abbrev pub IsStart : {B : Type 0} → Seated → B → List Note → Result ((Serving × B) × Way) ((Seated × B) × StartFault) → Type 0
 IsStart x berth notes (Ok ((up, b), way)) = AtEach (λ place t v. IsFresh v) x × (up.seated.names ≡ x.names) × (up.seated.tables ≡ x.tables) × (up.owing.log.owed ≡ None)
     × EachNoted IsOpenedNote 0 (length x.tables) notes
@@ -60,7 +61,7 @@ IsStart x berth notes (Err ((y, b), Worn table)) = IsFirstWorn x table × (y ≡
 IsStart x berth notes (Err ((y, b), Stranger name)) = AtEach (λ place t v. IsFresh v) x × (y ≡ x) × (notes ≡ []) × IsName name
 IsStart x berth notes (Err ((y, b), fault)) = AtEach (λ place t v. IsFresh v) x × (y ≡ x) × (notes ≡ [])
 
--- where the berth tells its contents: what was found, or why it was refused
+-- what was found, over a berth that tells its contents
 pub record CameUp (names : List (List ℕ)) (old new : Meaning) (notes : List Note) (up : Serving) (way : Way) : Type 0 where
   pub served : OpenedLeaf
   pub started : Started names old new served way
@@ -71,19 +72,19 @@ abbrev pub IsStartRefused : List (List ℕ) → Meaning → Meaning → StartFau
 IsStartRefused names old new (Worn table) = ⊤
 IsStartRefused names old new fault = (f : OpenFault) × (fault ≡ told_of f) × IsOpeningRefusal names old new f
 
--- a refusal that the bytes decide is the one that they decide; the disk is told to fail only where the region gave no tables
+-- a refusal that the bytes decide is the one that they decide; DiskFault is answered only if the region gave no tables
 abbrev pub IsExactRefusal : List (List ℕ) → Pair → StartFault → Type 0
 IsExactRefusal names held DiskFault = GoesToLog names held.region
 IsExactRefusal names held DiskDamaged = IsAnswer names held.region held.disk (Err found.DiskDamaged)
 IsExactRefusal names held (Stranger name) = IsAnswer names held.region held.disk (Err (found.Stranger name))
 IsExactRefusal names held _ = ⊤
 
--- what a start answers is what the bytes decide, unless a seat is worn, the berth fails or memory runs out
+-- a start answers what the bytes decide, unless a seat is worn, the berth fails or memory runs out
 abbrev pub IsExactStart : {B : Type 0} → List (List ℕ) → Pair → Result ((Serving × B) × Way) ((Seated × B) × StartFault) → Type 0
 IsExactStart names held (Ok x) = IsAnswer names held.region held.disk (Ok x.1)
 IsExactStart names held (Err x) = IsExactRefusal names held x.1
 
--- what becomes of a leaf at rest that starts
+-- the leaf after a start: it runs, or it rests on
 abbrev pub StartGoesOn : {B : Type 0} → (B → Meaning) → Seated → Meaning → NamedStates → (List ℕ → List Write) → Option LogRecord
     → Result ((Serving × B) × Way) ((Seated × B) × StartFault) → Type 0
 StartGoesOn meaning x m others least next (Ok ((up, b), way)) =

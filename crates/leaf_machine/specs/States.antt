@@ -1,4 +1,4 @@
--- What holds of a leaf in each of its states.
+-- The states of a leaf, and what holds in each.
 use Rattle.std.specs.Prelude.{◌≡◌, ◌≢◌, ◌⊎◌, ℕ, suc, ◌+◌, ◌-◌, ◌<◌, ◌≤◌, Bool, false, List, [], ◌∷◌, length, slice_get, Option, Some, IfSome, IsSome, IsTrue, if◌then◌else◌}
 use Rattle.leaf_model.specs.declared.writes.Write.{Write}
 use Rattle.row_records.specs.Records.{LogRecord}
@@ -21,8 +21,8 @@ pub record Serving : Type 0 where
   pub seated : Seated
   pub owing : Owing
 
--- A leaf that shuts its tables. So many of them, from the first on, are shut, with this content; where it waits, the last of those is not treated yet: its record is owed, or its tail is not
--- sealed.
+-- A leaf that shuts its tables. The first ones are shut, with these contents. `waits`: the last of these is not treated
+-- yet, as its record is owed or its tail is not sealed.
 pub record Shutting : Type 0 where
   pub serving : Serving
   pub closed : List Table
@@ -33,31 +33,31 @@ pub record Copying : Type 0 where
   pub seated : Seated
   pub drain : DrainState
 
--- how many tables are shut, whole in the log and sealed
+-- the number of tables that are shut, whole in the log and sealed
 abbrev pub treated : Shutting → ℕ
 treated x = if x.waits then length x.closed - 1 else length x.closed
 
--- ---- how many columns tables have at least, and at most
+-- ---- bounds on the columns of tables
 
--- of tables as their seats have seen them last
+-- the least number of columns of all tables, as their seats have last seen them
 abbrev pub columns_seen : List Shared → List SeatView → ℕ
 columns_seen [] vs = 0
 columns_seen (t ∷ ts) [] = 0
 columns_seen (t ∷ ts) (v ∷ vs) = least_columns (held (state_seen (base_seen t) v)).rows + columns_seen ts vs
 
--- the rows and cells that their writes add
+-- the number of rows and cells that the writes of all tables add
 abbrev pub columns_added : List Shared → List SeatView → ℕ
 columns_added [] vs = 0
 columns_added (t ∷ ts) [] = 0
 columns_added (t ∷ ts) (v ∷ vs) = added_count (state_seen (base_seen t) v).writes + columns_added ts vs
 
--- the same, with how many writes they are
+-- the same, and the number of these writes
 abbrev pub bulk_added : List Shared → List SeatView → ℕ
 bulk_added [] vs = 0
 bulk_added (t ∷ ts) [] = 0
 bulk_added (t ∷ ts) (v ∷ vs) = length (state_seen (base_seen t) v).writes + added_count (state_seen (base_seen t) v).writes + bulk_added ts vs
 
--- ---- what region and disk hold, where the tables are founded
+-- ---- what region and disk hold of founded tables
 
 abbrev pub DownStands : Seated → Meaning → Type 0
 DownStands x m = AreFounded x → IsTrue m.tells × ((others : NamedStates) × (least : List ℕ → List Write) × (next : Option LogRecord) × Rests (watched_by x) others least next m)
@@ -68,18 +68,18 @@ UpStands x m = AreFounded x.seated → IsTrue m.tells × ((writes : List ℕ →
 abbrev pub CopyStands : Copying → Meaning → Type 0
 CopyStands x m = AreFounded x.seated → IsTrue m.tells × ((writes : List ℕ → List Write) × Copies (watched_by x.seated) x.drain writes m)
 
--- ---- what every leaf is
+-- ---- invariants of the states
 
--- each table is shut
+-- at rest: each table is shut
 pub record IsDown (x : Seated) (m : Meaning) : Type 0 where
   pub shut : AtEach (λ place t v. SeesShut t v) x
   pub stands : DownStands x m
 
--- the table whose record is owed has room for one entry more
+-- the seat at the table whose record is owed may make n more entries
 abbrev pub SparesOwed : Seated → Owing → ℕ → Type 0
 SparesOwed x o n = IfSome o.log.owed (λ r. AtPlace (Spares n) x o.owner)
 
--- each table is open
+-- serving: each table is open
 pub record IsUp (x : Serving) (m : Meaning) : Type 0 where
   pub opened : AtEach (λ place t v. SeesOpen t v) x.seated
   pub spares : AtEach (λ place t v. Spares 3 t v) x.seated
@@ -87,17 +87,18 @@ pub record IsUp (x : Serving) (m : Meaning) : Type 0 where
   pub owed : IsOwed x.seated x.owing
   pub stands : UpStands x m
 
--- a content that was handed out when its table was shut
+-- the content of a table when it was shut
 pub record IsContent (s : HistoryState) (t : Table) : Type 0 where
   pub contents : t.contents ≡ held s
   pub writes : t.writes ≡ write_count s
 
--- a table that is shut, and all of which was taken
+-- the table is shut, and all its writes were taken
 pub record IsShutAndTaken (s : HistoryState) : Type 0 where
   pub shut : s.live ≡ false
   pub taken : s.taken ≡ write_count s
 
--- The first tables are shut, and their content is at hand; the others are open. What is owed is of the last that was shut, or is owed since before the first was.
+-- Shutting: the first tables are shut, and their contents are at hand; the others are open. The owed record is of the
+-- last table that was shut, or it is owed since before the first was.
 pub record IsShutting (x : Shutting) (m : Meaning) : Type 0 where
   pub few : length x.closed ≤ length x.serving.seated.tables
   pub opened : AtEach (λ place t v. length x.closed ≤ place → SeesOpen t v) x.serving.seated
@@ -113,7 +114,7 @@ pub record IsShutting (x : Shutting) (m : Meaning) : Type 0 where
   pub owes : IsSome x.serving.owing.log.owed → IsTrue x.waits ⊎ (x.closed ≡ [])
   pub stands : UpStands x.serving m
 
--- each table is shut
+-- copying: each table is shut
 pub record IsCopying (x : Copying) (m : Meaning) : Type 0 where
   pub shut : AtEach (λ place t v. SeesShut t v) x.seated
   pub spares : AtEach (λ place t v. Spares 1 t v) x.seated
@@ -122,11 +123,12 @@ pub record IsCopying (x : Copying) (m : Meaning) : Type 0 where
 
 -- ---- what a crash may leave at each moment of a call
 
--- the seats before and behind, and the berth
+-- told from the seats before to the seats after, over the berth
 abbrev pub SeatsTold : NamedStates → Seated → Seated → Meaning → Meaning → Type 0
 SeatsTold others x y m m' = Told others (watched_by x) (watched_by y) m m'
 
--- The leaf runs on: whatever its log had, it has a log again, and at each moment a crash leaves what belongs to its tables.
+-- The leaf runs on: if it had a log it has one again, and at each moment all that a crash may leave belongs to its
+-- tables.
 pub record GoesOnServing (x y : Serving) (m m' : Meaning) : Type 0 where
   pub later : List ℕ → List Write
   pub runs : Runs (watched_by y.seated) y.owing.owner y.owing.log later m'
@@ -135,14 +137,15 @@ pub record GoesOnServing (x y : Serving) (m m' : Meaning) : Type 0 where
 abbrev pub GoesOn : Serving → Serving → Meaning → Meaning → Type 0
 GoesOn x y m m' = (writes : List ℕ → List Write) → Runs (watched_by x.seated) x.owing.owner x.owing.log writes m → GoesOnServing x y m m'
 
--- it rests, whatever stands of names that it does not have, and at each moment a crash leaves what belongs to its tables
+-- the leaf is at rest, whatever the base of names that it does not have, and at each moment all that a crash may leave
+-- belongs to its tables
 pub record RestsOn (x y : Seated) (m m' : Meaning) : Type 0 where
   pub least : List ℕ → List Write
   pub next : Option LogRecord
   pub rests : (others : NamedStates) → ((name : List ℕ) → IsFoundation (others name)) → Rests (watched_by y) others least next m'
   pub told : (others : NamedStates) → SeatsTold others x y m m'
 
--- it copies on
+-- the leaf copies on, and at each moment all that a crash may leave belongs to its tables
 pub record GoesOnCopying (x : Seated) (y : Copying) (m m' : Meaning) : Type 0 where
   pub writes : List ℕ → List Write
   pub copies : Copies (watched_by y.seated) y.drain writes m'

@@ -1,4 +1,4 @@
--- All that comes of the steps of a flush.
+-- All that a flush does.
 use Rattle.std.specs.Prelude.{◌≡◌, ℕ, List, IsTrue}
 use Rattle.berth_face.specs.Berth.{Meaning, Passes}
 use Rattle.berth_face.specs.Causes.{Rose}
@@ -10,7 +10,7 @@ use Rattle.leaf_machine.specs.declared.up.FlushReply.TheVariants.{DiskFault}
 use Rattle.leaf_machine.specs.States.{Serving, IsUp, GoesOn}
 use Rattle.leaf_machine.specs.Flushes.{Flushes}
 
--- the leaf before and behind, and the berth
+-- the leaf before and after a flush, and its berth
 pub record FlushGoes (table : ℕ) (x y : Serving) (notes : List Note) (reply : FlushReply) (m m' : Meaning) : Type 0 where
   pub flushes : Flushes table x y notes reply
   pub up : IsUp y m'

@@ -22,7 +22,8 @@ use std::marker::Model;
 use std::sync::Wait;
 use std::thread::Threads;
 
-/// A leaf that copies its tables into the region. It borrows them, all of which are shut, and owns its steward's seats and its berth. Contracts see them.
+/// A leaf that copies its tables into the region. It borrows the tables, which are all shut, and owns the steward's
+/// seats, the plan of the copy and the berth. Contracts see these.
 #[derive(Drop)]
 pub struct Copying<'t, B: Berth> {
     pub(crate) seats: Seats<'t>,
@@ -40,7 +41,7 @@ impl<'t, B: Berth> Model for Copying<'t, B> {
     ghost invariant = { λ leaf. state.IsCopying (record { seated = leaf.seats; drain = leaf.drain }) (B.meaning leaf.berth) };
 }
 
-/// A leaf with more to be copied, or at rest with all of it handed over.
+/// After a step of the copy: a leaf that copies on, or a leaf at rest that handed all tables over.
 #[derive(Drop)]
 pub enum Copied<'t, B: Berth> {
     More(Copying<'t, B>),
@@ -48,8 +49,8 @@ pub enum Copied<'t, B: Berth> {
 }
 
 impl<'t, B: Berth> Copying<'t, B> {
-    /// Makes one step of the copy: the region is begun; a column is written and freed; the directory is written; the flag is written, and each table is noted
-    /// as handed over. A fault leaves the leaf at rest. It takes no memory.
+    /// Makes one step of the copy: begins the region; writes a column and frees it; writes the directory; or writes the
+    /// flag and notes each table as handed over. After a fault of the region the leaf is at rest. It takes no memory.
     pub fn step<R: Wait + Threads + Sync, G: Gate>(
         self,
         rt: &R,
@@ -58,16 +59,18 @@ impl<'t, B: Berth> Copying<'t, B> {
     ) -> Result<Copied<'t, B>, (Down<'t, B>, RegionFault)>
         ensures step { IsCopyStep self.entry.0 notes.new result }
         ensures made { Makes (B.meaning self.entry.1).clock (B.meaning (berth_of_copy result)).clock self.entry.0.seated notes.new (seats_of_copy result) }
-        // At every moment since the call began a crash leaves what belongs to the tables as they stood then.
+        // At each moment since the call began, all that a crash may leave belongs to the tables as they stood then.
         ensures crash { IsTrue (B.meaning self.entry.1).tells → AreFounded self.entry.0.seated → CopyGoesOn B.meaning self.entry.0 (B.meaning self.entry.1) result }
-        // What the region is, once the copy is over.
+        // What the region holds once the copy is over.
         ensures region { IsTrue (B.meaning self.entry.1).tells → AreFounded self.entry.0.seated → (writes : List ℕ → List Write)
             → Copies (watched_by self.entry.0.seated) self.entry.0.drain writes (B.meaning self.entry.1) → LeavesRegion B.meaning self.entry.0 result }
-        // What is still held and the region together never are longer than the image, and while a column is written at most the longest column more.
+        // The columns that are still held and the region together are never longer than the image; while a column is
+        // written, by at most the longest column.
         ensures room { IsTrue (B.meaning self.entry.1).tells → AreFounded self.entry.0.seated → IsInImage B.meaning self.entry.0 result }
         ensures inside { IsTrue (B.meaning self.entry.1).tells → AreFounded self.entry.0.seated → self.entry.0.drain.next ≢ next.Begin
             → Meanwhile (IsInRoom self.entry.0.drain) (B.meaning self.entry.1) (B.meaning (berth_of_copy result)) }
-        // At every moment of the first step the region is a front of what it was, as one that is being cut, or has at most 16 bytes.
+        // At each moment of the first step the region is a prefix of what it was, which is being cut, or has at most 16
+        // bytes.
         ensures begun { IsTrue (B.meaning self.entry.1).tells → self.entry.0.drain.next ≡ next.Begin
             → Meanwhile (IsCutOrBegun (B.meaning self.entry.1).held.region) (B.meaning self.entry.1) (B.meaning (berth_of_copy result)) }
         ensures time { Passes (B.meaning self.entry.1) (B.meaning (berth_of_copy result)) }
@@ -97,7 +100,7 @@ impl<'t, B: Berth> Copying<'t, B> {
         }
     }
 
-    /// Gives the copy up. What is left of the region is closed. No entry is made: each table is shut.
+    /// Gives the copy up. The region that is left is closed. No entry is made: each table is shut.
     pub fn kill(self) -> Down<'t, B>
         ensures leaf { result ≡ (self.entry.0.seated, self.entry.1) }
         ensures crash { (writes : List ℕ → List Write) → AreFounded self.entry.0.seated → Copies (watched_by self.entry.0.seated) self.entry.0.drain writes (B.meaning self.entry.1)
@@ -109,7 +112,7 @@ impl<'t, B: Berth> Copying<'t, B> {
         }
     }
 
-    /// Gives the berth back as it is. No entry is made.
+    /// Gives the berth back as it is, without an entry.
     pub fn abandon(self) -> B
         ensures { result ≡ self.entry.1 }
     {

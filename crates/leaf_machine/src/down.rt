@@ -19,7 +19,8 @@ use leaf_table::{Seat, SharedTable};
 use std::alloc::AllocError;
 use std::marker::Model;
 
-/// A leaf at rest. It borrows its tables, all of which are shut, and owns its steward's seats and its berth. Contracts see the seats and the berth.
+/// A leaf at rest. It borrows its tables, which are all shut, and owns the steward's seats and the berth. Contracts see
+/// the seats and the berth.
 #[derive(Drop)]
 pub struct Down<'t, B: Berth> {
     pub(crate) seats: Seats<'t>,
@@ -38,8 +39,8 @@ impl<'t, B: Berth> Model for Down<'t, B> {
 }
 
 impl<'t, B: Berth> Down<'t, B> {
-    /// A leaf with these tables, all shut, and the seats of their steward, which has made no entry yet. Where the tables are founded, a leaf with their base
-    /// may begin over the berth.
+    /// A leaf at rest over shut tables, with unused seats of their steward. If the tables are founded, a leaf with
+    /// their base has to be able to begin over the berth.
     pub fn new(
         names: Names,
         tables: &'t [SharedTable],
@@ -62,7 +63,8 @@ impl<'t, B: Berth> Down<'t, B> {
         Down { seats, berth }
     }
 
-    /// Lets the steward's seat of that table and a caller's see what the other has seen. It makes no entry and takes no memory.
+    /// Lets the steward's seat at table `table` and a caller's seat learn what the other has seen. It makes no entry
+    /// and takes no memory.
     pub fn meet(&mut self, table: u32, seat: &mut Seat) -> Result<(), AllocError>
         requires table { table < length self.old.0.tables }
         requires seat { AtPlace (λ t v. IsSeatOf seat.old t.site × LegalFrom (is_founded (base_seen t)) (start_of (base_seen t)) (seen_of seat.old)) self.old.0 table }
@@ -78,7 +80,7 @@ impl<'t, B: Berth> Down<'t, B> {
         self.seats.meet(table, seat)
     }
 
-    /// Gives the berth back as it is. No entry is made.
+    /// Gives the berth back as it is, without an entry.
     pub fn abandon(self) -> B
         ensures { result ≡ self.entry.1 }
     {

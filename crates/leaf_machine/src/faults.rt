@@ -1,27 +1,27 @@
-// Why a leaf does not start.
+// Why a start is refused.
 ghost use Rattle.std.specs.Prelude.{◌≡◌};
 ghost use Rattle.leaf_machine.specs.Starts.{told_of};
 
 use leaf_model::Text;
 use leaf_opening::OpenFault;
 
-/// Why a start was refused.
+/// Why a start is refused.
 #[derive(Debug, Drop)]
 pub enum StartFault {
     /// A call on the region failed.
     RegionFault,
     /// A call on the disk failed.
     DiskFault,
-    /// An open gate of the log is followed by no record with a gate after it, or by one that takes a table past 2^40 rows.
+    /// An open gate of the log has no record and gate after it, or a record takes a table past 2^40 rows.
     DiskDamaged,
-    /// The image, or the log, names a table that the leaf does not have.
+    /// The image or the log names a table that the leaf does not have.
     Stranger(Text),
     NoMemory,
-    /// The steward's seat of this table has seen 2^62 entries.
+    /// The steward's seat at this table has seen 2^62 entries.
     Worn(u32),
 }
 
-/// A refusal of the opening, as one of the start.
+/// The refusal of a start for this refusal of the opening.
 pub(crate) fn told(fault: OpenFault) -> StartFault
     ensures { result ≡ told_of fault }
 {

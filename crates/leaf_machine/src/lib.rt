@@ -1,4 +1,4 @@
-//! A leaf over tables that callers share: at rest, serving them, shutting them, or copying them into its region.
+//! A leaf over tables that callers share: at rest, serving its tables, shutting them, or copying them into its region.
 #![tactic(auto)]
 
 mod copying;

@@ -29,14 +29,15 @@ use std::marker::Model;
 use std::sync::Wait;
 use std::thread::Threads;
 
-/// Why a step did not end. It may be made again.
+/// Why a step failed. It may be made again.
 #[derive(Clone, Copy, Debug, PartialEq, Eq)]
 pub enum PrepareFault {
-    /// A call on the disk failed. What was taken stays owed to the log.
+    /// A call on the disk failed. The log is owed what was taken.
     DiskFault,
-    /// The tables make no image: it would have at least 2^63 bytes, or a table too many writes or blocks, or a block too many columns.
+    /// The tables make no image: it would have 2^63 bytes or more, or a table has too many writes or blocks, or a block
+    /// too many columns.
     NoRoom,
-    /// There was no memory to seal a table or for the copy.
+    /// Memory ran out, to seal a table or to plan the copy.
     NoMemory,
 }
 
@@ -51,19 +52,20 @@ impl From<PlanFault> for PrepareFault {
     }
 }
 
-/// A leaf with tables still to be treated, or ready to be copied.
+/// After a step: a leaf that shuts on, or one that is ready to copy.
 #[derive(Drop)]
 pub enum Prepared<'t, B: Berth> {
     More(Preparing<'t, B>),
     Ready(Copying<'t, B>),
 }
 
-/// A leaf that shuts its tables one by one. It borrows them, and owns its steward's seats, what the shut ones held, its log and its berth. Contracts see them.
+/// A leaf that shuts its tables one by one. It borrows the tables, and owns the steward's seats, the contents of the
+/// shut tables, the log and the berth. Contracts see these.
 #[derive(Drop)]
 pub struct Preparing<'t, B: Berth> {
     pub(crate) seats: Seats<'t>,
     pub(crate) log: StewardLog,
-    /// The tables that are shut, from the first on.
+    /// The contents of the shut tables, which are the first ones.
     pub(crate) tables: ShutTables,
     pub(crate) berth: B,
 }
@@ -84,8 +86,8 @@ impl<'t, B: Berth> Model for Preparing<'t, B> {
 }
 
 impl<'t, B: Berth> Preparing<'t, B> {
-    /// Does nothing. It says what always holds of a leaf's seats, that no more tables are shut than there are, that the
-    /// first are, and that a leaf with a shut table that is not treated has shut one.
+    /// No-op; states the invariant: the seats are valid, at most all tables are shut, the first ones are, and `waits`
+    /// implies that one is.
     pub fn shuts(&self)
         ensures some { IsTrue self.now.0.waits → 0 < length self.now.0.closed }
         ensures within { length self.now.0.closed ≤ length self.now.0.serving.seated.tables }
@@ -97,7 +99,8 @@ impl<'t, B: Berth> Preparing<'t, B> {
         let _tables = &self.tables;
     }
 
-    /// Lets the steward's seat of that table and a caller's see what the other has seen. It makes no entry and takes no memory.
+    /// Lets the steward's seat at table `table` and a caller's seat learn what the other has seen. It makes no entry
+    /// and takes no memory.
     pub fn meet(&mut self, table: u32, seat: &mut Seat) -> Result<(), AllocError>
         requires table { table < length self.old.0.serving.seated.tables }
         requires seat { AtPlace (λ t v. IsSeatOf seat.old t.site × LegalFrom (is_founded (base_seen t)) (start_of (base_seen t)) (seen_of seat.old)) self.old.0.serving.seated table }
@@ -120,8 +123,9 @@ impl<'t, B: Berth> Preparing<'t, B> {
         self.seats.meet(table, seat)
     }
 
-    /// Settles what the log is owed and notes its table as flushed. Then it treats the next table: it shuts it, settles what it accepted since the last
-    /// taking, notes it as closed and as flushed, and seals its tail. Where all tables are treated it plans the copy of their columns into the region.
+    /// Settles the record that the log is owed, and notes its table as flushed. Then it treats the next table: it shuts
+    /// it, brings the record of its untaken writes to the disk, notes it as closed and as flushed, and seals its tail.
+    /// Once all tables are treated, it plans the copy of their columns into the region.
     pub fn step<R: Wait + Threads + Sync, G: Gate>(
         self,
         rt: &R,
@@ -131,7 +135,7 @@ impl<'t, B: Berth> Preparing<'t, B> {
     ) -> Result<Prepared<'t, B>, (Preparing<'t, B>, PrepareFault)>
         ensures step { IsTreatingStep self.entry.0 notes.new result }
         ensures made { Makes (B.meaning self.entry.1).clock (B.meaning (berth_of_step result)).clock self.entry.0.serving.seated notes.new (seats_of_step result) }
-        // At every moment since the call began a crash leaves what belongs to the tables as they stood then.
+        // At each moment since the call began, all that a crash may leave belongs to the tables as they stood then.
         ensures crash { IsTrue (B.meaning self.entry.1).tells → AreFounded self.entry.0.serving.seated → StepGoesOn B.meaning self.entry.0 (B.meaning self.entry.1) result }
         ensures region { IsTrue (B.meaning self.entry.1).tells → (B.meaning (berth_of_step result)).held.region ≡ (B.meaning self.entry.1).held.region }
         ensures time { Passes (B.meaning self.entry.1) (B.meaning (berth_of_step result)) }
@@ -150,7 +154,8 @@ impl<'t, B: Berth> Preparing<'t, B> {
         }
     }
 
-    /// Shuts each open table and notes it as closed, and drops what they all held. It calls nothing of the berth and takes no memory.
+    /// Shuts each open table, notes it as closed, and drops all contents. It makes no call on the berth and takes no
+    /// memory.
     pub fn kill<R: Wait + Threads + Sync, G: Gate>(
         self,
         rt: &R,
@@ -175,14 +180,14 @@ impl<'t, B: Berth> Preparing<'t, B> {
         Down { seats, berth }
     }
 
-    /// Gives the berth back as it is. No entry is made.
+    /// Gives the berth back as it is, without an entry.
     pub fn abandon(self) -> B
         ensures { result ≡ self.entry.1 }
     {
         self.berth
     }
 
-    // The place of the first table that is open.
+    // The index of the first open table.
     fn first_open(&self) -> u32
         ensures place { result ≡ length self.now.0.closed }
         ensures few { result ≤ length self.now.0.serving.seated.tables }
@@ -202,7 +207,7 @@ impl<'t, B: Berth> Preparing<'t, B> {
         !self.tables.waits() && self.tables.len() == count as usize
     }
 
-    // Plans the copy of tables that are all treated.
+    // Plans the copy, once all tables are treated.
     fn copied(self, alloc: Global) -> Result<Prepared<'t, B>, (Preparing<'t, B>, PrepareFault)>
         requires all { IsAllTreated self.0 }
         ensures step { IsTreatingStep self.entry.0 [] result }
@@ -238,7 +243,7 @@ impl<'t, B: Berth> Preparing<'t, B> {
         }
     }
 
-    // Treats one table more.
+    // Treats one more table.
     fn treat_next<R: Wait + Threads + Sync, G: Gate>(
         &mut self,
         rt: &R,
@@ -280,7 +285,7 @@ impl<'t, B: Berth> Preparing<'t, B> {
         }
     }
 
-    // Settles what the log is owed, and notes its table as flushed.
+    // Settles the record that the log is owed, and notes its table as flushed.
     fn settle<R: Wait + Threads + Sync, G: Gate>(
         &mut self,
         rt: &R,
@@ -298,7 +303,7 @@ impl<'t, B: Berth> Preparing<'t, B> {
             .settle_owed(rt, &mut self.seats, &mut self.berth, gate, notes)
     }
 
-    // Shuts the next table and brings its record onto the disk, where nothing is owed.
+    // Shuts the next table, and brings its record to the disk. Nothing is owed before.
     fn shut_next<R: Wait + Threads + Sync, G: Gate>(
         &mut self,
         rt: &R,

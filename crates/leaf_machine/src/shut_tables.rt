@@ -1,4 +1,4 @@
-// The tables of a leaf that are shut: sealed and taken apart one by one, as a drain takes them.
+// The shut tables of a leaf: each is sealed and taken apart, as a drain needs it.
 ghost use Rattle.std.specs.Prelude.{◌≡◌, ◌<◌, ◌++◌, ◌∷◌, [], length, None, true, false, OnOk, OnErr, vec_len, vec_capacity};
 ghost use Rattle.std.specs.List.{AllByRecursion};
 ghost use Rattle.row_blocks.specs.Held.{columns_count};
@@ -12,7 +12,7 @@ use std::alloc::{AllocError, Global};
 use std::marker::Model;
 use table_state::TableState;
 
-/// The tables that are sealed, and behind them one whose tail is not. None of them owes the log anything that it still holds.
+/// The tables that are sealed, and maybe one more whose tail is not. None has a pending record.
 #[derive(Drop)]
 pub(crate) struct ShutTables {
     sealed: Vec<DrainTable>,
@@ -51,7 +51,7 @@ impl ShutTables {
         }
     }
 
-    /// How many tables are shut.
+    /// The number of shut tables.
     pub fn len(&self) -> usize
         ensures { result ≡ length self.now.closed }
     {
@@ -61,14 +61,14 @@ impl ShutTables {
         }
     }
 
-    /// Whether the last of them is not sealed.
+    /// Whether the last table is not sealed yet.
     pub fn waits(&self) -> bool
         ensures { result ≡ self.now.waits }
     {
         self.last.is_some()
     }
 
-    /// Puts a table behind the others, all of which are sealed.
+    /// Appends a table. All others are sealed.
     pub fn put(&mut self, table: TableState)
         requires sealed { self.old.waits ≡ false }
         requires taken { table.pending ≡ None }
@@ -80,7 +80,7 @@ impl ShutTables {
         self.last = Some(table);
     }
 
-    /// Seals the tail of the last table, whose name this is. Where there is no memory, it waits on.
+    /// Seals the tail of the last table, which has this name. Without memory it stays as it is.
     pub fn seal(&mut self, name: &Text) -> Result<(), AllocError>
         requires waits { self.old.waits ≡ true }
         ensures closed { self.new.closed ≡ self.old.closed }
@@ -101,7 +101,7 @@ impl ShutTables {
         Ok(())
     }
 
-    /// All of them, as a drain takes them.
+    /// All tables, as a drain takes them.
     pub fn into_tables(self) -> DrainTables
         requires sealed { self.waits ≡ false }
         ensures are { AreTablesOf self.names self.closed result }
@@ -111,7 +111,7 @@ impl ShutTables {
         DrainTables::of(self.sealed)
     }
 
-    /// Those that a drain gave back.
+    /// The tables that a drain gave back.
     pub fn of(tables: DrainTables) -> ShutTables
         requires parts { AllByRecursion (λ (t : DrainTable). IsParts t.parts) tables }
         ensures are { AreTablesOf result.names result.closed tables }
@@ -125,7 +125,7 @@ impl ShutTables {
     }
 }
 
-// Puts a table whose tail is sealed behind the others, for which there is room.
+// Appends a table with an empty tail. There is room for it.
 #[tactic(auto, using(crate::proofs::ShutLists::sealed_columns))]
 fn keep(sealed: &mut Vec<DrainTable>, name: Text, table: TableState)
     requires room { vec_len sealed.old < vec_capacity sealed.old }

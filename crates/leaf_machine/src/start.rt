@@ -1,4 +1,4 @@
-// How a leaf at rest comes to serve its tables.
+// How a leaf at rest starts to serve its tables.
 ghost use Rattle.std.specs.Prelude.{◌≡◌, ◌≢◌, ℕ, List, Option, IfOk, IfErr, IsTrue, length};
 ghost use Rattle.leaf_model.specs.declared.writes.Write.{Write};
 ghost use Rattle.row_records.specs.Records.{LogRecord};
@@ -26,9 +26,10 @@ use std::sync::Wait;
 use std::thread::Threads;
 
 impl<'t, B: Berth> Down<'t, B> {
-    /// Adopts the tables of the region's image; where the region is none, it reads the log to its end and applies each record to its table. An open flag is
-    /// closed before anything else. A table that neither names is empty. Then each table is opened and noted. Where a seat is worn nothing is touched.
-    /// The disk then reads as it did, but for the first byte of one that had at most one.
+    /// Starts the leaf. It closes an open flag first. It adopts the tables of the region's image, or else reads the log
+    /// to its end and replays each record. A table that neither names is empty. Then it opens and notes each table. If
+    /// a seat is worn, nothing is touched. The disk then reads as before, but for the first byte of a disk of at most
+    /// one byte.
     pub fn start<R: Wait + Threads + Sync, G: Gate>(
         self,
         rt: &R,
@@ -38,18 +39,18 @@ impl<'t, B: Berth> Down<'t, B> {
     ) -> Result<(Up<'t, B>, Way), (Down<'t, B>, StartFault)>
         ensures start { IsStart self.entry.0 self.entry.1 notes.new result }
         ensures made { Makes (B.meaning self.entry.1).clock (B.meaning (berth_after result)).clock self.entry.0 notes.new (seats_after result) }
-        // Where the berth tells its contents: on any bytes, and where they are what a leaf left.
+        // If the berth tells its contents: whatever bytes these are, and in particular what a leaf left.
         ensures came { IsTrue (B.meaning self.entry.1).tells → IfOk result (λ x. CameUp self.entry.0.names (B.meaning self.entry.1) (B.meaning x.0.1) notes.new x.0.0 x.1) }
         ensures way { IsTrue (B.meaning self.entry.1).tells → IfOk result (λ x. IsWayOf (B.meaning self.entry.1).held.region x.1) }
         ensures refused { IsTrue (B.meaning self.entry.1).tells → IfErr result (λ x. IsStartRefused self.entry.0.names (B.meaning self.entry.1) (B.meaning x.0.1) x.1) }
-        // What it answers is what the bytes of region and disk decide.
+        // The answer is the one that the bytes of region and disk decide.
         ensures exact { IsTrue (B.meaning self.entry.1).tells → IsExactStart self.entry.0.names (B.meaning self.entry.1).held result }
-        // The disk reads as it did, or its first byte was written where it had at most one.
+        // The disk reads as before; only of a disk of at most one byte the first byte may have been written.
         ensures disk { IsTrue (B.meaning self.entry.1).tells → BeginsScan (length (B.meaning self.entry.1).held.disk) (B.meaning self.entry.1).held.disk (B.meaning (berth_after result)).held.disk }
-        // At every moment since the call began a crash leaves what belongs to the tables as they stood then.
+        // At each moment since the call began, all that a crash may leave belongs to the tables as they stood then.
         ensures crash { (others : NamedStates) (least : List ℕ → List Write) (next : Option LogRecord) → IsTrue (B.meaning self.entry.1).tells → AreFounded self.entry.0
             → Rests (watched_by self.entry.0) others least next (B.meaning self.entry.1) → StartGoesOn B.meaning self.entry.0 (B.meaning self.entry.1) others least next result }
-        // On every berth.
+        // On each berth, whether it tells its contents or not.
         ensures time { Passes (B.meaning self.entry.1) (B.meaning (berth_after result)) }
         ensures region_cause { IfErr result (λ x. x.1 ≡ fault.RegionFault → Rose (B.meaning self.entry.1).region_faults (B.meaning x.0.1).region_faults) }
         ensures disk_cause { IfErr result (λ x. x.1 ≡ fault.DiskFault → Rose (B.meaning self.entry.1).disk_faults (B.meaning x.0.1).disk_faults) }

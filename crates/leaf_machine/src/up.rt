@@ -27,18 +27,19 @@ use std::marker::Model;
 use std::sync::Wait;
 use std::thread::Threads;
 
-/// What became of a flush.
+/// The answer of a flush.
 #[derive(Clone, Copy, PartialEq, Eq)]
 pub enum FlushReply {
     /// All that the table had accepted is on the disk.
     Flushed,
-    /// A call on the disk failed. What was taken of the table stays owed to the log.
+    /// A call on the disk failed. The log is owed the record, if one was taken.
     DiskFault,
-    /// The steward's seat of the table has seen 2^62 entries. The table is not taken.
+    /// The steward's seat at the table has seen 2^62 entries. The table was not taken.
     Worn,
 }
 
-/// A leaf that serves its tables, all of which are open. It borrows them, and owns its steward's seats, its log and its berth. Contracts see them.
+/// A leaf that serves its tables, which are all open. It borrows them, and owns the steward's seats, the log and the
+/// berth. Contracts see these.
 #[derive(Drop)]
 pub struct Up<'t, B: Berth> {
     pub(crate) seats: Seats<'t>,
@@ -57,7 +58,8 @@ impl<'t, B: Berth> Model for Up<'t, B> {
 }
 
 impl<'t, B: Berth> Up<'t, B> {
-    /// Lets the steward's seat of that table and a caller's see what the other has seen. It makes no entry and takes no memory.
+    /// Lets the steward's seat at table `table` and a caller's seat learn what the other has seen. It makes no entry
+    /// and takes no memory.
     pub fn meet(&mut self, table: u32, seat: &mut Seat) -> Result<(), AllocError>
         requires table { table < length self.old.0.seated.tables }
         requires seat { AtPlace (λ t v. IsSeatOf seat.old t.site × LegalFrom (is_founded (base_seen t)) (start_of (base_seen t)) (seen_of seat.old)) self.old.0.seated table }
@@ -74,8 +76,9 @@ impl<'t, B: Berth> Up<'t, B> {
         self.seats.meet(table, seat)
     }
 
-    /// Settles what the log is owed and notes its table as flushed; then takes what the table accepted since the last taking, settles that,
-    /// and notes the table as flushed. A DiskFault leaves the record owed, and the next flush or drain goes on with it. It takes no memory.
+    /// Settles the record that the log is owed, and notes its table as flushed. Then it takes the writes of table
+    /// `table` that were not taken, brings their record to the disk, and notes the table as flushed. After DiskFault
+    /// the record is owed, and the next flush or drain goes on with it. It takes no memory.
     pub fn flush<R: Wait + Threads + Sync, G: Gate>(
         &mut self,
         rt: &R,
@@ -86,7 +89,7 @@ impl<'t, B: Berth> Up<'t, B> {
         requires table { table < length self.old.0.seated.tables }
         ensures flushes { Flushes table self.old.0 self.new.0 notes.new result }
         ensures made { Makes (B.meaning self.old.1).clock (B.meaning self.new.1).clock self.old.0.seated notes.new self.new.0.seated }
-        // At every moment since the call began a crash leaves what belongs to the tables as they stood then.
+        // At each moment since the call began, all that a crash may leave belongs to the tables as they stood then.
         ensures crash { IsTrue (B.meaning self.old.1).tells → AreFounded self.old.0.seated → GoesOn self.old.0 self.new.0 (B.meaning self.old.1) (B.meaning self.new.1) }
         ensures region { IsTrue (B.meaning self.old.1).tells → (B.meaning self.new.1).held.region ≡ (B.meaning self.old.1).held.region }
         ensures time { Passes (B.meaning self.old.1) (B.meaning self.new.1) }
@@ -104,7 +107,7 @@ impl<'t, B: Berth> Up<'t, B> {
         )
     }
 
-    /// Begins to hand the tables over. Nothing is shut yet, and no entry is made. It takes no memory.
+    /// Begins to shut the tables. None is shut yet, and no entry is made. It takes no memory.
     pub fn prepare(self, alloc: Global) -> Preparing<'t, B>
         ensures { result ≡ (begins self.entry.0, self.entry.1) }
     {
@@ -116,7 +119,7 @@ impl<'t, B: Berth> Up<'t, B> {
         }
     }
 
-    /// Shuts each table and notes it as closed, and drops what they held. It calls nothing of the berth and takes no memory.
+    /// Shuts each table, notes it as closed, and drops its content. It makes no call on the berth and takes no memory.
     pub fn kill<R: Wait + Threads + Sync, G: Gate>(
         self,
         rt: &R,
@@ -140,7 +143,7 @@ impl<'t, B: Berth> Up<'t, B> {
         Down { seats, berth }
     }
 
-    /// Gives the berth back as it is. No entry is made.
+    /// Gives the berth back as it is, without an entry.
     pub fn abandon(self) -> B
         ensures { result ≡ self.entry.1 }
     {
@@ -148,7 +151,7 @@ impl<'t, B: Berth> Up<'t, B> {
     }
 }
 
-/// The steps of a flush, over the parts of a leaf.
+/// A flush, over the parts of a leaf.
 fn flush_table<R: Wait + Threads + Sync, B: Berth, G: Gate>(
     rt: &R,
     seats: &mut Seats,

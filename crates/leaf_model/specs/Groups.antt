@@ -1,4 +1,4 @@
--- What a query answers over a plain list of rows: which rows pass, and the groups of those, by key.
+-- The groups that a query finds in a list of rows: which rows pass, and the groups of those by key.
 use Rattle.std.specs.Prelude.{ℕ, Bool, false, ◌&&◌, not, List, [], ◌∷◌, length, map, fold, filter, ℤ, pos, ◌+ℤ◌, int_le, Option, Some, None, if◌then◌else◌, bytes_eq, filter_map, option_and_then}
 use Rattle.std.specs.List.{list_all}
 use Rattle.std.specs.Int.{int_min, int_max}
@@ -28,7 +28,7 @@ abbrev pub cell_value : List ℕ → List Cell → Option Value
 cell_value name [] = None
 cell_value name (c ∷ cs) = if bytes_eq name c.name then Some c.value else cell_value name cs
 
--- what a row has under a name: `time` is its time
+-- the value of a row under a name: that of its cell, and under `time` its time
 abbrev pub value_of : List ℕ → Row → Option Value
 value_of name row = if bytes_eq name time_name then Some (value.Int row.time) else cell_value name row.cells
 
@@ -36,11 +36,11 @@ value_of name row = if bytes_eq name time_name then Some (value.Int row.time) el
 abbrev pub text_cmp : List ℕ → List ℕ → Ordering
 text_cmp = slice_cmp nat_cmp
 
--- lists of texts compare from the left
+-- lists of texts compare lexicographically
 abbrev pub texts_cmp : List (List ℕ) → List (List ℕ) → Ordering
 texts_cmp = slice_cmp text_cmp
 
--- HAS is no comparison
+-- whether an operator accepts the order of cell and constant; HAS accepts none
 abbrev pub op_accepts : Op → Ordering → Bool
 op_accepts Eq o = is_eq o
 op_accepts Ne o = not (is_eq o)
@@ -77,7 +77,7 @@ key_of (Some (value.Int n)) = key.Int n
 key_of (Some (value.Text t)) = key.Text t
 key_of (Some (value.Set members)) = key.Set members
 
--- what the row has under the names of GROUP BY
+-- the row's value under each name of GROUP BY
 abbrev pub keys_of : Query → Row → List Key
 keys_of q row = map (λ name. key_of (value_of name row)) q.keys
 
@@ -94,11 +94,11 @@ key_cmp (key.Text a) b = Greater
 key_cmp (key.Set a) (key.Set b) = texts_cmp a b
 key_cmp (key.Set a) b = Greater
 
--- lists of keys compare from the left
+-- lists of keys compare lexicographically
 abbrev pub keys_cmp : List Key → List Key → Ordering
 keys_cmp = slice_cmp key_cmp
 
--- an ascending list of distinct key lists, with one more in its place
+-- an ascending list of distinct key lists with k in its place, given how k compares with the first one, j
 abbrev pub with_keys_at : Ordering → List Key → List Key → List (List Key) → List (List Key) → List (List Key)
 with_keys_at Less k j js further = k ∷ j ∷ js
 with_keys_at Equal k j js further = j ∷ js
@@ -113,12 +113,12 @@ abbrev pub distinct_keys : Query → List Row → List (List Key)
 distinct_keys q [] = []
 distinct_keys q (row ∷ rows) = with_keys (keys_of q row) (distinct_keys q rows)
 
--- the integer that stands in a cell
+-- the integer that a value is, if it is one
 abbrev pub as_int : Value → Option ℤ
 as_int (value.Int n) = Some n
 as_int other = None
 
--- the integer cells of a name
+-- the integers that the rows have under a name
 abbrev pub ints_of : List ℕ → List Row → List ℤ
 ints_of name rows = filter_map (λ row. option_and_then as_int (value_of name row)) rows
 
@@ -133,11 +133,11 @@ abbrev pub greatest : List ℤ → Option ℤ
 greatest [] = None
 greatest (n ∷ ns) = Some (fold int_max n ns)
 
--- the number, sum, least and greatest of the integers
+-- the number, sum, least and greatest of integers
 abbrev pub fold_of : List ℤ → Fold
 fold_of ns = record { seen = length ns; sum = int_sum ns; min = least ns; max = greatest ns }
 
--- the integers that an aggregate looks at: COUNT looks at none
+-- the integers that an aggregate folds; COUNT folds none
 abbrev pub agg_ints : Agg → List Row → List ℤ
 agg_ints Count rows = []
 agg_ints (Sum name) rows = ints_of name rows
@@ -145,15 +145,15 @@ agg_ints (Min name) rows = ints_of name rows
 agg_ints (Max name) rows = ints_of name rows
 agg_ints (Avg name) rows = ints_of name rows
 
--- the rows with these keys
+-- the rows with the keys ks
 abbrev pub rows_with : Query → List Key → List Row → List Row
 rows_with q ks rows = filter (λ row. is_eq (keys_cmp (keys_of q row) ks)) rows
 
--- the count of the rows, and a fold for each aggregate
+-- a group: its keys, the number of its rows, and a fold for each aggregate
 abbrev pub group_of : Query → List Key → List Row → Group
 group_of q ks rows = record { keys = ks; count = length rows; folds = map (λ agg. fold_of (agg_ints agg rows)) q.aggs }
 
--- the groups of the passing rows, by key ascending
+-- the groups of the rows that pass, ascending by key
 abbrev pub groups : Query → List Row → List Group
 groups q rows =
     let passing = filter (passes q) rows in

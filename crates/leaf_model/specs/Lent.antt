@@ -1,4 +1,4 @@
--- Rows, cells and values that are lent.
+-- What borrowed rows, cells and values mean.
 use Rattle.std.specs.Prelude.{ℕ, List, [], ◌∷◌, map, Option, Some, None, option_map}
 use Rattle.std.specs.Borrow.{Bor}
 use Rattle.leaf_model.specs.declared.rows.Value.{Value}
@@ -21,9 +21,9 @@ use Rattle.leaf_model.specs.declared.lent_rows.LentRows.TheVariants as rows
 use Rattle.leaf_model.specs.Reading.{texts_at, rows_at}
 use Rattle.leaf_model.specs.Fronts.{front_of, any_cells_at}
 
--- ---- what is lent
+-- ---- what borrowed values mean
 
--- texts that stand at the front of bytes, and texts whichever way they stand
+-- texts spelled at the start of bytes, and texts in either form
 abbrev pub spelled_texts : SpelledTexts → List (List ℕ)
 spelled_texts t = front_of (texts_at t.count t.bytes.now)
 
@@ -41,7 +41,7 @@ lent_value (lent.Set members) = values.Set (lent_texts members)
 abbrev pub lent_cell : LentCell → Cell
 lent_cell c = record { name = c.name.now; value = lent_value c.value }
 
--- cells that stand at the front of bytes, and cells whichever way they stand
+-- cells spelled at the start of bytes, and cells in either form
 abbrev pub spelled_cells : SpelledCells → List Cell
 spelled_cells c = front_of (any_cells_at c.count c.bytes.now)
 
@@ -53,7 +53,7 @@ lent_cells (cells.Spelled cells) = spelled_cells cells
 abbrev pub lent_row : LentRow → Row
 lent_row row = record { time = row.time; cells = lent_cells row.cells }
 
--- rows that stand at the front of bytes, and rows whichever way they stand
+-- rows spelled at the start of bytes, and rows in either form
 abbrev pub spelled_rows : SpelledRows → List Row
 spelled_rows r = front_of (rows_at r.count r.bytes.now)
 
@@ -61,13 +61,13 @@ abbrev pub lent_rows : LentRows → List Row
 lent_rows (rows.Owned rows) = rows.now
 lent_rows (rows.Spelled rows) = spelled_rows rows
 
--- ---- lists of what is lent
+-- ---- lists of borrowed values
 
--- values, where there are some
+-- the values, each of them present or not
 abbrev pub each_value : List (Option LentValue) → List (Option Value)
 each_value cells = map (option_map lent_value) cells
 
--- the cells of some rows
+-- the cells of each row
 abbrev pub each_cells : List LentCells → List (List Cell)
 each_cells rests = map lent_cells rests
 
@@ -75,7 +75,7 @@ each_cells rests = map lent_cells rests
 abbrev pub each_row : List LentRow → List Row
 each_row rows = map lent_row rows
 
--- ---- the first of a list and the others, or nothing of an empty one
+-- ---- lists from their first element and the others, or from None
 
 abbrev pub texts_before : Option (Bor (List ℕ) × SpelledTexts) → List (List ℕ)
 texts_before None = []

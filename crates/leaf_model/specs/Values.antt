@@ -1,4 +1,4 @@
--- What rows, writes and queries may be.
+-- Limits of rows, writes and queries.
 use Rattle.std.specs.Prelude.{ℕ, ◌+◌, ◌<◌, ◌≤◌, ◌^◌, ◌≢◌, List, [], ◌∷◌, length, map, ℤ, pos, ◌≤ℤ◌, codes, IsUtf8, FitsSigned}
 use Rattle.std.specs.List.{AllByRecursion}
 use Rattle.std.specs.List.Sorted.{IsStrictlySortedBy}
@@ -12,34 +12,34 @@ use Rattle.leaf_model.specs.declared.rows.Row.{Row}
 use Rattle.leaf_model.specs.declared.writes.Write.{Write}
 use Rattle.leaf_model.specs.declared.writes.Write.TheVariants.{Add, Expire, Keep}
 
--- the name that always means the row's time
+-- the name that means the row's time
 abbrev pub time_name : List ℕ
 time_name = codes "time"
 
--- 0 to 2^63 - 1
+-- a time: 0 to 2^63 - 1
 abbrev pub IsTime : ℤ → Type 0
 IsTime t = (pos 0 ≤ℤ t) × FitsSigned w64 t
 
--- 1 to 255 bytes of UTF-8, and not `time`
+-- a cell's name: 1 to 255 bytes of UTF-8, and not `time`
 pub record IsCellName (name : List ℕ) : Type 0 where
   pub text : IsUtf8 name
   pub some : 0 < length name
   pub short : length name ≤ 255
   pub other : name ≢ time_name
 
--- how many bytes some texts have together
+-- the number of bytes of all texts together
 abbrev pub bytes_in : List (List ℕ) → ℕ
 bytes_in [] = 0
 bytes_in (t ∷ ts) = length t + bytes_in ts
 
--- at most 1,024 texts that ascend by their bytes, with at most 65,535 bytes together; none is a set too
+-- a set: at most 1,024 texts, strictly ascending by bytes, with at most 65,535 bytes together; it may be empty
 pub record IsSet (members : List (List ℕ)) : Type 0 where
   pub few : length members ≤ 1024
   pub utf8 : AllByRecursion IsUtf8 members
   pub ascending : IsStrictlySortedBy (slice_cmp nat_cmp) members
   pub together : bytes_in members ≤ 65535
 
--- an i64, a text of at most 65,535 bytes, or a set
+-- a value: an i64, a text of at most 65,535 bytes, or a set
 abbrev pub IsValue : Value → Type 0
 IsValue (Int n) = FitsSigned w64 n
 IsValue (Text t) = IsUtf8 t × (length t ≤ 65535)
@@ -49,14 +49,14 @@ pub record IsCell (c : Cell) : Type 0 where
   pub name : IsCellName c.name
   pub value : IsValue c.value
 
--- a time, and at most 1,024 cells with ascending, distinct names
+-- a row: a time, and at most 1,024 cells with strictly ascending names
 pub record IsRow (row : Row) : Type 0 where
   pub time : IsTime row.time
   pub few : length row.cells ≤ 1024
   pub cells : AllByRecursion IsCell row.cells
   pub ascending : IsStrictlySortedBy (slice_cmp nat_cmp) (map (λ (c : Cell). c.name) row.cells)
 
--- at most 100,000 rows, a horizon that is a time, or a number of rows to keep
+-- a write: at most 100,000 rows, a horizon that is a time, or a number of rows to keep below 2^64
 abbrev pub IsWrite : Write → Type 0
 IsWrite (Add rows) = (length rows ≤ 100000) × AllByRecursion IsRow rows
 IsWrite (Expire horizon) = IsTime horizon

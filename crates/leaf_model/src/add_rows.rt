@@ -10,7 +10,7 @@ use crate::packed_rows::PackedRows;
 use std::alloc::AllocError;
 use std::marker::Model;
 
-/// The rows of one add, at most 100,000, spelled one behind another. Contracts see them as the list.
+/// The rows of one add, at most 100,000, packed as bytes. Contracts see them as the list.
 #[derive(Drop)]
 pub struct Rows {
     packed: PackedRows,
@@ -35,28 +35,28 @@ impl Rows {
         Rows { packed }
     }
 
-    /// How many there are.
+    /// The number of rows.
     pub fn len(&self) -> usize
         ensures { result ≡ length self.now }
     {
         self.packed.len()
     }
 
-    /// What holds of each of them.
+    /// No-op; states the invariant: each of them is a row.
     pub fn are_rows(&self)
         ensures { AllByRecursion IsRow self.now }
     {
         self.packed.are_rows();
     }
 
-    /// The rows, lent.
+    /// The rows, borrowed.
     pub fn lend(&self) -> LentRows<'_>
         ensures { lent_rows result ≡ self.now }
     {
         self.packed.lend()
     }
 
-    /// The bytes that spell them.
+    /// The bytes of all rows, one row after another.
     pub fn bytes(&self) -> &[u8]
         ensures { result.now ≡ rows_bytes self.now }
     {

@@ -1,9 +1,9 @@
-// What stands at the front of bytes, in which more may follow.
+// A prefix of bytes that spells texts, cells or rows. More bytes may follow it.
 ghost use Rattle.std.specs.Prelude.{IsSome};
 ghost use Rattle.leaf_model.specs.Reading.{rows_at, texts_at};
 ghost use Rattle.leaf_model.specs.Fronts.{any_cells_at};
 
-/// Texts at the front of bytes, each behind its length.
+/// `count` texts at the start of `bytes`, each after its length.
 #[derive(Clone, Copy)]
 pub struct SpelledTexts<'a> {
     pub(crate) bytes: &'a [u8],
@@ -11,7 +11,7 @@ pub struct SpelledTexts<'a> {
     ghost spelled: { IsSome (texts_at count bytes.now) },
 }
 
-/// Cells at the front of bytes.
+/// `count` cells at the start of `bytes`.
 #[derive(Clone, Copy)]
 pub struct SpelledCells<'a> {
     pub(crate) bytes: &'a [u8],
@@ -19,7 +19,7 @@ pub struct SpelledCells<'a> {
     ghost spelled: { IsSome (any_cells_at count bytes.now) },
 }
 
-/// Rows at the front of bytes.
+/// `count` rows at the start of `bytes`.
 #[derive(Clone, Copy)]
 pub struct SpelledRows<'a> {
     pub(crate) bytes: &'a [u8],

@@ -1,4 +1,4 @@
-// Groups: what a query finds, before it is ordered and printed.
+// Groups: the result of a query before it is ordered and printed.
 ghost use Rattle.std.specs.Prelude.{◌≡◌};
 ghost use Rattle.leaf_model.specs.Groups.{key_cmp, keys_cmp};
 
@@ -6,7 +6,7 @@ use crate::text::{Text, Texts};
 use std::cmp::Ordering;
 use std::marker::Model;
 
-/// What a row has under a name of GROUP BY.
+/// The value of a row under a name of GROUP BY.
 #[derive(Drop)]
 pub enum Key {
     Missing,
@@ -16,7 +16,7 @@ pub enum Key {
 }
 
 impl Key {
-    /// Missing, then integers, then texts by their bytes, then sets as lists of texts.
+    /// The order of keys: missing, then integers, then texts by their bytes, then sets as lists of texts.
     pub fn compare(&self, other: &Key) -> Ordering
         ensures { result ≡ key_cmp self.now other.now }
     {
@@ -91,7 +91,7 @@ impl Keys {
         self.inner.as_slice()
     }
 
-    /// Compares from the left, key by key; where one list ends first, it is the less.
+    /// Lexicographic order: key by key from the left; a proper prefix is less.
     pub fn compare(&self, other: &Keys) -> Ordering
         ensures { result ≡ keys_cmp self.now other.now }
     {
@@ -105,7 +105,7 @@ impl Keys {
     }
 }
 
-/// The number, the sum, the least and the greatest of some integers.
+/// A fold over integers: their number, sum, least and greatest. `min` and `max` are None if there is none.
 #[derive(Clone, Copy)]
 pub struct Fold {
     pub seen: u64,
@@ -114,7 +114,7 @@ pub struct Fold {
     pub max: Option<i64>,
 }
 
-/// A fold for each aggregate of a query, in their order. Contracts see them as the list.
+/// One fold for each aggregate of a query, in their order. Contracts see them as the list.
 #[derive(Drop)]
 pub struct Folds {
     inner: Vec<Fold>,
@@ -149,7 +149,7 @@ impl Folds {
     }
 }
 
-/// The rows that share their keys: how many they are, and a fold for each aggregate.
+/// The rows with the same keys: how many they are, and a fold for each aggregate.
 #[derive(Drop)]
 pub struct Group {
     pub keys: Keys,
@@ -157,7 +157,7 @@ pub struct Group {
     pub folds: Folds,
 }
 
-/// Groups, by their keys ascending. Contracts see them as the list.
+/// Groups, ascending by keys. Contracts see them as the list.
 #[derive(Drop)]
 pub struct Groups {
     inner: Vec<Group>,

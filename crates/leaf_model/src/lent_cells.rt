@@ -1,4 +1,4 @@
-// Cells that are lent: each of them by itself, or spelled one behind another.
+// Borrowed cells, either as values or as bytes.
 ghost use Rattle.std.specs.Prelude.{◌≡◌, ℕ, List, length, IfOk, IsSome, Some};
 ghost use Rattle.leaf_model.specs.Reading.{set_at, value_at};
 ghost use Rattle.leaf_model.specs.Fronts.{any_cell_at, any_cells_at, front_of};
@@ -11,7 +11,7 @@ use crate::spelled::{behind_texts, long_text_in, name_in, u16_in, u64_in};
 use crate::text::Text;
 use std::alloc::{AllocError, Global};
 
-/// A value that is lent.
+/// A borrowed value.
 #[derive(Clone, Copy)]
 pub enum LentValue<'a> {
     Int(i64),
@@ -30,7 +30,7 @@ impl<'a> LentValue<'a> {
         }
     }
 
-    /// A value of one's own that is the same.
+    /// An owned copy. Err if memory runs out.
     pub fn own(&self, alloc: Global) -> Result<Value, AllocError>
         ensures { IfOk result (λ value. value ≡ lent_value self.now) }
     {
@@ -42,7 +42,7 @@ impl<'a> LentValue<'a> {
     }
 }
 
-/// A cell that is lent.
+/// A borrowed cell.
 #[derive(Clone, Copy)]
 pub struct LentCell<'a> {
     pub name: &'a str,
@@ -59,7 +59,7 @@ impl<'a> LentCell<'a> {
         }
     }
 
-    /// A cell of one's own that is the same.
+    /// An owned copy. Err if memory runs out.
     pub fn own(&self, alloc: Global) -> Result<Cell, AllocError>
         ensures { IfOk result (λ cell. cell ≡ lent_cell self.now) }
     {
@@ -70,7 +70,7 @@ impl<'a> LentCell<'a> {
     }
 }
 
-/// The texts of a set behind their number, and what follows them.
+/// Reads the texts of a set, after their number. Gives them and the bytes that follow.
 #[tactic(auto, unfolding(crate::specs::Reading::set_at))]
 pub(crate) fn set_in(bytes: &[u8]) -> (LentTexts<'_>, &[u8])
     requires { IsSome (set_at bytes.now) }
@@ -81,7 +81,7 @@ pub(crate) fn set_in(bytes: &[u8]) -> (LentTexts<'_>, &[u8])
     (members, behind_texts(count, rest))
 }
 
-/// A value at the front of bytes, and what follows it.
+/// Reads the value at the start of the bytes. Gives it and the bytes that follow.
 #[tactic(auto, unfolding(crate::specs::Reading::value_at))]
 pub(crate) fn value_in(bytes: &[u8]) -> (LentValue<'_>, &[u8])
     requires { IsSome (value_at bytes.now) }
@@ -104,7 +104,7 @@ pub(crate) fn value_in(bytes: &[u8]) -> (LentValue<'_>, &[u8])
     }
 }
 
-/// A cell at the front of bytes, and what follows it.
+/// Reads the cell at the start of the bytes. Gives it and the bytes that follow.
 #[tactic(auto, unfolding(crate::specs::Fronts::any_cell_at))]
 fn cell_in(bytes: &[u8]) -> (LentCell<'_>, &[u8])
     requires { IsSome (any_cell_at bytes.now) }
@@ -115,7 +115,7 @@ fn cell_in(bytes: &[u8]) -> (LentCell<'_>, &[u8])
     (LentCell { name, value }, rest)
 }
 
-/// What follows so many cells.
+/// The bytes that follow the first `count` cells.
 pub(crate) fn behind_cells(count: u16, bytes: &[u8]) -> &[u8]
     requires { IsSome (any_cells_at count bytes.now) }
     ensures { any_cells_at count bytes.now ≡ Some (front_of (any_cells_at count bytes.now), result.now) }
@@ -154,7 +154,7 @@ impl<'a> SpelledCells<'a> {
     }
 }
 
-/// The cells of a row that are lent.
+/// The borrowed cells of a row: a slice of values, or the bytes that spell them.
 #[derive(Clone, Copy)]
 pub enum LentCells<'a> {
     Owned(&'a [Cell]),
@@ -162,7 +162,7 @@ pub enum LentCells<'a> {
 }
 
 impl<'a> LentCells<'a> {
-    /// How many there are.
+    /// The number of cells.
     pub fn len(&self) -> usize
         ensures { result ≡ length (lent_cells self.now) }
     {
@@ -172,7 +172,7 @@ impl<'a> LentCells<'a> {
         }
     }
 
-    /// The first and the others, or None where there are none.
+    /// The first cell and the others. None if there is no cell.
     pub fn split_first(&self) -> Option<(LentCell<'a>, LentCells<'a>)>
         ensures { cells_parted result ≡ lent_cells self.now }
     {
@@ -188,7 +188,7 @@ impl<'a> LentCells<'a> {
         }
     }
 
-    /// Cells of one's own that are the same.
+    /// An owned copy. Err if memory runs out.
     pub fn own(&self, alloc: Global) -> Result<Cells, AllocError>
         ensures { IfOk result (λ cells. cells ≡ lent_cells self.now) }
     {

@@ -1,4 +1,4 @@
-// Rows that are lent: each of them by itself, or spelled one behind another.
+// Borrowed rows, either as values or as bytes.
 ghost use Rattle.std.specs.Prelude.{◌≡◌, ◌≤◌, ℕ, List, [], drop, length, take, IfOk, IsSome, Some};
 ghost use Rattle.leaf_model.specs.Reading.{row_at, rows_at};
 ghost use Rattle.leaf_model.specs.Fronts.{front_of};
@@ -10,7 +10,7 @@ use crate::rows::Row;
 use crate::spelled::{time_in, u16_in};
 use std::alloc::{AllocError, Global};
 
-/// A row that is lent.
+/// A borrowed row.
 #[derive(Clone, Copy)]
 pub struct LentRow<'a> {
     pub time: i64,
@@ -27,7 +27,7 @@ impl<'a> LentRow<'a> {
         }
     }
 
-    /// A row of one's own that is the same.
+    /// An owned copy. Err if memory runs out.
     pub fn own(&self, alloc: Global) -> Result<Row, AllocError>
         ensures { IfOk result (λ row. row ≡ lent_row self.now) }
     {
@@ -38,7 +38,7 @@ impl<'a> LentRow<'a> {
     }
 }
 
-/// A row at the front of bytes, and what follows it.
+/// Reads the row at the start of the bytes. Gives it and the bytes that follow.
 #[tactic(auto, unfolding(crate::specs::Reading::row_at))]
 pub(crate) fn row_in(bytes: &[u8]) -> (LentRow<'_>, &[u8])
     requires { IsSome (row_at bytes.now) }
@@ -50,7 +50,7 @@ pub(crate) fn row_in(bytes: &[u8]) -> (LentRow<'_>, &[u8])
     (LentRow { time, cells }, behind_cells(count, rest))
 }
 
-/// What follows so many rows.
+/// The bytes that follow the first `count` rows.
 pub(crate) fn behind_rows(count: usize, bytes: &[u8]) -> &[u8]
     requires { IsSome (rows_at count bytes.now) }
     ensures { rows_at count bytes.now ≡ Some (front_of (rows_at count bytes.now), result.now) }
@@ -105,7 +105,7 @@ impl<'a> SpelledRows<'a> {
     }
 }
 
-/// Rows that are lent.
+/// Borrowed rows: a slice of values, or the bytes that spell them.
 #[derive(Clone, Copy)]
 pub enum LentRows<'a> {
     Owned(&'a [Row]),
@@ -113,7 +113,7 @@ pub enum LentRows<'a> {
 }
 
 impl<'a> LentRows<'a> {
-    /// How many there are.
+    /// The number of rows.
     pub fn len(&self) -> usize
         ensures { result ≡ length (lent_rows self.now) }
     {
@@ -123,7 +123,7 @@ impl<'a> LentRows<'a> {
         }
     }
 
-    /// The first and the others, or None where there are none.
+    /// The first row and the others. None if there is no row.
     pub fn split_first(&self) -> Option<(LentRow<'a>, LentRows<'a>)>
         ensures { rows_parted result ≡ lent_rows self.now }
     {
@@ -139,7 +139,7 @@ impl<'a> LentRows<'a> {
         }
     }
 
-    /// So many at the front, and the others.
+    /// The first `count` rows, and the others.
     pub fn split_at(&self, count: usize) -> (LentRows<'a>, LentRows<'a>)
         requires { count ≤ length (lent_rows self.now) }
         ensures front { lent_rows result.0 ≡ take count (lent_rows self.now) }
@@ -157,7 +157,7 @@ impl<'a> LentRows<'a> {
         }
     }
 
-    /// Rows of one's own that are the same.
+    /// An owned copy. Err if memory runs out.
     pub fn own(&self, alloc: Global) -> Result<Vec<Row>, AllocError>
         ensures { IfOk result (λ rows. rows.items ≡ lent_rows self.now) }
     {

@@ -1,4 +1,4 @@
-// Texts that are lent: each of them by itself, or spelled one behind another.
+// Borrowed texts, either as values or as bytes.
 ghost use Rattle.std.specs.Prelude.{◌≡◌, length, nat_le, IfOk, IsSome};
 ghost use Rattle.leaf_model.specs.Sets.{do_ascend, is_set};
 ghost use Rattle.leaf_model.specs.Values.{bytes_in};
@@ -16,7 +16,7 @@ use std::alloc::{AllocError, Global};
 use std::cmp::Ordering;
 
 impl<'a> SpelledTexts<'a> {
-    /// So many texts, which stand at the front of the bytes.
+    /// The first `count` texts of the bytes.
     pub fn of(bytes: &'a [u8], count: u16) -> SpelledTexts<'a>
         requires { IsSome (texts_at count bytes.now) }
         ensures { spelled_texts result ≡ front_of (texts_at count bytes.now) }
@@ -42,7 +42,7 @@ impl<'a> SpelledTexts<'a> {
     }
 }
 
-/// The texts of a set that are lent.
+/// The borrowed texts of a set: a slice of values, or the bytes that spell them.
 #[derive(Clone, Copy)]
 pub enum LentTexts<'a> {
     Owned(&'a [Text]),
@@ -56,7 +56,7 @@ impl<'a> LentTexts<'a> {
         LentTexts::Owned(texts.as_slice())
     }
 
-    /// How many there are.
+    /// The number of texts.
     pub fn len(&self) -> usize
         ensures { result ≡ length (lent_texts self.now) }
     {
@@ -66,7 +66,7 @@ impl<'a> LentTexts<'a> {
         }
     }
 
-    /// The first and the others, or None where there are none.
+    /// The first text and the others. None if there is no text.
     pub fn split_first(&self) -> Option<(&'a str, LentTexts<'a>)>
         ensures { texts_parted result ≡ lent_texts self.now }
     {
@@ -82,7 +82,7 @@ impl<'a> LentTexts<'a> {
         }
     }
 
-    /// Whether a text is one of them.
+    /// Whether `text` is one of them.
     pub fn holds(&self, text: &str) -> bool
         ensures { result ≡ is_among (lent_texts self.now) text.now }
     {
@@ -96,7 +96,7 @@ impl<'a> LentTexts<'a> {
         false
     }
 
-    /// Compares from the left, text by text; where one list ends first, it is the less.
+    /// Lexicographic order: text by text from the left; a proper prefix is less.
     pub fn compare(&self, other: &LentTexts) -> Ordering
         ensures { result ≡ texts_cmp (lent_texts self.now) (lent_texts other.now) }
     {
@@ -118,7 +118,7 @@ impl<'a> LentTexts<'a> {
         }
     }
 
-    /// Whether they are a set: ascending by their bytes, each once, few and short enough.
+    /// Whether they are a set: strictly ascending by bytes, at most 1,024 texts, at most 65,535 bytes together.
     pub fn is_set(&self) -> bool
         ensures { result ≡ is_set (lent_texts self.now) }
     {
@@ -143,7 +143,7 @@ impl<'a> LentTexts<'a> {
         true
     }
 
-    /// Whether all together have at most so many bytes.
+    /// Whether the texts have at most `most` bytes together.
     fn are_within(&self, most: usize) -> bool
         ensures { result ≡ nat_le (bytes_in (lent_texts self.now)) most }
     {
@@ -159,7 +159,7 @@ impl<'a> LentTexts<'a> {
         true
     }
 
-    /// Texts of one's own that are the same.
+    /// An owned copy. Err if memory runs out.
     pub fn own(&self, alloc: Global) -> Result<Texts, AllocError>
         ensures { IfOk result (λ texts. texts ≡ lent_texts self.now) }
     {

@@ -1,10 +1,11 @@
-// Bytes that are cut off at the front, while the others stay where they are.
+// A byte queue: bytes are cut off the front, and the others are seldom moved.
 ghost use Rattle.std.specs.Prelude.{◌≡◌, ◌+◌, ◌≤◌, ◌++◌, [], drop, length, take, OnErr, OnOk};
 
 use std::alloc::{AllocError, Global};
 use std::marker::Model;
 
-/// Bytes, of which the first `dead` are cut off. The others are moved over these once a quarter of all is dead, so a byte that is cut off costs at most three that are moved. Contracts see the bytes that are left.
+/// Bytes of which the first `dead` are cut off. The live ones are moved over the dead ones once a quarter of all bytes
+/// is dead, so each byte that is cut off costs at most three moved bytes, amortized. Contracts see the live bytes.
 #[derive(Drop)]
 pub(crate) struct LiveBytes {
     pub(crate) all: Vec<u8>,
@@ -22,7 +23,7 @@ impl Model for LiveBytes {
 }
 
 impl LiveBytes {
-    /// These bytes, none of them cut off.
+    /// These bytes, all live.
     pub(crate) fn of(all: Vec<u8>) -> LiveBytes
         ensures { result ≡ all.items }
     {
@@ -35,7 +36,7 @@ impl LiveBytes {
         &self.all[self.dead..]
     }
 
-    /// Puts bytes behind the others.
+    /// Appends bytes.
     #[tactic(auto, using(crate::proofs::LiveLaws::drop_more))]
     pub(crate) fn append(&mut self, more: &[u8]) -> Result<(), AllocError>
         ensures put { OnOk result (self.new ≡ self.old ++ more.now) }
@@ -44,7 +45,7 @@ impl LiveBytes {
         self.all.extend_from_slice(more)
     }
 
-    /// Cuts the first bytes off.
+    /// Cuts the first `count` live bytes off.
     #[tactic(auto, using(crate::proofs::LiveLaws::cut_more))]
     pub(crate) fn cut_front(&mut self, count: usize)
         requires { count ≤ length self.old }
@@ -56,7 +57,7 @@ impl LiveBytes {
         }
     }
 
-    /// Moves the bytes that are left over those that are cut off.
+    /// Moves the live bytes over the dead ones.
     fn move_live(&mut self)
         ensures { self.new ≡ self.old }
     {
@@ -64,7 +65,7 @@ impl LiveBytes {
         self.dead = 0;
     }
 
-    /// Lets go of all but the first bytes.
+    /// Keeps the first `len` live bytes.
     #[tactic(auto, using(crate::proofs::LiveLaws::take_left))]
     pub(crate) fn truncate(&mut self, len: usize)
         requires { len ≤ length self.old }
@@ -80,13 +81,13 @@ impl LiveBytes {
         self.dead = 0;
     }
 
-    /// Where their memory comes from.
+    /// The allocator of the bytes.
     pub(crate) fn allocator(&self) -> Global {
         *self.all.allocator()
     }
 }
 
-/// Lets go of the first bytes.
+/// Removes the first `count` bytes.
 pub(crate) fn drop_bytes(bytes: &mut Vec<u8>, count: usize)
     requires { count ≤ length bytes.old.items }
     ensures { bytes.new.items ≡ drop count bytes.old.items }
@@ -96,7 +97,7 @@ pub(crate) fn drop_bytes(bytes: &mut Vec<u8>, count: usize)
     bytes.truncate(len);
 }
 
-/// Moves so many bytes down.
+/// Moves the `len` bytes at `from` down to `to`.
 pub(crate) fn move_down(bytes: &mut [u8], from: usize, to: usize, len: usize)
     requires down { to ≤ from }
     requires within { from + len ≤ length bytes.old }

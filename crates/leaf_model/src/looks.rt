@@ -1,4 +1,4 @@
-// Rows of which some values are looked for: each row is walked once, to its end.
+// Looks values up in rows by name. Each row is walked once, from its start to its end.
 ghost use Rattle.std.specs.Prelude.{◌≡◌, ◌≤◌, ◌<◌, ◌∷◌, ℕ, List, Option, length, map, option_map, slice_index_or, true, IsSome, IfSome, Some};
 ghost use Rattle.std.specs.Str.{bytes_eq};
 ghost use Rattle.std.specs.Vec.{vec_len};
@@ -19,7 +19,7 @@ use crate::lent_rows::{LentRow, LentRows};
 use crate::spelled::{long_text_in, name_in, time_in, u16_in, u64_in};
 use crate::text::Text;
 
-/// What is looked for in a row: its time, or what it has under a name.
+/// What is looked for in a row: its time, or the value of a name.
 #[derive(Clone, Copy)]
 pub enum Sought<'a> {
     Time,
@@ -27,7 +27,7 @@ pub enum Sought<'a> {
 }
 
 impl<'a> Sought<'a> {
-    /// What the name tells: `time` is the row's time.
+    /// What a query means by a name: `time` is the row's time, any other name is a cell.
     pub fn of(name: &'a Text) -> Sought<'a>
         ensures { (row : Row) → sought_in row result ≡ value_of name.now row }
     {
@@ -38,7 +38,7 @@ impl<'a> Sought<'a> {
         }
     }
 
-    /// Whether it is what the cell of that name has.
+    /// Whether this is the cell of that name.
     #[inline(always)]
     fn is(self, name: &str) -> bool
         ensures { result ≡ is_sought self.entry name.now }
@@ -50,7 +50,7 @@ impl<'a> Sought<'a> {
     }
 }
 
-/// Whether two names are one: those that are not mostly differ in their length or in their first byte.
+/// Whether two names are equal. It compares lengths and first bytes first: most unequal names differ there.
 #[inline(always)]
 fn is_same(a: &[u8], b: &[u8]) -> bool
     ensures { result ≡ bytes_eq a.now b.now }
@@ -68,14 +68,18 @@ fn is_same(a: &[u8], b: &[u8]) -> bool
     true
 }
 
-/// The first place from this one on where a name is looked for, or how many places there are.
+/// The first place at or after `from` where `name` is looked for. If there is none, the number of places.
 #[inline(always)]
 fn place_from(sought: &[Sought], from: usize, name: &str) -> usize
     requires { from ≤ length sought.now }
     ensures bound { result ≤ length sought.now }
     ensures onward { from ≤ result }
-    ensures hit { result < length sought.now → (s : Sought) → is_sought (slice_index_or sought.now result s) name.now ≡ true }
-    ensures passed { (items : List (Option LentValue)) (value : Value) (others : List Cell) → length items ≡ length sought.now → filled_from sought.now items result (record { name = name.now; value = value }) others ≡ filled_from sought.now items from (record { name = name.now; value = value }) others }
+    ensures hit { result < length sought.now
+        → (s : Sought) → is_sought (slice_index_or sought.now result s) name.now ≡ true }
+    ensures passed { (items : List (Option LentValue)) (value : Value) (others : List Cell)
+        → length items ≡ length sought.now
+        → filled_from sought.now items result (record { name = name.now; value = value }) others
+        ≡ filled_from sought.now items from (record { name = name.now; value = value }) others }
 {
     let mut i = from;
     while i < sought.len() {
@@ -87,17 +91,19 @@ fn place_from(sought: &[Sought], from: usize, name: &str) -> usize
     i
 }
 
-/// Notes a value where nothing is there yet.
+/// Sets `seen` to the value, if it is None.
 #[inline(always)]
 fn note_one<'b>(value: LentValue<'b>, seen: &mut Option<LentValue<'b>>)
-    ensures { (s : Sought) (name : List ℕ) (others : List Cell) → is_sought s name ≡ true → filled_one s (option_map lent_value seen.new) others ≡ filled_one s (option_map lent_value seen.old) (record { name = name; value = lent_value value.entry } ∷ others) }
+    ensures { (s : Sought) (name : List ℕ) (others : List Cell)
+        → is_sought s name ≡ true → filled_one s (option_map lent_value seen.new) others ≡ filled_one s
+        (option_map lent_value seen.old) (record { name = name; value = lent_value value.entry } ∷ others) }
 {
     if seen.is_none() {
         *seen = Some(value);
     }
 }
 
-/// Notes a cell whose name is looked for at this place and at none before it.
+/// Notes a cell at each place that looks for its name. The first such place is `from`.
 #[inline(always)]
 fn note_from<'b>(
     sought: &[Sought],
@@ -108,9 +114,11 @@ fn note_from<'b>(
 )
     requires same { vec_len seen.old ≡ length sought.now }
     requires bound { from ≤ length sought.now }
-    requires hit { from < length sought.now → (s : Sought) → is_sought (slice_index_or sought.now from s) name.now ≡ true }
+    requires hit { from < length sought.now → (s : Sought)
+        → is_sought (slice_index_or sought.now from s) name.now ≡ true }
     ensures same { vec_len seen.new ≡ length sought.now }
-    ensures filled { (others : List Cell) → filled sought.now (each_value seen.new.items) others ≡ filled_from sought.now seen.old.items from (record { name = name.now; value = lent_value value.entry }) others }
+    ensures filled { (others : List Cell) → filled sought.now (each_value seen.new.items) others ≡ filled_from
+        sought.now seen.old.items from (record { name = name.now; value = lent_value value.entry }) others }
 {
     let mut i = from;
     while i < sought.len() {
@@ -119,18 +127,19 @@ fn note_from<'b>(
     }
 }
 
-/// One cell more that was looked at.
+/// Notes one more cell.
 fn note<'b>(sought: &[Sought], cell: &LentCell<'b>, seen: &mut Vec<Option<LentValue<'b>>>)
     requires { vec_len seen.old ≡ length sought.now }
     ensures same { vec_len seen.new ≡ length sought.now }
-    ensures filled { (others : List Cell) → filled sought.now (each_value seen.new.items) others ≡ filled sought.now (each_value seen.old.items) (lent_cell cell.now ∷ others) }
+    ensures filled { (others : List Cell) → filled sought.now (each_value seen.new.items) others ≡ filled sought.now
+        (each_value seen.old.items) (lent_cell cell.now ∷ others) }
 {
     let place = place_from(sought, 0, cell.name);
     note_from(sought, place, cell.name, cell.value, seen);
 }
 
-/// Notes a value whose name is looked for at this place and at none before it, and gives what follows it.
-/// Each kind is noted by itself: a value that is copied through memory costs more than it takes to read it.
+/// Notes a value at each place that looks for its name, of which `place` is the first, and gives the bytes that follow
+/// it. Each kind of value is noted by its own code: to copy a value through memory costs more than to read it.
 #[inline(always)]
 #[tactic(auto, unfolding(crate::specs::Reading::value_at))]
 fn look_value<'b>(
@@ -143,9 +152,12 @@ fn look_value<'b>(
     requires value { IsSome (value_at bytes.now) }
     requires same { vec_len seen.old ≡ length sought.now }
     requires bound { place ≤ length sought.now }
-    requires hit { place < length sought.now → (s : Sought) → is_sought (slice_index_or sought.now place s) name.now ≡ true }
+    requires hit { place < length sought.now
+        → (s : Sought) → is_sought (slice_index_or sought.now place s) name.now ≡ true }
     ensures same { vec_len seen.new ≡ length sought.now }
-    ensures looked { (x : Value × List ℕ) → value_at bytes.now ≡ Some x → (result.now ≡ x.1) × ((others : List Cell) → filled sought.now (each_value seen.new.items) others ≡ filled_from sought.now seen.old.items place (record { name = name.now; value = x.0 }) others) }
+    ensures looked { (x : Value × List ℕ) → value_at bytes.now ≡ Some x
+        → (result.now ≡ x.1) × ((others : List Cell) → filled sought.now (each_value seen.new.items) others
+        ≡ filled_from sought.now seen.old.items place (record { name = name.now; value = x.0 }) others) }
 {
     match bytes {
         [1, rest @ ..] => {
@@ -173,7 +185,8 @@ fn look_value<'b>(
     }
 }
 
-/// Looks at a cell, and gives what follows it: its value is passed over where its name is not looked for.
+/// Looks at the cell at the start of the bytes, and gives the bytes that follow it. It skips the value if nobody looks
+/// for its name.
 #[inline(always)]
 #[tactic(auto, unfolding(crate::specs::Fronts::any_cell_at))]
 fn look_cell<'b>(
@@ -184,7 +197,9 @@ fn look_cell<'b>(
     requires cell { IsSome (any_cell_at bytes.now) }
     requires same { vec_len seen.old ≡ length sought.now }
     ensures same { vec_len seen.new ≡ length sought.now }
-    ensures looked { (x : Cell × List ℕ) → any_cell_at bytes.now ≡ Some x → (result.now ≡ x.1) × ((others : List Cell) → filled sought.now (each_value seen.new.items) others ≡ filled sought.now (each_value seen.old.items) (x.0 ∷ others)) }
+    ensures looked { (x : Cell × List ℕ) → any_cell_at bytes.now ≡ Some x
+        → (result.now ≡ x.1) × ((others : List Cell) → filled sought.now
+        (each_value seen.new.items) others ≡ filled sought.now (each_value seen.old.items) (x.0 ∷ others)) }
 {
     let (name, after) = name_in(bytes);
     let place = place_from(sought, 0, name);
@@ -195,7 +210,7 @@ fn look_cell<'b>(
     rest
 }
 
-/// What is there before any cell was looked at.
+/// What is known of one place before any cell was looked at: the time, or nothing.
 #[inline(always)]
 fn begin_one(sought: Sought, time: i64, seen: &mut Option<LentValue>)
     ensures { option_map lent_value seen.new ≡ begun_one time sought.entry }
@@ -206,7 +221,7 @@ fn begin_one(sought: Sought, time: i64, seen: &mut Option<LentValue>)
     }
 }
 
-/// What is there before any cell was looked at, in place of what was seen.
+/// Overwrites `seen` with what is known before any cell was looked at.
 fn begin(sought: &[Sought], time: i64, seen: &mut Vec<Option<LentValue>>)
     requires { vec_len seen.old ≡ length sought.now }
     ensures same { vec_len seen.new ≡ length sought.now }
@@ -219,7 +234,7 @@ fn begin(sought: &[Sought], time: i64, seen: &mut Vec<Option<LentValue>>)
     }
 }
 
-/// Looks at so many cells, and gives what follows them.
+/// Looks at the first `count` cells, and gives the bytes that follow them.
 #[inline(always)]
 fn look_behind<'b>(
     count: u16,
@@ -231,7 +246,8 @@ fn look_behind<'b>(
     requires same { vec_len seen.old ≡ length sought.now }
     ensures rest { any_cells_at count bytes.now ≡ Some (front_of (any_cells_at count bytes.now), result.now) }
     ensures same { vec_len seen.new ≡ length sought.now }
-    ensures filled { each_value seen.new.items ≡ filled sought.now (each_value seen.old.items) (front_of (any_cells_at count bytes.now)) }
+    ensures filled { each_value seen.new.items
+        ≡ filled sought.now (each_value seen.old.items) (front_of (any_cells_at count bytes.now)) }
 {
     let mut rest = bytes;
     for _ in 0..count {
@@ -240,7 +256,7 @@ fn look_behind<'b>(
     rest
 }
 
-/// Looks at a row at the front of bytes, and gives it with what follows.
+/// Looks at the row at the start of the bytes. Gives it and the bytes that follow.
 #[inline(always)]
 #[tactic(auto, unfolding(crate::specs::Reading::row_at))]
 fn look_in<'b>(
@@ -262,7 +278,7 @@ fn look_in<'b>(
     (LentRow { time, cells }, after)
 }
 
-/// Looks at a row that stands by itself.
+/// Looks at a row that stands alone.
 fn look_at<'b>(row: &LentRow<'b>, sought: &[Sought], seen: &mut Vec<Option<LentValue<'b>>>)
     requires { vec_len seen.old ≡ length sought.now }
     ensures same { vec_len seen.new ≡ length sought.now }
@@ -286,7 +302,8 @@ impl<'a> SpelledRows<'a> {
         requires { vec_len seen.old ≡ length sought.now }
         ensures parted { rows_before result ≡ spelled_rows self.now }
         ensures same { vec_len seen.new ≡ length sought.now }
-        ensures seen { IfSome result (λ parts. each_value seen.new.items ≡ map (sought_in (lent_row parts.0)) sought.now) }
+        ensures seen { IfSome result (λ parts.
+            each_value seen.new.items ≡ map (sought_in (lent_row parts.0)) sought.now) }
     {
         if self.count == 0 {
             return None;
@@ -298,7 +315,7 @@ impl<'a> SpelledRows<'a> {
 }
 
 impl<'a> LentRows<'a> {
-    /// The first and the others, as `split_first` gives them, and in `seen` what the first has of each that is looked for.
+    /// Like `split_first`. It also writes to `seen` what the first row has under each name that is looked for.
     #[inline(always)]
     pub fn split_seen(
         &self,
@@ -308,7 +325,8 @@ impl<'a> LentRows<'a> {
         requires { vec_len seen.old ≡ length sought.now }
         ensures parted { rows_parted result ≡ lent_rows self.now }
         ensures same { vec_len seen.new ≡ length sought.now }
-        ensures seen { IfSome result (λ parts. each_value seen.new.items ≡ map (sought_in (lent_row parts.0)) sought.now) }
+        ensures seen { IfSome result (λ parts.
+            each_value seen.new.items ≡ map (sought_in (lent_row parts.0)) sought.now) }
     {
         match self {
             LentRows::Owned([]) => None,

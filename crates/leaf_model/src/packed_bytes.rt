@@ -1,4 +1,4 @@
-// Packed rows and their bytes: one row more, other rows behind them, and rows that stand in bytes already.
+// Packed rows and their bytes: appends a row, appends other packed rows, reads rows from bytes.
 ghost use Rattle.std.specs.Prelude.{◌≡◌, ◌+◌, ◌≤◌, ◌++◌, ◌∷◌, [], length, IfOk, OnErr, OnOk, Some};
 ghost use Rattle.leaf_model.specs.Values.{IsRow};
 ghost use Rattle.leaf_model.specs.Bytes.{rows_bytes};
@@ -13,7 +13,7 @@ use crate::row_writer::put_row;
 use std::alloc::{AllocError, Global};
 
 impl PackedRows {
-    /// Puts a row behind the others.
+    /// Appends a row. Err leaves the rows as they were.
     pub fn push(&mut self, row: &LentRow) -> Result<(), AllocError>
         requires { IsRow (lent_row row.now) }
         ensures put { OnOk result (self.new ≡ self.old ++ lent_row row.now ∷ []) }
@@ -25,7 +25,7 @@ impl PackedRows {
         Ok(())
     }
 
-    /// Puts other rows behind these.
+    /// Appends other packed rows. Err leaves the rows as they were.
     pub fn append(&mut self, others: &PackedRows) -> Result<(), AllocError>
         ensures put { OnOk result (self.new ≡ self.old ++ others.now) }
         ensures kept { OnErr result (self.new ≡ self.old) }
@@ -37,7 +37,7 @@ impl PackedRows {
         Ok(())
     }
 
-    /// The bytes that spell them.
+    /// The bytes of all rows, one row after another.
     pub fn bytes(&self) -> &[u8]
         ensures { result.now ≡ rows_bytes self.now }
     {
@@ -57,7 +57,7 @@ impl PackedRows {
         })
     }
 
-    /// A copy of so many rows that stand at the front of bytes, before `rest`.
+    /// Copies the first `count` rows of the bytes; `rest` is what follows them. Err if memory runs out.
     pub fn read(
         alloc: Global,
         bytes: &[u8],
@@ -78,7 +78,7 @@ impl PackedRows {
 }
 
 impl LiveBytes {
-    /// Puts a row's bytes at the end, or nothing.
+    /// Appends a row's bytes. Err leaves the bytes as they were.
     #[tactic(auto, using(crate::proofs::LiveLaws::drop_more))]
     fn put(&mut self, row: &LentRow) -> Result<(), AllocError>
         requires { IsRow (lent_row row.now) }
@@ -89,7 +89,7 @@ impl LiveBytes {
     }
 }
 
-/// Puts a row's bytes at the end, or nothing.
+/// Appends a row's bytes. Err leaves the bytes as they were.
 fn put_whole(out: &mut Vec<u8>, row: &LentRow) -> Result<(), AllocError>
     requires { IsRow (lent_row row.now) }
     ensures put { OnOk result (out.new.items ≡ out.old.items ++ rows_bytes (lent_row row.now ∷ [])) }
@@ -103,7 +103,7 @@ fn put_whole(out: &mut Vec<u8>, row: &LentRow) -> Result<(), AllocError>
     done
 }
 
-/// How many rows there are with some more, which all take some byte.
+/// The sum of two numbers of rows. It cannot overflow, as each row takes a byte at least.
 pub(crate) fn with_more(bytes: &[u8], count: usize, more: usize) -> usize
     requires { count + more ≤ length bytes.now }
     ensures { result ≡ count + more }

@@ -1,4 +1,4 @@
-// Rows that are spelled one behind another, in bytes of their own.
+// Rows packed as bytes, one row after another.
 ghost use Rattle.std.specs.Prelude.{◌≡◌, ◌+◌, ◌≤◌, ◌++◌, ℕ, List, [], drop, length, take, IfOk, IfSome, IsSome, IsTrue, OnErr, OnOk};
 ghost use Rattle.std.specs.List.{AllByRecursion};
 ghost use Rattle.leaf_model.specs.declared.rows.Row.{Row};
@@ -17,7 +17,7 @@ use crate::row_writer::put_row;
 use std::alloc::{AllocError, Global};
 use std::marker::Model;
 
-/// Rows as bytes: a row takes what it has to say, and no heap of its own. Contracts see the list.
+/// Rows packed as bytes: a row takes no heap block of its own. Contracts see them as the list.
 #[derive(Drop)]
 pub struct PackedRows {
     pub(crate) bytes: LiveBytes,
@@ -48,7 +48,7 @@ impl PackedRows {
         }
     }
 
-    /// How many there are.
+    /// The number of rows.
     pub fn len(&self) -> usize
         ensures { result ≡ length self.now }
     {
@@ -56,21 +56,21 @@ impl PackedRows {
         self.count
     }
 
-    /// What holds of all that are packed.
+    /// No-op; states the invariant: each of them is a row.
     pub fn are_rows(&self)
         ensures { AllByRecursion IsRow self.now }
     {
         know(self.count, self.bytes.as_slice());
     }
 
-    /// The rows, lent.
+    /// The rows, borrowed.
     pub fn lend(&self) -> LentRows<'_>
         ensures { lent_rows result ≡ self.now }
     {
         LentRows::Spelled(SpelledRows::of(self.bytes.as_slice(), self.count))
     }
 
-    /// Puts those of some rows behind the others whose time is at least the horizon.
+    /// Appends those of `rows` whose time is at least the horizon. Err leaves the rows as they were.
     pub fn extend_from(&mut self, rows: &LentRows, horizon: i64) -> Result<(), AllocError>
         requires { AllByRecursion IsRow (lent_rows rows.now) }
         ensures put { OnOk result (self.new ≡ self.old ++ rows_from horizon (lent_rows rows.now)) }
@@ -82,7 +82,7 @@ impl PackedRows {
         Ok(())
     }
 
-    /// Lets go of the rows below the horizon.
+    /// Removes the rows below the horizon.
     pub fn retain_from(&mut self, horizon: i64)
         ensures { self.new ≡ rows_from horizon self.old }
     {
@@ -94,7 +94,8 @@ impl PackedRows {
         self.count = count;
     }
 
-    /// Lets go of the first rows. The others are moved only now and then: n rows that go one after another cost n steps, amortized.
+    /// Removes the first `count` rows. It seldom moves the others: to remove n rows, one after another, costs n steps,
+    /// amortized.
     pub fn drop_first(&mut self, count: usize)
         requires { count ≤ length self.old }
         ensures { self.new ≡ drop count self.old }
@@ -105,7 +106,7 @@ impl PackedRows {
         self.count -= count;
     }
 
-    /// Lets go of all but the first rows.
+    /// Keeps the first `count` rows.
     pub fn truncate(&mut self, count: usize)
         requires { count ≤ length self.old }
         ensures { self.new ≡ take count self.old }
@@ -116,7 +117,7 @@ impl PackedRows {
         self.count = count;
     }
 
-    /// Lets go of all rows.
+    /// Removes all rows.
     #[tactic(auto, using(crate::proofs::PackedLaws::none_packed))]
     pub fn clear(&mut self)
         ensures { self.new ≡ [] }
@@ -125,14 +126,14 @@ impl PackedRows {
         self.count = 0;
     }
 
-    /// Where their memory comes from.
+    /// The allocator of the bytes.
     pub fn allocator(&self) -> Global {
         self.bytes.allocator()
     }
 }
 
 impl LiveBytes {
-    /// Puts the rows at the end whose time is at least the horizon; how many these are.
+    /// Appends the bytes of the rows whose time is at least the horizon. Gives the number of these rows.
     #[tactic(auto, using(crate::proofs::LiveLaws::drop_more))]
     fn put_from(&mut self, rows: &LentRows, horizon: i64) -> Result<usize, AllocError>
         requires { AllByRecursion IsRow (lent_rows rows.now) }
@@ -143,7 +144,7 @@ impl LiveBytes {
         put_from(&mut self.all, rows, horizon)
     }
 
-    /// Lets go of the bytes of the rows below the horizon; how many rows stay.
+    /// Removes the bytes of the rows below the horizon. Gives the number of rows that stay.
     fn keep_from(&mut self, count: usize, horizon: i64) -> usize
         requires { IsPacked count self.old (packed_rows count self.old) }
         ensures kept { self.new ≡ rows_bytes (rows_from horizon (packed_rows count self.old)) }
@@ -155,7 +156,7 @@ impl LiveBytes {
     }
 }
 
-/// What a proof knows of the rows that bytes spell.
+/// No-op; states what `ArePacked` implies of the rows.
 pub(crate) fn know(count: usize, bytes: &[u8])
     requires { ArePacked count bytes.now }
     ensures { IsPacked count bytes.now (packed_rows count bytes.now) }
@@ -163,7 +164,7 @@ pub(crate) fn know(count: usize, bytes: &[u8])
     let _bytes = bytes;
 }
 
-/// Whether all rows are at the horizon or behind it.
+/// Whether no row is below the horizon.
 fn are_from(rows: &LentRows, horizon: i64) -> bool
     ensures { IsTrue result → rows_from horizon (lent_rows rows.now) ≡ lent_rows rows.now }
 {
@@ -177,7 +178,7 @@ fn are_from(rows: &LentRows, horizon: i64) -> bool
     true
 }
 
-/// How many bytes the first rows take.
+/// The number of bytes of the first `count` rows.
 fn front_len(bytes: &[u8], all: usize, count: usize) -> usize
     requires few { count ≤ all }
     requires packed { IsPacked all bytes.now (packed_rows all bytes.now) }
@@ -186,16 +187,17 @@ fn front_len(bytes: &[u8], all: usize, count: usize) -> usize
     bytes.len() - behind_rows(count, bytes).len()
 }
 
-/// The time of the first row, and how many bytes it takes.
+/// The time of the first row, and its number of bytes.
 fn first_row(bytes: &[u8]) -> (i64, usize)
     requires { IsSome (row_at bytes.now) }
-    ensures { (row : Row) (rest : List ℕ) → IsRow row → bytes.now ≡ row_bytes row ++ rest → (result.0 ≡ row.time) × (result.1 ≡ length (row_bytes row)) }
+    ensures { (row : Row) (rest : List ℕ) → IsRow row
+        → bytes.now ≡ row_bytes row ++ rest → (result.0 ≡ row.time) × (result.1 ≡ length (row_bytes row)) }
 {
     let (row, rest) = row_in(bytes);
     (row.time, bytes.len() - rest.len())
 }
 
-/// Lets go of the bytes of the rows below the horizon; how many rows stay.
+/// Removes the bytes of the rows below the horizon. Gives the number of rows that stay.
 fn keep_bytes(bytes: &mut Vec<u8>, count: usize, horizon: i64) -> usize
     requires { IsPacked count bytes.old.items (packed_rows count bytes.old.items) }
     ensures kept { bytes.new.items ≡ rows_bytes (rows_from horizon (packed_rows count bytes.old.items)) }
@@ -206,7 +208,7 @@ fn keep_bytes(bytes: &mut Vec<u8>, count: usize, horizon: i64) -> usize
     kept
 }
 
-/// Moves each row that stays down over those that go; how many bytes and how many rows stay.
+/// Moves each row that stays down over the rows that go. Gives how many bytes and how many rows stay.
 fn keep_from(bytes: &mut [u8], count: usize, horizon: i64) -> (usize, usize)
     requires { IsPacked count bytes.old (packed_rows count bytes.old) }
     ensures len { length bytes.new ≡ length bytes.old }
@@ -230,7 +232,8 @@ fn keep_from(bytes: &mut [u8], count: usize, horizon: i64) -> (usize, usize)
     (to, kept)
 }
 
-/// Puts the rows at the end whose time is at least the horizon; how many these are.
+/// Appends the bytes of the rows whose time is at least the horizon. Gives the number of these rows. Err leaves the
+/// bytes as they were.
 fn put_from(out: &mut Vec<u8>, rows: &LentRows, horizon: i64) -> Result<usize, AllocError>
     requires { AllByRecursion IsRow (lent_rows rows.now) }
     ensures put { OnOk result (out.new.items ≡ out.old.items ++ rows_bytes (rows_from horizon (lent_rows rows.now))) }
@@ -246,7 +249,7 @@ fn put_from(out: &mut Vec<u8>, rows: &LentRows, horizon: i64) -> Result<usize, A
     }
 }
 
-/// The bytes of rows that are spelled, where none of them is below the horizon.
+/// The bytes of rows that are spelled already. None if a row is below the horizon, or if the rows are values.
 fn bytes_from<'a>(rows: &LentRows<'a>, horizon: i64) -> Option<&'a [u8]>
     ensures bytes { IfSome result (λ bytes. bytes.now ≡ rows_bytes (lent_rows rows.now)) }
     ensures all { IfSome result (λ _. AreFrom horizon (lent_rows rows.now)) }
@@ -260,7 +263,7 @@ fn bytes_from<'a>(rows: &LentRows<'a>, horizon: i64) -> Option<&'a [u8]>
     }
 }
 
-/// What follows so many rows at the front of bytes, where none of them is below the horizon.
+/// The bytes that follow the first `count` rows. None if one of these is below the horizon.
 fn behind_from(bytes: &[u8], count: usize, horizon: i64) -> Option<&[u8]>
     requires { IsSome (rows_at count bytes.now) }
     ensures behind { IfSome result (λ rest. rows_at count bytes.now ≡ Some (packed_rows count bytes.now, rest.now)) }
@@ -277,7 +280,7 @@ fn behind_from(bytes: &[u8], count: usize, horizon: i64) -> Option<&[u8]>
     Some(rest)
 }
 
-/// The bytes that spell so many rows, before what follows them.
+/// The bytes before `rest`: they spell the `count` rows.
 fn spelling<'a>(count: usize, bytes: &'a [u8], rest: &[u8]) -> &'a [u8]
     requires { rows_at count bytes.now ≡ Some (packed_rows count bytes.now, rest.now) }
     ensures { result.now ≡ rows_bytes (packed_rows count bytes.now) }
@@ -286,7 +289,7 @@ fn spelling<'a>(count: usize, bytes: &'a [u8], rest: &[u8]) -> &'a [u8]
     &bytes[..len]
 }
 
-/// Puts them one after another; an error leaves what was there.
+/// Appends the rows one by one. Err leaves the bytes as they were.
 fn put_each(out: &mut Vec<u8>, rows: &LentRows, horizon: i64) -> Result<usize, AllocError>
     requires { AllByRecursion IsRow (lent_rows rows.now) }
     ensures put { OnOk result (out.new.items ≡ out.old.items ++ rows_bytes (rows_from horizon (lent_rows rows.now))) }
@@ -301,7 +304,7 @@ fn put_each(out: &mut Vec<u8>, rows: &LentRows, horizon: i64) -> Result<usize, A
     done
 }
 
-/// The same; what an error leaves begins with what was there.
+/// The same, but after Err the bytes only begin with what was there.
 fn lay_from(out: &mut Vec<u8>, rows: &LentRows, horizon: i64) -> Result<usize, AllocError>
     requires { AllByRecursion IsRow (lent_rows rows.now) }
     ensures put { OnOk result (out.new.items ≡ out.old.items ++ rows_bytes (rows_from horizon (lent_rows rows.now))) }

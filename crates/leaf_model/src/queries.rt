@@ -6,7 +6,7 @@ use crate::text::{Names, Text};
 use std::alloc::AllocError;
 use std::marker::Model;
 
-/// How a cell is compared with a constant. `Has` asks of a set whether it holds a text.
+/// How a cell compares with a constant. `Has` tests whether a set holds a text.
 #[derive(Clone, Copy, PartialEq, Eq)]
 pub enum Op {
     Eq,
@@ -18,7 +18,8 @@ pub enum Op {
     Has,
 }
 
-/// A condition on the cell of a name. It is false of a missing cell, and between an integer and a text; a set meets `Has` alone.
+/// A condition on the cell of a name. A missing cell meets none, and neither does an integer against a text. A set
+/// meets `Has` alone.
 #[derive(Drop)]
 pub struct Cond {
     pub name: Text,
@@ -38,7 +39,7 @@ impl Cond {
     }
 }
 
-/// The conditions of a query, all of which are to hold. Contracts see them as the list.
+/// The conditions of a query. A row has to meet all. Contracts see them as the list.
 #[derive(Drop)]
 pub struct Conds {
     inner: Vec<Cond>,
@@ -83,7 +84,8 @@ impl Conds {
     }
 }
 
-/// What is told of a group: the number of its rows, or of its integers of a name the sum, the least, the greatest, or the sum with their number.
+/// An aggregate: the number of rows of a group, or of the integers under a name the sum, the least, the greatest, or
+/// the average, as sum and number.
 #[derive(Drop)]
 pub enum Agg {
     Count,
@@ -152,8 +154,8 @@ impl Aggs {
     }
 }
 
-/// A query of one table: the rows from the time `from` to the time `to` that meet the conditions, in groups by `keys`.
-/// `order` is the place among `aggs` by which the answer is ordered, and `limit` the most lines of it.
+/// A query of one table: the rows with a time in `from..=to` that meet all conditions, grouped by `keys`. `order` is
+/// the index into `aggs` by which the answer is ordered, and `limit` the most lines of the answer.
 #[derive(Drop)]
 pub struct Query {
     pub table: Text,

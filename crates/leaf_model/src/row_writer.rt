@@ -1,4 +1,4 @@
-// Rows as bytes, at the end of what was written before.
+// Appends rows to bytes.
 ghost use Rattle.std.specs.Prelude.{◌≡◌, ◌≤◌, ◌++◌, length, OnOk, OnErr};
 ghost use Rattle.std.specs.List.{flat_map, AllByRecursion};
 ghost use Rattle.leaf_model.specs.Values.{IsSet, IsValue, IsCell, IsRow};
@@ -10,7 +10,7 @@ use crate::lent_rows::LentRow;
 use crate::lent_texts::LentTexts;
 use std::alloc::AllocError;
 
-/// Puts the row's bytes at the end.
+/// Appends the row's bytes. After Err the bytes begin with what was there.
 pub(crate) fn put_row(out: &mut Vec<u8>, row: &LentRow) -> Result<(), AllocError>
     requires { IsRow (lent_row row.now) }
     ensures put { OnOk result (out.new.items ≡ out.old.items ++ row_bytes (lent_row row.now)) }
@@ -20,7 +20,7 @@ pub(crate) fn put_row(out: &mut Vec<u8>, row: &LentRow) -> Result<(), AllocError
     put_cells(out, &row.cells)
 }
 
-/// Puts a name behind its length at the end.
+/// Appends a length byte and the name. After Err the bytes begin with what was there.
 pub fn put_name(out: &mut Vec<u8>, name: &str) -> Result<(), AllocError>
     requires { length name.now ≤ 255 }
     ensures put { OnOk result (out.new.items ≡ out.old.items ++ name_bytes name.now) }
@@ -93,7 +93,8 @@ fn put_text(out: &mut Vec<u8>, text: &str) -> Result<(), AllocError>
 #[tactic(auto, using(crate::proofs::TextSets::each_short))]
 fn put_set(out: &mut Vec<u8>, members: &LentTexts) -> Result<(), AllocError>
     requires { IsSet (lent_texts members.now) }
-    ensures put { OnOk result (out.new.items ≡ out.old.items ++ (u16_bytes (length (lent_texts members.now)) ++ flat_map text_bytes (lent_texts members.now))) }
+    ensures put { OnOk result (out.new.items ≡ out.old.items
+        ++ (u16_bytes (length (lent_texts members.now)) ++ flat_map text_bytes (lent_texts members.now))) }
     ensures begins { OnErr result (BeginsWith out.old.items out.new.items) }
 {
     out.extend_from_slice(&(members.len() as u16).to_le_bytes())?;

@@ -1,16 +1,16 @@
-// Rows: a time, and cells in the order of their names.
+// Rows: a time, and cells ascending by name.
 ghost use Rattle.std.specs.Prelude.{◌≡◌, IfOk};
 
 use crate::text::{Text, Texts};
 use std::alloc::AllocError;
 use std::marker::Model;
 
-/// What a cell holds.
+/// The value of a cell.
 #[derive(Drop)]
 pub enum Value {
     Int(i64),
     Text(Text),
-    /// Texts that ascend by their bytes, each once.
+    /// Texts, strictly ascending by bytes.
     Set(Texts),
 }
 
@@ -26,7 +26,7 @@ impl Value {
     }
 }
 
-/// A named value of a row. The name `time` never names a cell.
+/// A named value of a row. No cell is named `time`.
 #[derive(Drop)]
 pub struct Cell {
     pub name: Text,
@@ -89,7 +89,7 @@ impl Cells {
     }
 }
 
-/// A time from 0 to 2^63 - 1, and at most 1,024 cells with ascending, distinct names.
+/// A time from 0 to 2^63 - 1, and at most 1,024 cells with strictly ascending names.
 #[derive(Drop)]
 pub struct Row {
     pub time: i64,

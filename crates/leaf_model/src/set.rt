@@ -1,4 +1,4 @@
-// Whether some texts are a set.
+// Tests whether texts are a set.
 ghost use Rattle.std.specs.Prelude.{◌≡◌, ◌↔◌, ◌<◌, ℕ, length, IsTrue, IsUtf8};
 ghost use Rattle.leaf_model.specs.Values.{IsSet};
 ghost use Rattle.leaf_model.specs.Sets.{GoesUp};
@@ -6,7 +6,7 @@ ghost use Rattle.leaf_model.specs.Sets.{GoesUp};
 use crate::limits::{MAX_MEMBERS, MAX_TEXT};
 use crate::text::Text;
 
-/// How many bytes a text has, which is UTF-8.
+/// The number of bytes of a text; states that they are UTF-8.
 fn text_len(text: &str) -> usize
     ensures len { result ≡ length text.now }
     ensures utf8 { IsUtf8 text.now }
@@ -14,7 +14,7 @@ fn text_len(text: &str) -> usize
     text.len()
 }
 
-/// Whether the text at a place comes behind the one before it.
+/// Whether text `i` is greater than the one before it.
 fn goes_up(texts: &[Text], i: usize) -> bool
     requires { i < length texts.now }
     ensures { IsTrue result ↔ GoesUp texts.now i }
@@ -22,7 +22,7 @@ fn goes_up(texts: &[Text], i: usize) -> bool
     i == 0 || texts[i - 1].as_str().cmp(texts[i].as_str()).is_lt()
 }
 
-/// Whether they are a set.
+/// Whether the texts are a set.
 pub(crate) fn are_set(texts: &[Text]) -> bool
     ensures { IsTrue result ↔ IsSet texts.now }
 {

@@ -1,10 +1,10 @@
-// Fields at the front of bytes that are known to spell them: none is tested again.
+// Reads fields from bytes that are known to spell them. Nothing is tested again.
 ghost use Rattle.std.specs.Prelude.{◌≡◌, IsSome, Some};
 ghost use Rattle.std.specs.Int.{w16, w64};
 ghost use Rattle.leaf_model.specs.Reading.{number_at, text_at, name_at, long_text_at, texts_at, time_at};
 ghost use Rattle.leaf_model.specs.Fronts.{front_of};
 
-/// A number, and what follows it.
+/// Reads a number. Gives it and the bytes that follow.
 pub(crate) fn u16_in(bytes: &[u8]) -> (u16, &[u8])
     requires { IsSome (number_at w16 bytes.now) }
     ensures { number_at w16 bytes.now ≡ Some (result.0, result.1.now) }
@@ -35,7 +35,7 @@ fn text_in(len: usize, bytes: &[u8]) -> (&str, &[u8])
     (unsafe { std::str::from_utf8_unchecked(front) }, rest)
 }
 
-/// A name, and what follows it.
+/// Reads a name. Gives it and the bytes that follow.
 #[tactic(auto, unfolding(crate::specs::Reading::name_at))]
 pub(crate) fn name_in(bytes: &[u8]) -> (&str, &[u8])
     requires { IsSome (name_at bytes.now) }
@@ -47,7 +47,7 @@ pub(crate) fn name_in(bytes: &[u8]) -> (&str, &[u8])
     }
 }
 
-/// A text of a value, and what follows it.
+/// Reads a text of a value. Gives it and the bytes that follow.
 #[tactic(auto, unfolding(crate::specs::Reading::long_text_at))]
 pub(crate) fn long_text_in(bytes: &[u8]) -> (&str, &[u8])
     requires { IsSome (long_text_at bytes.now) }
@@ -57,7 +57,7 @@ pub(crate) fn long_text_in(bytes: &[u8]) -> (&str, &[u8])
     text_in(len as usize, rest)
 }
 
-/// What follows so many texts.
+/// The bytes that follow the first `count` texts.
 pub(crate) fn behind_texts(count: u16, bytes: &[u8]) -> &[u8]
     requires { IsSome (texts_at count bytes.now) }
     ensures { texts_at count bytes.now ≡ Some (front_of (texts_at count bytes.now), result.now) }
@@ -70,7 +70,7 @@ pub(crate) fn behind_texts(count: u16, bytes: &[u8]) -> &[u8]
     rest
 }
 
-/// A row's time, and what follows it.
+/// Reads a row's time. Gives it and the bytes that follow.
 #[tactic(auto, unfolding(crate::specs::Reading::time_at))]
 pub(crate) fn time_in(bytes: &[u8]) -> (i64, &[u8])
     requires { IsSome (time_at bytes.now) }

@@ -1,9 +1,9 @@
-// What may name a table.
+// Names of tables.
 ghost use Rattle.std.specs.Prelude.{◌≡◌};
 ghost use Rattle.std.specs.List.{list_all};
 ghost use Rattle.leaf_model.specs.Names.{is_name_byte, is_table_name};
 
-/// Whether it may be a table's name: a letter from a to z, and then up to 63 of a to z, 0 to 9 and `_`.
+/// Whether `name` may name a table: a letter from a to z, then at most 63 of a to z, 0 to 9 and `_`.
 pub fn is_table_name(name: &[u8]) -> bool
     ensures { result ≡ is_table_name name.now }
 {

@@ -10,7 +10,7 @@ use std::alloc::AllocError;
 use std::cmp::Ordering;
 use std::marker::Model;
 
-/// A text of UTF-8. Contracts see it as its bytes.
+/// A text of UTF-8. Contracts see its bytes.
 #[derive(Debug, Drop)]
 pub struct Text {
     inner: String,
@@ -52,7 +52,7 @@ impl Text {
     }
 }
 
-/// Names, in an order that means something. Contracts see them as the list.
+/// A list of names; their order counts. Contracts see them as the list.
 #[derive(Drop)]
 pub struct Names {
     inner: Vec<Text>,
@@ -96,7 +96,7 @@ impl Names {
         Ok(Names { inner })
     }
 
-    /// The place of the first of them that has these bytes.
+    /// The index of the first name with these bytes. None if there is none.
     pub fn place_of(&self, name: &[u8]) -> Option<usize>
         ensures { result ≡ position (bytes_eq name.now) self.now }
     {
@@ -170,14 +170,14 @@ impl Texts {
         Ok(Texts { inner })
     }
 
-    /// Compares from the left, text by text; where one list ends first, it is the less.
+    /// Lexicographic order: text by text from the left; a proper prefix is less.
     pub fn compare(&self, other: &Texts) -> Ordering
         ensures { result ≡ texts_cmp self.now other.now }
     {
         compare_texts(self.inner.as_slice(), other.inner.as_slice())
     }
 
-    /// Whether they are a set: ascending by their bytes, each once, few and short enough.
+    /// Whether they are a set: strictly ascending by bytes, at most 1,024 texts, at most 65,535 bytes together.
     pub fn is_set(&self) -> bool
         ensures { IsTrue result ↔ IsSet self.now }
     {

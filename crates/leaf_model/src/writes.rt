@@ -1,10 +1,10 @@
-// Writes: what changes a table.
+// Writes: the changes of a table.
 ghost use Rattle.std.specs.Prelude.{◌≡◌};
 
 use crate::add_rows::Rows;
 use std::marker::Model;
 
-/// What changes a table: rows that are added, a horizon below which rows expire, or how many of the last rows to keep.
+/// A change of a table: rows to add, a horizon below which rows expire, or how many of the last rows to keep.
 #[derive(Drop)]
 pub enum Write {
     Add(Rows),
@@ -12,7 +12,7 @@ pub enum Write {
     Keep(u64),
 }
 
-/// Writes, the first one first. Contracts see them as the list.
+/// Writes, the earliest first. Contracts see them as the list.
 #[derive(Drop)]
 pub struct Writes {
     inner: Vec<Write>,

@@ -1,4 +1,4 @@
--- The lanes of a burst: what each is given to play with, and how it is taken back.
+-- The lanes of a burst: what each gets to play with, and how it is taken back.
 use Rattle.std.specs.Prelude.{◌≡◌, ℕ, ◌<◌, Bool, List, ◌++◌, ◌∷◌, [], length, Option, Some, None, slice_get, MatchBool}
 use Rattle.std.specs.List.{flat_map}
 use Rattle.berth_face.specs.Berth.{Meaning}
@@ -12,26 +12,26 @@ use Rattle.leaf_moves.specs.Plays.{Plays}
 
 -- ---- cut off
 
--- One id of the callers' seat is given away, where it is needed; it keeps others.
+-- If the table is needed, the callers' seat gives one id away, and keeps others. If not, it stays.
 abbrev pub SplitsIf : Bool → Option SeatView → Option SeatView → Option SeatView → Type 0
 SplitsIf needed None off rest = (off ≡ None) × (rest ≡ None)
 SplitsIf needed (Some s) off rest = MatchBool needed ((1 < s.share) × (off ≡ Some (given 1 s)) × (rest ≡ Some (keeps_all_but 1 s))) ((off ≡ None) × (rest ≡ Some s))
 
--- Of one leaf: of each table that is needed an id, and the leaf where it is acted on.
+-- Of one leaf: an id of each table that is needed, and the leaf itself if the lane acts on it.
 pub record CutsOffAt {B : Type 0} (needs : ℕ → Bool) (acts : Bool) (x off rest : Hold B) : Type 0 where
   pub tables : (off.tables ≡ x.tables) × (rest.tables ≡ x.tables)
   pub counts : (length off.callers ≡ length x.callers) × (length rest.callers ≡ length x.callers)
   pub seats : (table : ℕ) → SplitsIf (needs table) (caller_in x.callers table) (caller_in off.callers table) (caller_in rest.callers table)
   pub held : MatchBool acts ((off.held ≡ x.held) × (rest.held ≡ None)) ((off.held ≡ None) × (rest.held ≡ x.held))
 
--- the same of each leaf
+-- the same, of each leaf
 pub record CutsOff {B : Type 0} (needs acts : ℕ → Bool) (xs off rest : List (Hold B)) : Type 0 where
   pub counts : (length off ≡ length xs) × (length rest ≡ length xs)
   pub each : (leaf : ℕ) (x o r : Hold B) → slice_get xs leaf ≡ Some x → slice_get off leaf ≡ Some o → slice_get rest leaf ≡ Some r → CutsOffAt needs (acts leaf) x o r
 
 -- ---- taken back
 
--- two callers' seats of a table met, and the first took the second over
+-- two callers' seats at a table met, and the first took over the ids of the second
 pub record JoinsTo (s u t : SeatView) : Type 0 where
   pub one : SeatView
   pub other : SeatView
@@ -44,7 +44,7 @@ JoinsIf None (Some u) t = ⊥
 JoinsIf (Some s) (Some u) None = ⊥
 JoinsIf (Some s) (Some u) (Some t) = JoinsTo s u t
 
--- a leaf that comes back meets the callers' seats; one that was not given away stays
+-- the leaf that a lane held comes back, and its seats meet the callers'; one that was not given away stays
 abbrev pub ComesBack : {B : Type 0} → (B → Meaning) → Option (Leaf × B) → Option (Leaf × B) → List (Option SeatView) → Option (Leaf × B) → List (Option SeatView) → Type 0
 ComesBack meaning None stayed callers held callers' = (held ≡ stayed) × (callers' ≡ callers)
 ComesBack meaning (Some l) stayed callers held callers' = (leaf' : Leaf) × MeetAll l.0 callers leaf' callers' (meaning l.1) × (held ≡ Some (leaf', l.1))
@@ -63,7 +63,7 @@ pub record TakesBack {B : Type 0} (meaning : B → Meaning) (rest off xs : List 
 
 -- ---- played
 
--- the commands of a lane, one after another
+-- the commands of a lane, played one after another
 pub data PlaysOn {B : Type 0} (meaning : B → Meaning) (fleet : Fleet) : List (Hold B) → List Played → List (Hold B) → Type 0 where
   none : (xs : List (Hold B)) (lane : List Played) (ys : List (Hold B)) → lane ≡ [] → ys ≡ xs → PlaysOn meaning fleet xs lane ys
   more : (xs : List (Hold B)) (lane : List Played) (ys : List (Hold B)) (p : Played) (others : List Played) (between : List (Hold B))
@@ -72,7 +72,7 @@ pub data PlaysOn {B : Type 0} (meaning : B → Meaning) (fleet : Fleet) : List (
       → lane ≡ p ∷ others
       → PlaysOn meaning fleet xs lane ys
 
--- Lanes beside one another: for each something is cut off, with which it plays; and then that is taken back.
+-- Lanes that play beside one another: each plays with what was cut off for it, which is then taken back.
 pub data Fans {B : Type 0} (meaning : B → Meaning) (fleet : Fleet) : List (Hold B) → List (List Played) → List (Hold B) → Type 0 where
   none : (xs : List (Hold B)) (lanes : List (List Played)) (ys : List (Hold B)) → lanes ≡ [] → ys ≡ xs → Fans meaning fleet xs lanes ys
   beside : (xs : List (Hold B)) (lanes : List (List Played)) (ys : List (Hold B)) (first : List (List Played)) (lane : List Played) (needs acts : ℕ → Bool) (off rest rest' off' : List (Hold B))
@@ -83,7 +83,8 @@ pub data Fans {B : Type 0} (meaning : B → Meaning) (fleet : Fleet) : List (Hol
       → lanes ≡ first ++ lane ∷ []
       → Fans meaning fleet xs lanes ys
 
--- an item of a script: a command; or lanes beside one another, once all seats have met; or, where ids are too few for them, lanes one after another
+-- an item of a script: a command; or lanes beside one another, after all seats have met; or, if the ids do not suffice,
+-- lanes one after another
 pub data PlaysItem {B : Type 0} (meaning : B → Meaning) (fleet : Fleet) (xs : List (Hold B)) (x : PlayedItem) (ys : List (Hold B)) : Type 0 where
   one : (p : Played)
       → x ≡ One p

@@ -1,4 +1,5 @@
--- What whole commands do to the leaves of a fleet and their callers' seats: their steps in a chain, the pieces that they print, and what their answers are of.
+-- What a whole command does to leaves and callers' seats: its steps, the pieces that it prints, and the rows that its
+-- answers are over.
 use Rattle.std.specs.Prelude.{◌≡◌, ℕ, List, [], ◌∷◌, Option, Some, slice_get, slice_set, ⊤}
 use Rattle.berth_face.specs.Berth.{Meaning}
 use Rattle.leaf_history.specs.Calls.{Call}
@@ -18,9 +19,10 @@ use Rattle.leaf_moves.specs.Holds.{Hold, GoOn, grounds_in, with_callers, with_le
 use Rattle.leaf_moves.specs.Stage.{Leaf}
 use Rattle.leaf_moves.specs.Steps.{CallStep, DeedStep}
 
--- ---- several of them
+-- ---- steps of several leaves
 
--- What callers and stewards of the leaves do, piece by piece. Each touches one leaf: a call its callers' seat, a deed the leaf, all its seats and its berth; a line touches none.
+-- The steps of callers and stewards, piece by piece. A call changes the callers' seat at one table. A deed changes one
+-- leaf, its seats and its berth. A line changes nothing.
 pub data Goes {B : Type 0} (meaning : B → Meaning) : List (Hold B) → List Piece → List (Hold B) → Type 0 where
   none : (xs : List (Hold B)) (pieces : List Piece) (ys : List (Hold B))
       → pieces ≡ []
@@ -46,12 +48,12 @@ pub data Goes {B : Type 0} (meaning : B → Meaning) : List (Hold B) → List Pi
 
 -- ---- whole commands
 
--- a command that such a fleet may play
+-- a command that this fleet may play
 abbrev pub MayPlay : Fleet → Command → Type 0
 MayPlay fleet (command.Fleet machines per_machine tables) = ⊤
 MayPlay fleet c = IsCommand (leaf_count fleet) fleet.names c
 
--- What a command does. Its answer is over what the leaves hold then, however their histories go on.
+-- What a command does. Its answer is over what the tables then hold, however their histories go on.
 pub record Plays {B : Type 0} (meaning : B → Meaning) (fleet : Fleet) (c : Command) (xs : List (Hold B)) (pieces : List Piece) (ys : List (Hold B)) : Type 0 where
   pub goes : Goes meaning xs pieces ys
   pub prints : Prints fleet c pieces

@@ -1,5 +1,5 @@
--- A leaf and its callers' seats as the program holds them, and what region and disk hold of it.
--- The run has a seat of callers at each of its tables; a lane has one where it needs it.
+-- A leaf and its callers' seats, as a player holds them, and what region and disk hold of it. The run has a callers'
+-- seat at each table; a lane has one only where it needs it.
 use Rattle.std.specs.Prelude.{◌≡◌, ℕ, List, length, slice_get, Some, None, Option, IsTrue}
 use Rattle.leaf_model.specs.declared.writes.Write.{Write}
 use Rattle.row_records.specs.Records.{LogRecord}
@@ -15,19 +15,19 @@ use Rattle.leaf_steward.specs.Seated.{Seated, AreFounded, watched_by}
 use Rattle.leaf_steward.specs.Making.{Makes}
 use Rattle.leaf_machine.specs.States.{Serving, Shutting}
 
--- a leaf: down, up, or shutting its tables
+-- a leaf: at rest, serving its tables, or shutting them
 pub data Leaf : Type 0 where
   IsDown : (leaf : Seated) → Leaf
   IsUp : (leaf : Serving) → Leaf
   IsPreparing : (leaf : Shutting) → Leaf
 
--- its tables, and its steward's seats at them
+-- its tables, and the steward's seats at them
 abbrev pub seated_of : Leaf → Seated
 seated_of (IsDown x) = x
 seated_of (IsUp x) = x.seated
 seated_of (IsPreparing x) = x.serving.seated
 
--- the same leaf with these seats
+-- the same leaf, with these seats
 abbrev pub seated_with : Seated → List SeatView → Seated
 seated_with x seats = record { names = x.names; tables = x.tables; seats = seats }
 
@@ -39,35 +39,38 @@ with_seats (IsDown x) seats = IsDown (seated_with x seats)
 with_seats (IsUp x) seats = IsUp (serving_with x seats)
 with_seats (IsPreparing x) seats = IsPreparing (record { serving = serving_with x.serving seats; closed = x.closed; waits = x.waits })
 
--- ---- what stands of it
+-- ---- what region and disk hold of a leaf
 
--- a leaf that serves
+-- region and disk hold what belongs to a leaf that serves its tables
 abbrev pub ServingStands : Serving → Meaning → Type 0
 ServingStands x m = (writes : List ℕ → List Write) × Runs (watched_by x.seated) x.owing.owner x.owing.log writes m
 
--- what region and disk hold; names that the leaf does not have had this base
+-- region and disk hold what belongs to the leaf; `base` is the base of names that it does not have
 abbrev pub Stands : NamedStates → Leaf → Meaning → Type 0
 Stands base (IsDown x) m = (least : List ℕ → List Write) × (next : Option LogRecord) × Rests (watched_by x) base least next m
 Stands base (IsUp x) m = ServingStands x m
 Stands base (IsPreparing x) m = ServingStands x.serving m
 
--- each name's base is a table that was handed in nothing
+-- the base of each name is that of a table to which nothing was handed in
 abbrev pub AreHandedNothing : NamedStates → Type 0
 AreHandedNothing base = (name : List ℕ) → IsFoundation (base name)
 
--- it stands behind a call too, and at each moment a crash leaves what belongs to its tables
+-- region and disk still hold what belongs to the leaf, and at each moment all that a crash may leave belongs to its
+-- tables
 pub record StandsOn (base : NamedStates) (leaf leaf' : Leaf) (m m' : Meaning) : Type 0 where
   pub stands : Stands base leaf' m'
   pub told : moments.Told base (watched_by (seated_of leaf)) (watched_by (seated_of leaf')) m m'
 
--- The steward makes entries with these notes. Where the berth tells its contents and the tables are founded, what stood stands on.
+-- The steward makes entries with these notes. If the berth tells its contents and the tables are founded, region and
+-- disk still hold what belongs to the leaf.
 pub record Carries (leaf leaf' : Leaf) (notes : List Note) (m m' : Meaning) : Type 0 where
   pub made : Makes m.clock m'.clock (seated_of leaf) notes (seated_of leaf')
   pub stands : (base : NamedStates) → IsTrue m.tells → AreFounded (seated_of leaf) → AreHandedNothing base → Stands base leaf m → StandsOn base leaf leaf' m m'
 
 -- ---- meetings
 
--- The steward's seat v and the caller's seat c met: each has seen what the other had, of which it had made nothing itself.
+-- The steward's seat v and the callers' seat c met: each has then seen what the other had, in which it had made no
+-- entry itself.
 pub record Meets (v c v' c' : SeatView) : Type 0 where
   pub steward : Told v c v'
   pub caller : Told c v c'
@@ -75,14 +78,14 @@ pub record Meets (v c v' c' : SeatView) : Type 0 where
   pub caller_learns : LearnsOthers c c'
   pub ids : AreIds c'.seen
 
--- the same where there is a caller's seat, and else the steward's stays
+-- the same if there is a callers' seat; else the steward's stays
 abbrev pub MeetsIf : SeatView → Option SeatView → SeatView → Option SeatView → Type 0
 MeetsIf v (Some c) v' (Some c') = Meets v c v' c'
 MeetsIf v None v' None = v' ≡ v
 MeetsIf v (Some c) v' None = ⊥
 MeetsIf v None v' (Some c') = ⊥
 
--- at each table the steward's seat and the caller's, where there is one, met
+-- at each table the steward's seat and the callers', if there is one, met
 pub record MeetAll (leaf : Leaf) (callers : List (Option SeatView)) (leaf' : Leaf) (callers' : List (Option SeatView)) (m : Meaning) : Type 0 where
   pub seats : List SeatView
   pub leaf_is : leaf' ≡ with_seats leaf seats

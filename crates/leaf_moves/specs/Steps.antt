@@ -1,4 +1,5 @@
--- What each command does to the leaves of a fleet and their callers' seats as the program holds them: the pieces that it prints, and what stands behind it.
+-- What each command does to the leaves and callers' seats that a player holds: the pieces that it prints, and what then
+-- holds.
 use Rattle.std.specs.Prelude.{◌≡◌, ◌≢◌, ℕ, zero, suc, ◌+◌, ◌<◌, ◌≤◌, true, List, [], ◌++◌, length, map, Option, Some, None, Ok, slice_get, slice_set, IsTrue, ⊤}
 use Rattle.berth_face.specs.Berth.{Meaning}
 use Rattle.leaf_history.specs.Calls.{Call}
@@ -43,7 +44,7 @@ use Rattle.leaf_moves.specs.Modes.{mode_of, owed_of, progress_of}
 
 -- ---- the calls of callers
 
--- the piece of a call that had this reply
+-- the piece of a call with this reply
 abbrev pub IsReplyPiece : ℕ → ℕ → Call → Reply → Piece → Type 0
 IsReplyPiece leaf table c (told.Added number kept late) p = p ≡ Called leaf table c number (said.Added kept late)
 IsReplyPiece leaf table c (told.Removed number rows) p = p ≡ Called leaf table c number (said.Removed rows)
@@ -53,7 +54,7 @@ IsReplyPiece leaf table c (told.Full number) p = p ≡ Called leaf table c numbe
 IsReplyPiece leaf table c (told.NoMemory number) p = p ≡ Called leaf table c number said.RefusedMemory
 IsReplyPiece leaf table c told.Worn p = p ≡ Worn leaf table
 
--- a caller's call of a leaf's table in that place, and its piece
+-- a caller's call at a table of a leaf, and its piece
 pub record CallStep (leaf table : ℕ) (c : Call) (tables : List Shared) (callers : List (Option SeatView)) (p : Piece) (callers' : List (Option SeatView)) : Type 0 where
   pub shared : Shared
   pub before : SeatView
@@ -65,9 +66,9 @@ pub record CallStep (leaf table : ℕ) (c : Call) (tables : List Shared) (caller
   pub now : callers' ≡ slice_set callers table (Some after)
   pub says : IsReplyPiece leaf table c reply p
 
--- ---- notes, as they are told
+-- ---- the lines of notes
 
--- what a note's line says
+-- what the line of a note says
 abbrev pub said_of_note : What → Said
 said_of_note (what.Opened writes) = said.Opened writes
 said_of_note (what.Took writes) = said.Took writes
@@ -99,7 +100,7 @@ IsUpLeaf (IsDown x) = ⊥
 IsUpLeaf (IsUp x) = ⊤
 IsUpLeaf (IsPreparing x) = ⊥
 
--- how a refused start is told
+-- the ending that tells a refused start
 abbrev pub ending_of : StartFault → Ending
 ending_of fault.RegionFault = ending.FaultRegion
 ending_of fault.DiskFault = ending.FaultDisk
@@ -108,7 +109,8 @@ ending_of (fault.Stranger name) = ending.FaultStranger name
 ending_of fault.NoMemory = ending.FaultMemory
 ending_of (fault.Worn table) = ending.FaultWorn table
 
--- a start is refused for a worn seat only where that seat is worn, and for a stranger only by a name
+-- a start that is refused for a worn seat has that seat worn, and one that is refused for a stranger names a table's
+-- name
 abbrev pub IsTrueOf : Seated → StartFault → Type 0
 IsTrueOf x (fault.Worn table) = WornAt x table
 IsTrueOf x fault.RegionFault = ⊤
@@ -117,7 +119,8 @@ IsTrueOf x fault.DiskDamaged = ⊤
 IsTrueOf x (fault.Stranger name) = IsName name
 IsTrueOf x fault.NoMemory = ⊤
 
--- what a refused start leaves of the region: what it was for a worn seat, and else, unless the region failed, an open flag closed
+-- the region after a refused start: as it was, if a seat is worn; else with an open flag closed, unless the region
+-- failed
 abbrev pub RegionRefused : StartFault → Meaning → Meaning → Type 0
 RegionRefused fault.RegionFault m m' = IsBroken m.held.region m'.held.region
 RegionRefused (fault.Worn table) m m' = m'.held.region ≡ m.held.region
@@ -130,7 +133,7 @@ pub record RefusalTold (x : Seated) (m m' : Meaning) (f : StartFault) : Type 0 w
   pub region : RegionRefused f m m'
   pub disk : BeginsScan (length m.held.disk) m.held.disk m'.held.disk
 
--- a start that is not refused, over a berth that tells its contents
+-- a start, over a berth that tells its contents
 pub record StartsTold (x : Seated) (m m' : Meaning) (s : Serving) (notes : List Note) (way : Way) : Type 0 where
   pub came : CameUp x.names m m' notes s way
   pub way_is : IsWayOf m.held.region way
@@ -167,7 +170,7 @@ ending_of_flush reply.Flushed = ending.Done
 ending_of_flush reply.DiskFault = ending.FaultDisk
 ending_of_flush reply.Worn = ending.Worn
 
--- a flush of a leaf that is up, or of another
+-- a flush of a leaf that is up, and of one that is not
 pub data FlushMoves (table : ℕ) (m m' : Meaning) (leaf : Leaf) (notes : List Note) (ends : Ending) (leaf' : Leaf) : Type 0 where
   flushed : (s s' : Serving) (r : FlushReply)
       → leaf ≡ IsUp s
@@ -183,7 +186,7 @@ pub data FlushMoves (table : ℕ) (m m' : Meaning) (leaf : Leaf) (notes : List N
       → leaf' ≡ leaf
       → FlushMoves table m m' leaf notes ends leaf'
 
--- a kill closes each open table
+-- a kill: each open table is closed
 pub data KillMoves (m m' : Meaning) (leaf : Leaf) (notes : List Note) (ends : Ending) (leaf' : Leaf) : Type 0 where
   up : (s : Serving) (y : Seated)
       → leaf ≡ IsUp s
@@ -277,14 +280,14 @@ DrainMoves m m' leaf stop notes _ leaf' = ⊥
 
 -- ---- deeds
 
--- what a deed does to a leaf, with its notes and how it ended
+-- what a deed does to a leaf, with its notes and its ending
 abbrev pub Moves : Deed → Meaning → Meaning → Leaf → List Note → Ending → Leaf → Type 0
 Moves Start m m' leaf notes ends leaf' = StartMoves m m' leaf notes ends leaf'
 Moves (Flush table) m m' leaf notes ends leaf' = FlushMoves table m m' leaf notes ends leaf'
 Moves (Drain stop) m m' leaf notes ends leaf' = DrainMoves m m' leaf stop notes ends leaf'
 Moves Kill m m' leaf notes ends leaf' = KillMoves m m' leaf notes ends leaf'
 
--- a deed of the steward of the leaf with this number, between two meetings of all seats
+-- a deed of the steward of leaf `number`, between two meetings of all seats
 pub record DeedStep (number : ℕ) (deed : Deed) (m m' : Meaning) (leaf : Leaf) (callers : List (Option SeatView)) (p : Piece) (leaf' : Leaf) (callers' : List (Option SeatView)) : Type 0 where
   pub met : Leaf
   pub met_callers : List (Option SeatView)

@@ -43,26 +43,36 @@ pub fn open_tables<B: Berth>(
     ensures fresh { IfOk result (λ o. AreFresh o.tables.each × (o.log.owed ≡ None)) }
     ensures room { IfOk result (λ o. AllByRecursion (λ t. t.writes < 2 ^ 63) o.tables.each) }
     // If the berth tells its contents.
-    ensures told { IsTrue (B.meaning berth.old).tells → IfOk result (λ o. Started names.now (B.meaning berth.old) (B.meaning berth.new) (opened_leaf names.now o) o.way) }
-    ensures way { IsTrue (B.meaning berth.old).tells → IfOk result (λ o. IsWayOf (B.meaning berth.old).held.region o.way) }
-    ensures refused { IsTrue (B.meaning berth.old).tells → IfErr result (IsOpeningRefusal names.now (B.meaning berth.old) (B.meaning berth.new)) }
+    ensures told { IsTrue (B.meaning berth.old).tells → IfOk result (λ o.
+        Started names.now (B.meaning berth.old) (B.meaning berth.new) (opened_leaf names.now o) o.way) }
+    ensures way { IsTrue (B.meaning berth.old).tells
+        → IfOk result (λ o. IsWayOf (B.meaning berth.old).held.region o.way) }
+    ensures refused { IsTrue (B.meaning berth.old).tells
+        → IfErr result (IsOpeningRefusal names.now (B.meaning berth.old) (B.meaning berth.new)) }
     // The answer is what the bytes of region and disk decide, unless the berth fails or memory runs out. A fault of the
     // disk comes only if the region gave no tables.
-    ensures exact { IsTrue (B.meaning berth.old).tells → IsExact names.now (B.meaning berth.old).held.region (B.meaning berth.old).held.disk (way_of result) }
+    ensures exact { IsTrue (B.meaning berth.old).tells
+        → IsExact names.now (B.meaning berth.old).held.region (B.meaning berth.old).held.disk (way_of result) }
     // A log that is sound is never damaged.
-    ensures sound { IsTrue (B.meaning berth.old).tells → IsSound (B.meaning berth.old).held.disk → result ≢ Err fault.DiskDamaged }
+    ensures sound { IsTrue (B.meaning berth.old).tells
+        → IsSound (B.meaning berth.old).held.disk → result ≢ Err fault.DiskDamaged }
     // What a crash leaves at each moment, and after the call.
-    ensures moments { IsTrue (B.meaning berth.old).tells → Throughout (OpensFrom (B.meaning berth.old)) (B.meaning berth.old) (B.meaning berth.new) }
+    ensures moments { IsTrue (B.meaning berth.old).tells
+        → Throughout (OpensFrom (B.meaning berth.old)) (B.meaning berth.old) (B.meaning berth.new) }
     ensures disks { IsTrue (B.meaning berth.old).tells → KeepsDisks (B.meaning berth.old) (B.meaning berth.new) result }
     ensures durable { IsTrue (B.meaning berth.old).tells → IfOk result (IsDurable (B.meaning berth.new)) }
-    ensures held { IsTrue (B.meaning berth.old).tells → BeginsScan (length (B.meaning berth.old).held.disk) (B.meaning berth.old).held.disk (B.meaning berth.new).held.disk }
+    ensures held { IsTrue (B.meaning berth.old).tells → BeginsScan
+        (length (B.meaning berth.old).held.disk) (B.meaning berth.old).held.disk (B.meaning berth.new).held.disk }
     ensures log_room { IfOk result (λ o. o.log.end < 2 ^ 63) }
     // On every berth.
     ensures named { IfErr result TellsName }
     ensures time { Passes (B.meaning berth.old) (B.meaning berth.new) }
-    ensures region_cause { result ≡ Err fault.RegionFault → Rose (B.meaning berth.old).region_faults (B.meaning berth.new).region_faults }
-    ensures disk_cause { result ≡ Err fault.DiskFault → Rose (B.meaning berth.old).disk_faults (B.meaning berth.new).disk_faults }
-    ensures reads { IfOk result (λ o. o.way ≡ way.Memory → (B.meaning berth.new).disk_reads ≡ (B.meaning berth.old).disk_reads) }
+    ensures region_cause { result ≡ Err fault.RegionFault
+        → Rose (B.meaning berth.old).region_faults (B.meaning berth.new).region_faults }
+    ensures disk_cause { result ≡ Err fault.DiskFault
+        → Rose (B.meaning berth.old).disk_faults (B.meaning berth.new).disk_faults }
+    ensures reads { IfOk result (λ o.
+        o.way ≡ way.Memory → (B.meaning berth.new).disk_reads ≡ (B.meaning berth.old).disk_reads) }
 {
     let found = adopt(alloc, names, berth)?;
     match found {

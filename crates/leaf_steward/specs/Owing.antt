@@ -1,4 +1,4 @@
--- What the log of a leaf is owed, and what bringing it onto the disk does.
+-- The record that a leaf's log is owed, and what it means to bring one to the disk.
 use Rattle.std.specs.Prelude.{◌≡◌, ℕ, ◌<◌, ◌≤◌, List, [], ◌∷◌, ◌++◌, length, Option, Some, None, IfSome, Result, IsOk, IsErr}
 use Rattle.leaf_model.specs.declared.writes.Write.{Write}
 use Rattle.row_records.specs.Records.{LogRecord}
@@ -14,21 +14,23 @@ use Rattle.leaf_steward.specs.declared.notes.What.TheVariants as what
 use Rattle.leaf_steward.specs.Seated.{Seated, AtPlace, watched_by}
 use Rattle.leaf_steward.specs.Making.{OneEntry}
 
--- The log, and of a record that it is owed the place of the table and how many writes that had accepted when they were taken.
+-- The log, and of the record that it is owed the index of the table and the number of accepted writes when it was
+-- taken.
 pub record Owing : Type 0 where
   pub log : LogState
   pub owner : ℕ
   pub count : ℕ
 
--- what the log is owed is of a table of the leaf, which knows that so many writes were taken
+-- the owed record is of a table of the leaf, whose seat knows that as many writes were taken
 abbrev pub IsOwed : Seated → Owing → Type 0
 IsOwed x o = IfSome o.log.owed (λ r. (o.owner < length x.tables) × AtPlace (λ t v. (o.count ≤ (state_seen (base_seen t) v).taken) × (name_of t ≡ r.name)) x o.owner)
 
--- the note of what was settled, with its entry's number
+-- the note that the owed record was flushed
 abbrev pub flushed_note : Owing → ℕ → Note
 flushed_note o number = record { table = o.owner; number = number; what = what.Flushed o.count }
 
--- What is owed is settled: nothing is owed; or the record is on the disk, and its table is noted as flushed; or the disk fails, and the record is still owed.
+-- The owed record is settled: nothing was owed; or the record is on the disk, and its table noted as flushed; or the
+-- disk failed, and the record is still owed.
 pub data SettlesOwed {T E : Type 0} (clock : ℕ) (x : Seated) (o : Owing) (before : List Note) (result : Result T E) (y : Seated) (o' : Owing) (after : List Note) : Type 0 where
   nothing : o.log.owed ≡ None → IsOk result → y ≡ x → o' ≡ o → after ≡ before → SettlesOwed clock x o before result y o' after
   done : (r : LogRecord) (number : ℕ)
@@ -48,7 +50,7 @@ pub data SettlesOwed {T E : Type 0} (clock : ℕ) (x : Seated) (o : Owing) (befo
       → o'.count ≡ o.count
       → SettlesOwed clock x o before result y o' after
 
--- what was taken of a table is brought onto the disk, and the table is noted as flushed; or it is owed, since the disk failed
+-- the record that was taken is brought to the disk, and its table noted as flushed; or the disk failed, and it is owed
 pub data Brings {T E : Type 0} (clock : ℕ) (x : Seated) (o : Owing) (place writes : ℕ) (pending : Option LogRecord) (before : List Note) (result : Result T E)
     (y : Seated) (o' : Owing) (after : List Note) : Type 0 where
   done : (number : ℕ)
@@ -67,12 +69,12 @@ pub data Brings {T E : Type 0} (clock : ℕ) (x : Seated) (o : Owing) (place wri
       → o'.count ≡ writes
       → Brings clock x o place writes pending before result y o' after
 
--- the leaf runs on, and a crash at each moment of it leaves what belongs to its tables
+-- the leaf still runs, and at each moment all that a crash may leave belongs to its tables
 pub record RunsTo (x y : Seated) (o : Owing) (m m' : Meaning) : Type 0 where
   pub later : List ℕ → List Write
   pub runs : Runs (watched_by y) o.owner o.log later m'
   pub told : (others : NamedStates) → Told others (watched_by x) (watched_by y) m m'
 
--- a leaf that is owed nothing, and whose table in that place was just taken, with this record: whatever its log then is, it runs
+-- nothing was owed, and this record was just taken of the table: with whatever log then owes it, the leaf runs
 abbrev pub HasJustTaken : Seated → Owing → ℕ → Option LogRecord → (List ℕ → List Write) → Meaning → Type 0
 HasJustTaken x o place pending writes m = (log' : LogState) → Owes pending o.log log' → Runs (watched_by x) place log' writes m

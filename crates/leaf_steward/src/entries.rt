@@ -1,4 +1,4 @@
-// The entries of the steward. None of them takes memory, and each carries the berth's clock as it is at the call.
+// The entries of the steward, each with a note. None takes memory. Each carries the berth's clock at the call.
 ghost use Rattle.std.specs.Prelude.{◌≡◌, ◌<◌, ◌≤◌, ◌+◌, ◌++◌, ◌∷◌, ℕ, List, [], length, drop, slice_get, Some, IfSome, IfNone, true};
 ghost use Rattle.std.specs.List.{AllByRecursion};
 ghost use Rattle.table_state.specs.Tables.{Table, added_count};
@@ -22,8 +22,8 @@ use std::thread::Threads;
 use table_state::{TableState, Tables};
 
 impl<'t> Seats<'t> {
-    /// Takes the writes of the table in that place that were not taken, and notes that: how many it had accepted, and the record of the new ones.
-    /// None where the seat has seen 2^62 entries: then no entry is made.
+    /// Takes the writes of table `table` that were not taken, and notes it. Gives the number of accepted writes, and
+    /// the record of the new ones. None if the seat has seen 2^62 entries: then no entry is made.
     pub fn take<R: Wait + Threads + Sync, B: Berth, G: Gate>(
         &mut self,
         rt: &R,
@@ -53,7 +53,7 @@ impl<'t> Seats<'t> {
         Some((writes, pending))
     }
 
-    /// Notes that the disk holds the first writes of the table in that place. The steward has taken as many.
+    /// Notes that the disk has the first `writes` writes of the table. The steward has to have taken as many.
     pub fn flushed<R: Wait + Threads + Sync, B: Berth, G: Gate>(
         &mut self,
         rt: &R,
@@ -75,7 +75,8 @@ impl<'t> Seats<'t> {
         notes.note(table, number, What::Flushed(writes));
     }
 
-    /// Shuts the table in that place, notes that, and hands out its content with the record of what was not taken, and how many writes it had accepted.
+    /// Shuts the table, and notes it. Gives its content with the record of the writes that were not taken, and the
+    /// number of accepted writes.
     pub fn shut<R: Wait + Threads + Sync, B: Berth, G: Gate>(
         &mut self,
         rt: &R,
@@ -101,7 +102,7 @@ impl<'t> Seats<'t> {
         content
     }
 
-    /// Shuts each table from that place on, notes each, and drops what they held.
+    /// Shuts each table from `first` on, notes each, and drops the content.
     pub fn shut_rest<R: Wait + Threads + Sync, B: Berth, G: Gate>(
         &mut self,
         rt: &R,
@@ -144,7 +145,7 @@ impl<'t> Seats<'t> {
         }
     }
 
-    /// Opens each table with what is handed in, and notes that. No seat has seen 2^62 entries.
+    /// Opens each table with its content, and notes it. No seat may be worn.
     pub fn open_all<R: Wait + Threads + Sync, B: Berth, G: Gate>(
         &mut self,
         rt: &R,
@@ -175,7 +176,7 @@ impl<'t> Seats<'t> {
         }
     }
 
-    // Notes that the table in that place was drained.
+    // Notes one table as handed over.
     fn hand<R: Wait + Threads + Sync, B: Berth, G: Gate>(
         &mut self,
         rt: &R,
@@ -197,7 +198,7 @@ impl<'t> Seats<'t> {
         notes.note(table, number, What::Handed);
     }
 
-    // Opens the table in that place, and notes that.
+    // Opens one table with its content, and notes it.
     fn open<R: Wait + Threads + Sync, B: Berth, G: Gate>(
         &mut self,
         rt: &R,

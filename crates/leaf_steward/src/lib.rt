@@ -1,4 +1,5 @@
-//! What the steward of a leaf does at its tables, each call being one entry, or one of each table, with a note of it; and what it does for its log.
+//! The steward of a leaf. Each call at its tables makes one entry, or one for each table, with a note of it. It also
+//! brings records to the log.
 #![tactic(auto)]
 
 mod entries;

@@ -1,4 +1,4 @@
-// What the steward of a leaf does for its log: it settles what the log is owed, and notes the table as flushed.
+// The steward's log: settles the record that the log is owed, and notes its table as flushed.
 ghost use Rattle.std.specs.Prelude.{◌≡◌, ◌<◌, ◌≤◌, ◌^◌, ◌+◌, ◌++◌, ◌∷◌, ℕ, List, [], None, length, IfSome, IsSome, IsTrue, is_some};
 ghost use Rattle.leaf_model.specs.declared.writes.Write.{Write};
 ghost use Rattle.row_records.specs.Records.{IsRecord};
@@ -19,11 +19,11 @@ use std::marker::Model;
 use std::sync::Wait;
 use std::thread::Threads;
 
-/// The log of a leaf, and whose record it is owed. Contracts see the three.
+/// The log of a leaf, and the table whose record it is owed. Contracts see all three fields.
 #[derive(Drop)]
 pub struct StewardLog {
     log: BackupLog,
-    /// The place of the table whose record is owed, and how many writes it had accepted when they were taken.
+    /// The index of the table whose record is owed, and the number of its accepted writes when that was taken.
     owner: u32,
     count: u64,
 }
@@ -49,7 +49,7 @@ impl StewardLog {
         }
     }
 
-    /// The place of the gate at which the log ends.
+    /// The offset of the gate at which the log ends.
     pub fn end(&self) -> u64
         ensures place { result ≡ self.now.log.end }
         ensures bound { result < 2 ^ 63 }
@@ -57,7 +57,8 @@ impl StewardLog {
         self.log.end()
     }
 
-    /// Settles what the log is owed, and notes its table as flushed. A fault leaves it owed, and the next call goes on with it. It takes no memory.
+    /// Settles the record that the log is owed, and notes its table as flushed. After a fault it stays owed, and the
+    /// next call goes on with it. It takes no memory.
     pub fn settle_owed<R: Wait + Threads + Sync, B: Berth, G: Gate>(
         &mut self,
         rt: &R,
@@ -84,8 +85,8 @@ impl StewardLog {
         }
     }
 
-    /// Brings the record of what was just taken of the table in that place onto the disk, where there is one, and notes the table as flushed with so many writes.
-    /// A fault leaves the record owed. It takes no memory.
+    /// Brings the record that was just taken of a table to the disk, if there is one, and notes the table as flushed up
+    /// to `writes`. After a fault the record is owed. It takes no memory.
     pub fn bring<R: Wait + Threads + Sync, B: Berth, G: Gate>(
         &mut self,
         rt: &R,
@@ -170,7 +171,7 @@ impl StewardLog {
     }
 }
 
-// Whether a write was pushed. What was pushed is a record.
+// Whether there is a pending record; states that it is a valid one.
 fn is_pending(pending: &Pending) -> bool
     ensures some { result ≡ is_some pending.now }
     ensures whole { IfSome pending.now IsRecord }

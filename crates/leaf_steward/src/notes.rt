@@ -1,9 +1,10 @@
-// The entries that a call makes.
+// Notes: what a deed tells of the entries that it made.
 ghost use Rattle.std.specs.Prelude.{◌≡◌, ◌+◌, ◌<◌, ◌≤◌, ◌++◌, ◌∷◌, [], length, slice_get, Some};
 
 use std::marker::Model;
 
-/// An entry: the table was opened with so many writes; so many were taken, or were flushed; it was closed after so many; or it was handed over.
+/// What an entry did: opened a table with this many writes; took, or flushed, the first so many writes; closed it after
+/// so many; or handed it over.
 #[derive(Clone, Copy, PartialEq, Eq)]
 pub enum What {
     Opened(u64),
@@ -13,7 +14,8 @@ pub enum What {
     Handed,
 }
 
-/// An entry of a table. The table is its place in the leaf, and the number is that of the entry in the table's history, from 1.
+/// The note of an entry: the index of the table in the leaf, the number of the entry in the table's history, from 1 on,
+/// and what it did.
 #[derive(Clone, Copy, PartialEq, Eq)]
 pub struct Note {
     pub table: u32,
@@ -21,7 +23,7 @@ pub struct Note {
     pub what: What,
 }
 
-/// At most 80 notes, in the order of their making. Contracts see them as the list. (A drain of 16 tables makes 49 at most.)
+/// At most 80 notes, in order. Contracts see them as the list. A drain of 16 tables makes at most 49.
 #[derive(Drop)]
 pub struct Notes {
     inner: [Note; 80],
@@ -54,14 +56,14 @@ impl Notes {
         }
     }
 
-    /// How many there are.
+    /// The number of notes.
     pub fn len(&self) -> u32
         ensures { result ≡ length self.now }
     {
         self.len
     }
 
-    /// The note in that place, from 0.
+    /// Note i, from 0 on.
     pub fn get(&self, i: u32) -> Note
         requires { i < length self.now }
         ensures { slice_get self.now i ≡ Some result }
@@ -69,14 +71,14 @@ impl Notes {
         self.inner[i as usize]
     }
 
-    /// Forgets them all.
+    /// Removes all notes.
     pub fn clear(&mut self)
         ensures { self.new ≡ [] }
     {
         self.len = 0;
     }
 
-    /// Puts one behind the others.
+    /// Appends a note.
     pub fn push(&mut self, note: Note)
         requires { length self.old < 80 }
         ensures { self.new ≡ self.old ++ note ∷ [] }
@@ -85,7 +87,7 @@ impl Notes {
         self.len += 1;
     }
 
-    /// Puts all of others behind these.
+    /// Appends other notes.
     pub fn append(&mut self, others: &Notes)
         requires { length self.old + length others.now ≤ 80 }
         ensures { self.new ≡ self.old ++ others.now }
@@ -95,7 +97,7 @@ impl Notes {
         }
     }
 
-    // Puts the note of an entry of this number behind the others.
+    // Appends the note of an entry.
     pub(crate) fn note(&mut self, table: u32, number: u64, what: What)
         requires { length self.old < 32 }
         ensures { self.new ≡ self.old ++ record { table = table; number = number; what = what } ∷ [] }

@@ -13,7 +13,7 @@ use leaf_table::{Seat, SharedTable, WORN};
 use std::alloc::AllocError;
 use std::marker::Model;
 
-/// The names of a leaf's tables, the tables in the same order, and the steward's seat at each. Contracts see them as lists.
+/// The names of a leaf's tables, the tables in that order, and the steward's seat at each. Contracts see them as lists.
 #[derive(Drop)]
 pub struct Seats<'t> {
     pub(crate) names: Names,
@@ -32,7 +32,7 @@ impl<'t> Model for Seats<'t> {
 }
 
 impl<'t> Seats<'t> {
-    /// The seats of a steward that has made no entry yet, at tables of these names that are shut.
+    /// The unused seats of a steward, at shut tables of these names.
     pub fn new(names: Names, tables: &'t [SharedTable], seats: Vec<Seat>) -> Seats<'t>
         requires named { AreNames names }
         requires names { map name_of tables.now ≡ names }
@@ -48,7 +48,7 @@ impl<'t> Seats<'t> {
         }
     }
 
-    /// Does nothing. It says what the seats of every leaf are.
+    /// No-op; states the invariant of a leaf's seats.
     pub fn sits(&self)
         ensures { AreSeated self.now }
     {
@@ -62,7 +62,7 @@ impl<'t> Seats<'t> {
         &self.names
     }
 
-    /// How many tables there are, which is 1 to 16.
+    /// The number of tables: 1 to 16.
     pub fn len(&self) -> u32
         ensures count { result ≡ length self.now.tables }
         ensures few { (0 < result) × (result ≤ 16) }
@@ -70,7 +70,7 @@ impl<'t> Seats<'t> {
         self.tables.len() as u32
     }
 
-    /// The first table whose seat has seen 2^62 entries.
+    /// The first table whose seat is worn: it has seen 2^62 entries. None if no seat is.
     pub fn worn(&self) -> Option<u32>
         ensures some { IfSome result (λ place. (place < length self.now.tables) × WornAt self.now place
             × ((before : ℕ) (v : SeatView) → before < place → slice_get self.now.seats before ≡ Some v → IsFresh v)) }
@@ -84,7 +84,8 @@ impl<'t> Seats<'t> {
         None
     }
 
-    /// Lets the steward's seat of that table and a caller's see what the other has seen. It makes no entry and takes no memory.
+    /// Lets the steward's seat at table `table` and a caller's seat learn what the other has seen. It makes no entry
+    /// and takes no memory.
     pub fn meet(&mut self, table: u32, seat: &mut Seat) -> Result<(), AllocError>
         requires table { table < length self.old.tables }
         requires seat { AtPlace (λ t v. IsSeatOf seat.old t.site × LegalFrom (is_founded (base_seen t)) (start_of (base_seen t)) (seen_of seat.old)) self.old table }

@@ -1,4 +1,4 @@
--- The tables of a fleet as they are made, and the seats at them.
+-- The tables of a new fleet, and the seats at them.
 use Rattle.std.specs.Prelude.{◌≡◌, ℕ, ◌+◌, ◌<◌, ◌≤◌, List, length, slice_get, Option, Some}
 use Rattle.turnstile.specs.Seats.{IsSeatOf, unused_seat}
 use Rattle.leaf_table.specs.declared.base.TableBase.{TableBase}
@@ -10,7 +10,7 @@ use Rattle.leaf_table.specs.Lists.{row, place}
 abbrev pub IsShortName : List ℕ → Type 0
 IsShortName name = length name ≤ 255
 
--- a new table has its numbers, its name and its base; both seats are unused, and it is shut
+-- a new table with these indices, this name and this base; both seats are unused, and it is shut
 pub record IsNew (base : Option TableBase) (leaf number : ℕ) (name : List ℕ) (share : ℕ) (table : Shared) (steward caller : SeatView) : Type 0 where
   pub numbers : (table.leaf ≡ leaf) × (table.table ≡ number)
   pub named : name_of table ≡ name
@@ -20,7 +20,7 @@ pub record IsNew (base : Option TableBase) (leaf number : ℕ) (name : List ℕ)
   pub shut : SeesShut table steward
   pub seats : IsSeatOf steward table.site × IsSeatOf caller table.site
 
--- a leaf's table of that number is a new one of that name, and both its seats stand in their places
+-- table `number` of a leaf is new, has the name at its index, and both its seats are at theirs
 pub record IsAt (base : ℕ → ℕ → Option TableBase) (names : List (List ℕ)) (share : ℕ) (tables : List Shared) (stewards : List SeatView) (callers : List (List SeatView)) (leaf t : ℕ) : Type 0 where
   pub name : List ℕ
   pub table : Shared
@@ -32,7 +32,7 @@ pub record IsAt (base : ℕ → ℕ → Option TableBase) (names : List (List �
   pub callers_seat : place callers t leaf ≡ Some caller
   pub new : IsNew (base leaf t) leaf t name share table steward caller
 
--- the first k tables of a leaf were made, and their callers' seats put behind those that stood there
+-- the first k tables of a leaf were made, and their callers' seats appended to those of the leaves before
 pub record IsPartOfFleet (base : ℕ → ℕ → Option TableBase) (leaf : ℕ) (names : List (List ℕ)) (share k : ℕ) (tables : List Shared) (stewards : List SeatView) (before callers : List (List SeatView)) : Type 0 where
   pub sizes : (length tables ≡ k) × (length stewards ≡ k) × (length callers ≡ length before)
   pub longer : (t : ℕ) → t < k → length (row callers t) ≡ length (row before t) + 1
@@ -40,13 +40,13 @@ pub record IsPartOfFleet (base : ℕ → ℕ → Option TableBase) (leaf : ℕ) 
   pub kept : (i j : ℕ) (seat : SeatView) → place before i j ≡ Some seat → place callers i j ≡ Some seat
   pub places : (t : ℕ) → t < k → IsAt base names share tables stewards callers leaf t
 
--- a new fleet: for each leaf and each name a new table, and both its seats
+-- a new fleet: a new table for each leaf and each name, and both its seats
 pub record IsNewFleet (base : ℕ → ℕ → Option TableBase) (leaves : ℕ) (names : List (List ℕ)) (share : ℕ) (tables : List (List Shared)) (stewards callers : List (List SeatView)) : Type 0 where
-  -- as many leaves, and as many tables
+  -- the numbers of leaves and tables
   pub counts : (length tables ≡ leaves) × (length stewards ≡ leaves) × (length callers ≡ length names)
-  -- each leaf has a table for each name, with its steward's seat
+  -- each leaf has a table of each name, and the steward's seat at it
   pub in_leaf : (leaf : ℕ) → leaf < leaves → (length (row tables leaf) ≡ length names) × (length (row stewards leaf) ≡ length names)
-  -- each table has a caller's seat for each leaf
+  -- each table has a callers' seat for each leaf
   pub in_table : (t : ℕ) → t < length names → length (row callers t) ≡ leaves
-  -- in each place stand the table of that leaf and number and its seats
+  -- each index has the table of that leaf and number, and its seats
   pub places : (leaf t : ℕ) → leaf < leaves → t < length names → IsAt base names share (row tables leaf) (row stewards leaf) callers leaf t

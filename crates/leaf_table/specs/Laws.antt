@@ -1,4 +1,4 @@
--- What the steward knows after its own call.
+-- What the steward knows after a call of its own.
 use Rattle.std.specs.Prelude.{◌≡◌, ℕ, ◌<◌, Option}
 use Rattle.leaf_history.specs.Calls.{Call}
 use Rattle.leaf_history.specs.Replies.{Reply}
@@ -8,11 +8,11 @@ use Rattle.leaf_table.specs.declared.base.TableBase.{TableBase}
 use Rattle.leaf_table.specs.Turns.{is_founded}
 use Rattle.leaf_table.specs.Calls.{SeatView, IsSteward, Made, entry_seen, state_seen, state_before}
 
--- callers left what it knew before its entry, and its entry did the rest
+-- up to its entry, callers kept what it knew; then its own entry changed the state
 pub record Knew (base : Option TableBase) (clock : ℕ) (v : SeatView) (c : Call) (r : Reply) (w : SeatView) (s : HistoryState) : Type 0 where
   pub others : IsSteward v → 0 < v.share → CallersKeep (state_seen base v) s
   pub now : state_seen base w ≡ after_entry (is_founded base) s (entry_seen v.id clock c r)
 
--- of whatever call it made
+-- this holds of each call of the steward
 abbrev pub StewardKnows : Type 0
 StewardKnows = (base : Option TableBase) (clock : ℕ) (v w : SeatView) (c : Call) (r : Reply) → (m : Made base clock v c r w) → Knew base clock v c r w (state_before base v m.between)

@@ -1,4 +1,4 @@
--- What each turn does to the value.
+-- What each turn does to the value behind the turnstile.
 use Rattle.std.specs.Prelude.{◌≡◌, ◌+◌, ◌<◌, ◌≤◌, ◌^◌, true, false, List, length, Option, Some, None}
 use Rattle.std.specs.List.{AllByRecursion}
 use Rattle.leaf_model.specs.declared.rows.Row.{Row}
@@ -14,7 +14,7 @@ use Rattle.leaf_table.specs.declared.turns.Answer.{Answer}
 use Rattle.leaf_table.specs.declared.turns.Answer.TheVariants.{Added, Removed, Groups, Shut, Full, NoMemory, Took, Closed, Noted}
 use Rattle.leaf_table.specs.declared.value.LeafTable.{LeafTable}
 
--- rows are added where the table is open and has room for them
+-- an add: rows are added if the table is open and has room for them; else nothing changes
 abbrev pub AddsTo : LeafTable → List Row → Answer → LeafTable → Type 0
 AddsTo v rows (Added kept late) w = (v.live ≡ true) × (length v.table.contents.rows + kept_count v.table.contents rows ≤ 2 ^ 40) × (kept ≡ kept_count v.table.contents rows) × (late ≡ late_count v.table.contents rows) × (w.name ≡ v.name) × (w.live ≡ v.live) × (bare w.table ≡ table_with_write v.name v.table (Add rows))
     × (columns_most w.table.store ≤ columns_most v.table.store + rows_and_cells rows)
@@ -27,7 +27,7 @@ AddsTo v rows (Took writes pending) w = ⊥
 AddsTo v rows (Closed table) w = ⊥
 AddsTo v rows Noted w = ⊥
 
--- an expiry or a keep takes rows away where the table is open
+-- an expiry or a keep: rows are removed if the table is open; else nothing changes
 abbrev pub RemovesFrom : LeafTable → Write → Answer → LeafTable → Type 0
 RemovesFrom v write (Removed n) w = (v.live ≡ true) × (n ≡ removed_count v.table.contents write) × (w.name ≡ v.name) × (w.live ≡ v.live) × (bare w.table ≡ table_with_write v.name v.table write)
     × (columns_most w.table.store ≤ columns_most v.table.store)
@@ -40,7 +40,7 @@ RemovesFrom v write (Took writes pending) w = ⊥
 RemovesFrom v write (Closed table) w = ⊥
 RemovesFrom v write Noted w = ⊥
 
--- an open table tells the groups of its rows, which are what a table may hold
+-- an ask: the groups of the rows if the table is open; these rows are ones that a table may hold
 abbrev pub AsksOf : LeafTable → Option Query → Answer → Type 0
 AsksOf v copy (Groups gs) = (v.live ≡ true) × (q : Query) × (copy ≡ Some q) × (gs ≡ groups q v.table.contents.rows) × IsHeld v.table.contents × AllByRecursion (IsWithin (length v.table.contents.rows)) gs
 AsksOf v copy NoMemory = v.live ≡ true
@@ -52,10 +52,10 @@ AsksOf v copy (Took writes pending) = ⊥
 AsksOf v copy (Closed table) = ⊥
 AsksOf v copy Noted = ⊥
 
--- the record of the writes that were not taken is handed out
+-- a take: the record of the writes that were not taken is given out
 abbrev pub TakesFrom : LeafTable → Answer → LeafTable → Type 0
 TakesFrom v a w = (a ≡ Took v.table.writes v.table.pending) × (w ≡ record v { table = record v.table { pending = None } })
 
--- the table is handed out, and an empty one is left
+-- a shut: the table is given out, and an empty one is left
 abbrev pub Shuts : LeafTable → Answer → LeafTable → Type 0
 Shuts v a w = (a ≡ Closed v.table) × (w ≡ record v { live = false; table = empty_table })

@@ -1,4 +1,4 @@
--- What a list of turns means: a history, and what each turn hands in and out.
+-- The history that a list of turns is, and what each turn takes in and gives out.
 use Rattle.std.specs.Prelude.{◌≡◌, ◌⊎◌, ℕ, ◌+◌, ◌<◌, ◌≤◌, ◌^◌, Bool, true, false, List, [], ◌∷◌, length, map, Option, Some, None, ⊤}
 use Rattle.std.specs.List.{AllByRecursion}
 use Rattle.turnstile.specs.declared.object.Entry as turnstile
@@ -23,27 +23,27 @@ use Rattle.leaf_table.specs.declared.turns.Answer.{Answer}
 use Rattle.leaf_table.specs.declared.turns.Answer.TheVariants as answer
 use Rattle.leaf_table.specs.declared.value.LeafTable.{LeafTable}
 
--- a shared table: the numbers of its leaf and of itself, its turnstile, and what it was made with
+-- a shared table: the indices of its leaf and of itself, and its turnstile, which fixes name and base
 pub record Shared : Type 0 where
   pub leaf : ℕ
   pub table : ℕ
   pub site : Site Origin
 
--- a list of turns, with what each of them answered
+-- turns, each with its answer
 abbrev pub Turns : Type 0
 Turns = List (turnstile.Entry Turn Answer)
 
--- a table is founded where it has a base
+-- a table is founded if it has a base
 abbrev pub is_founded : Option TableBase → Bool
 is_founded (Some b) = true
 is_founded None = false
 
--- where it begins
+-- the state that the table begins with
 abbrev pub start_of : Option TableBase → HistoryState
 start_of (Some b) = base_of b.writes b.flushed
 start_of None = no_base
 
--- the call that a turn makes
+-- the call of a turn
 abbrev pub call_of : Turn → Call
 call_of (turn.Add rows) = call.Add rows
 call_of (turn.AddCopy rows copy) = call.Add rows.value
@@ -56,12 +56,12 @@ call_of turn.Shut = call.Shut
 call_of turn.Done = call.Done
 call_of (turn.Open n table) = call.Open n table.contents
 
--- the turn adds these rows, with a copy of them or none
+-- the turn adds these rows, and has a copy of them or none
 abbrev pub IsAddOf : List Row → Turn → Type 0
 IsAddOf rows (turn.AddCopy of copy) = (of.value ≡ rows) × ((copy ≡ None) ⊎ (copy ≡ Some rows))
 IsAddOf rows _ = ⊥
 
--- the turn asks this query, with a copy of it or none
+-- the turn asks this query, and has a copy of it or none
 abbrev pub IsAsk : Query → Turn → Type 0
 IsAsk q (turn.Ask query copy) = (query.value ≡ q) × ((copy ≡ None) ⊎ (copy ≡ Some q))
 IsAsk q (turn.Add rows) = ⊥
@@ -74,7 +74,7 @@ IsAsk q turn.Shut = ⊥
 IsAsk q turn.Done = ⊥
 IsAsk q (turn.Open n table) = ⊥
 
--- the reply that an answer tells
+-- the reply in an answer
 abbrev pub reply_of : Answer → Reply
 reply_of (answer.Added kept late) = reply.Added kept late
 reply_of (answer.Removed rows) = reply.Removed rows
@@ -86,28 +86,28 @@ reply_of (answer.Took writes pending) = reply.Counted writes
 reply_of (answer.Closed table) = reply.Counted table.writes
 reply_of answer.Noted = reply.Noted
 
--- the entry that a turn is
+-- the entry of a turn
 abbrev pub told : turnstile.Entry Turn Answer → Entry
 told e = record { caller = e.by; call = call_of e.call; reply = reply_of e.reply; clock = e.clock }
 
--- the history that these turns are
+-- the history of these turns
 abbrev pub history : Turns → List Entry
 history h = map told h
 
--- the record of a table's writes: none where there are no writes
+-- the record of a table's writes; None without writes
 abbrev pub record_for : List ℕ → List Write → Option LogRecord
 record_for name [] = None
 record_for name (w ∷ ws) = Some (new_record name (w ∷ ws))
 
--- the record of the writes of a table that were not taken
+-- the record of the writes that were not taken
 abbrev pub untaken_record : List ℕ → HistoryState → Option LogRecord
 untaken_record name s = record_for name (untaken s)
 
--- a table that is founded comes to at most a column for each row and each cell that its writes add
+-- a founded table has at most one column for each row and each cell that its writes add
 abbrev pub HasFewColumns : Bool → List Write → Table → Type 0
 HasFewColumns founded writes table = founded ≡ true → columns_most table.store ≤ added_count writes
 
--- a take hands out the record of the writes that were not taken, and a shut the table with them
+-- what a turn gives out: a take the record of the writes that were not taken, a shut the table with this record
 abbrev pub HandsOut : List ℕ → Bool → HistoryState → Turn → Answer → Type 0
 HandsOut name founded s turn.Take (answer.Took writes pending) = pending ≡ untaken_record name s
 HandsOut name founded s turn.Take _ = ⊥
@@ -115,7 +115,7 @@ HandsOut name founded s turn.Shut (answer.Closed table) = (table.contents ≡ he
 HandsOut name founded s turn.Shut _ = ⊥
 HandsOut name founded s _ _ = ⊤
 
--- groups are told over what a table may hold, and are within what 2^40 rows give
+-- groups in a reply are those of rows that a table may hold, and fit 2^40 rows
 abbrev pub OverFew : HistoryState → Reply → Type 0
 OverFew s (reply.Groups gs) = IsHeld (held s) × AllByRecursion (IsWithin (2 ^ 40)) gs
 OverFew s _ = ⊤
@@ -127,16 +127,17 @@ abbrev pub HandsFrom : List ℕ → Bool → HistoryState → Turns → Type 0
 HandsFrom name founded s [] = ⊤
 HandsFrom name founded s (e ∷ es) = Hands name founded s e.call e.reply × HandsFrom name founded (after_entry founded s (told e)) es
 
--- the turns are a legal history, and each hands out what it owes
+-- the turns are a legal history, and each gives out what it owes
 pub record LegalTurns (name : List ℕ) (base : Option TableBase) (h : Turns) : Type 0 where
   pub legal : LegalFrom (is_founded base) (start_of base) (history h)
   pub hands : HandsFrom name (is_founded base) (start_of base) h
 
--- the table's state after these turns
+-- the state of the table after these turns
 abbrev pub state_after : Option TableBase → Turns → HistoryState
 state_after base h = after (is_founded base) (start_of base) (history h)
 
--- an open table holds what its history says, and the record of the writes that were not taken
+-- the value behind the turnstile agrees with the state: an open table has its contents, and the record of the writes
+-- that were not taken
 pub record IsTableOf (name : List ℕ) (founded : Bool) (s : HistoryState) (n : ℕ) (v : LeafTable) : Type 0 where
   pub named : v.name ≡ name
   pub short : length name ≤ 255
@@ -150,7 +151,8 @@ pub record IsTableOf (name : List ℕ) (founded : Bool) (s : HistoryState) (n : 
 abbrev pub StandsFor : List ℕ → Option TableBase → Turns → LeafTable → Type 0
 StandsFor name base h v = IsTableOf name (is_founded base) (state_after base h) (length h) v
 
--- a table that is handed in: nothing is pending, it had n writes, and of a founded one these add a row or a cell for each column
+-- a table that may be opened: nothing is pending, and it had n writes; if founded, these add at least a row or a cell
+-- for each column
 pub record MayHandIn (founded : Bool) (s : HistoryState) (n : ℕ) (table : Table) : Type 0 where
   pub pending : table.pending ≡ None
   pub writes : table.writes ≡ n
@@ -158,7 +160,7 @@ pub record MayHandIn (founded : Bool) (s : HistoryState) (n : ℕ) (table : Tabl
   pub columns : HasFewColumns founded (first_writes s n) table
   pub allowed : OpenAllowed founded s n table.contents
 
--- who may take which turn in this state: the steward shuts what is open and opens what is shut
+-- who may take which turn in this state: the steward shuts an open table, and opens a shut one
 abbrev pub MayNow : Bool → HistoryState → ℕ → Turn → Type 0
 MayNow founded s by (turn.Add rows) = (0 < by) × AllByRecursion IsRow rows
 MayNow founded s by (turn.AddCopy rows copy) = (0 < by) × AllByRecursion IsRow rows.value × ((copy ≡ None) ⊎ (copy ≡ Some rows.value))

@@ -1,4 +1,4 @@
-// The groups of a table's rows.
+// Answers a query over a table.
 ghost use Rattle.std.specs.Prelude.{◌≡◌, ◌<◌, length, IfOk};
 ghost use Rattle.std.specs.List.{AllByRecursion};
 ghost use Rattle.leaf_model.specs.Groups.{groups};
@@ -13,7 +13,7 @@ use std::sync::ledger::{Blank, Ledger};
 use std::thread::Threads;
 use table_state::TableState;
 
-/// The groups of the rows that a table holds, over its blocks and its tail. The blocks may be folded in threads.
+/// The groups of the table's rows, over its blocks and its tail. Threads may fold the blocks. Err if memory runs out.
 pub(crate) fn groups_of<L: Ledger, R: Threads + Sync>(
     rt: &R,
     alloc: Global,

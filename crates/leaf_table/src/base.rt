@@ -1,4 +1,4 @@
-// What a table begins with. Contracts alone see it.
+// What a table begins with. Only contracts see it.
 ghost use Rattle.std.specs.Prelude.{◌≡◌, IfOk};
 
 use crate::founding::{Founding, Pick};
@@ -7,13 +7,14 @@ use std::alloc::{AllocError, Global};
 use std::marker::{Brand, PhantomData};
 use std::snapshot::Snapshot;
 
-/// What a founded table begins with: the writes of its berth, and how many of them every crash leaves. No value of it is made.
+/// The base of a founded table: the writes in its berth's log, and how many of them every crash leaves. Specification
+/// only, never constructed.
 pub struct TableBase {
     pub writes: Writes,
     pub flushed: u64,
 }
 
-/// The base of each leaf's tables, by the numbers of leaf and table, or none. The maker of a table picks it.
+/// The base of each table of each leaf, or none, by the indices of leaf and table. Whoever makes a table picks it.
 pub trait Founds {
     ghost use Rattle.std.specs.Prelude.{Option, ℕ};
     ghost use Rattle.leaf_table.specs.declared.base.TableBase.{TableBase};
@@ -34,7 +35,7 @@ pub struct Origin {
     pub base: Founding<TableBase>,
 }
 
-/// The base of the one table whose numbers the call names.
+/// The base of the table with the indices in the call.
 pub(crate) trait Place {
     ghost use Rattle.std.specs.Prelude.{Option};
     ghost use Rattle.leaf_table.specs.declared.base.TableBase.{TableBase};
@@ -56,7 +57,7 @@ impl<P: Place> Pick<TableBase> for At<P> {
     ghost value = { P.base };
 }
 
-// The base that P names.
+// The base that P picks.
 fn pick_base<P: Place>(
     alloc: Global,
     _leaf: u32,
@@ -67,7 +68,7 @@ fn pick_base<P: Place>(
     Founding::<TableBase>::pick::<At<P>>(alloc)
 }
 
-// The base of this table.
+// The base of this table, by N.
 fn base_of<N: Founds>(
     alloc: Global,
     leaf: u32,
@@ -78,7 +79,7 @@ fn base_of<N: Founds>(
     pick_base::<Brand>(alloc, leaf, table)
 }
 
-// The origin of this table.
+// The name and the base of this table.
 pub(crate) fn origin_of<N: Founds>(
     alloc: Global,
     leaf: u32,

@@ -1,4 +1,4 @@
-// The calls of a caller.
+// The calls of callers.
 ghost use Rattle.std.specs.Prelude.{◌≡◌};
 ghost use Rattle.std.specs.List.{AllByRecursion};
 ghost use Rattle.turnstile.specs.Seats.{IsSeatOf};
@@ -18,11 +18,11 @@ use std::snapshot::Snapshot;
 use std::sync::Wait;
 use std::thread::Threads;
 
-/// From so many entries on that it has seen, a seat makes no more.
+/// A seat that has seen this many entries is worn: it makes no more.
 pub const WORN: u64 = 1 << 62;
 
 impl SharedTable {
-    /// Adds rows to the table, where it is open.
+    /// Adds rows, if the table is open.
     pub fn add<R: Wait + Threads + Sync, G: Gate>(
         &self,
         rt: &R,
@@ -44,7 +44,8 @@ impl SharedTable {
         numbered(seat.seen(), answer)
     }
 
-    /// Adds a copy of these rows to the table, where it is open. Rows that cannot be copied take their turn all the same, and are refused memory.
+    /// Adds a copy of the rows, if the table is open. If memory for the copy runs out, the call still makes an entry,
+    /// with NoMemory.
     pub fn add_copy<R: Wait + Threads + Sync, G: Gate>(
         &self,
         rt: &R,
@@ -67,7 +68,7 @@ impl SharedTable {
         numbered(seat.seen(), answer)
     }
 
-    /// Raises the horizon of the table, where it is open.
+    /// Raises the horizon, if the table is open.
     pub fn expire<R: Wait + Threads + Sync, G: Gate>(
         &self,
         rt: &R,
@@ -89,7 +90,7 @@ impl SharedTable {
         numbered(seat.seen(), answer)
     }
 
-    /// Leaves the last n rows of the table, where it is open.
+    /// Keeps the last n rows, if the table is open.
     pub fn keep<R: Wait + Threads + Sync, G: Gate>(
         &self,
         rt: &R,
@@ -110,7 +111,8 @@ impl SharedTable {
         numbered(seat.seen(), answer)
     }
 
-    /// Asks the table, where it is open. A query that cannot be copied takes its turn all the same.
+    /// Asks for the groups of a query, if the table is open. If memory for a copy of the query runs out, the call still
+    /// makes an entry.
     pub fn ask<R: Wait + Threads + Sync, G: Gate>(
         &self,
         rt: &R,

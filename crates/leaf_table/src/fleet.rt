@@ -1,4 +1,4 @@
-// The tables of a fleet, leaf by leaf, and the seats at them.
+// The tables of a fleet, and the seats at them.
 ghost use Rattle.std.specs.Prelude.{◌≡◌, ◌<◌, ◌≤◌, length, IfOk};
 ghost use Rattle.std.specs.List.{AllByRecursion};
 ghost use Rattle.leaf_table.specs.Lists.{lists_in, row, HasRows, Puts};
@@ -10,7 +10,7 @@ use leaf_model::Names;
 use std::alloc::{AllocError, Global};
 use std::marker::Model;
 
-/// For each leaf the stewards' seats, in the order of the tables. Contracts see them as lists.
+/// The steward's seats, by leaf and then by table. Contracts see them as lists of lists.
 #[derive(Drop)]
 pub struct StewardSeats {
     inner: Vec<Vec<Seat>>,
@@ -46,7 +46,7 @@ impl StewardSeats {
     }
 }
 
-/// For each table the first callers' seats, in the order of the leaves. Contracts see them as lists.
+/// The callers' seats, by table and then by leaf. Contracts see them as lists of lists.
 #[derive(Drop)]
 pub struct CallerSeats {
     inner: Vec<Vec<Seat>>,
@@ -82,7 +82,7 @@ impl CallerSeats {
     }
 }
 
-/// The tables of a fleet: for each leaf one of each name. Contracts see them as lists.
+/// The tables of a fleet, by leaf: one of each name. Contracts see them as lists of lists.
 #[derive(Drop)]
 pub struct FleetTables {
     leaves: Vec<Vec<SharedTable>>,
@@ -99,7 +99,8 @@ impl Model for FleetTables {
 }
 
 impl FleetTables {
-    /// Shut tables of these names for each leaf, the stewards' seats, and the first callers', each with the share. N picks the bases.
+    /// Makes a shut table of each name for each leaf, with the steward's seats and the first callers' seats. Each
+    /// callers' seat has `share` ids. N picks the bases. Err if memory runs out.
     pub fn new<N: Founds>(
         alloc: Global,
         leaves: u32,
@@ -132,14 +133,14 @@ impl FleetTables {
         self.leaves[leaf as usize].as_slice()
     }
 
-    /// How many leaves there are.
+    /// The number of leaves.
     pub fn count(&self) -> usize
         ensures { result ≡ length self.now }
     {
         self.leaves.len()
     }
 
-    /// About how many rows the tables of that number have at so many leaves from the first on. Nothing is claimed of it.
+    /// An estimate of the rows that table `table` has at `count` leaves from `first` on. It is a hint only.
     pub fn weight(&self, table: u32, first: u32, count: usize) -> u64 {
         let mut weight = 0u64;
         for leaf in first as usize..(first as usize).saturating_add(count) {
@@ -153,7 +154,7 @@ impl FleetTables {
     }
 }
 
-// As many rows of seats, with no seat in them.
+// `count` empty lists of seats.
 fn empty_rows(alloc: Global, count: usize) -> Result<Vec<Vec<Seat>>, AllocError>
     ensures { IfOk result (λ rows. HasRows count 0 (lists_in rows.items)) }
 {
@@ -164,7 +165,7 @@ fn empty_rows(alloc: Global, count: usize) -> Result<Vec<Vec<Seat>>, AllocError>
     Ok(rows)
 }
 
-// Puts a seat behind those of a row.
+// Appends a seat to list `at`.
 fn put(rows: &mut Vec<Vec<Seat>>, at: usize, seat: Seat) -> Result<(), AllocError>
     requires { at < length (lists_in rows.old.items) }
     ensures { IfOk result (λ _. Puts (lists_in rows.old.items) at seat (lists_in rows.new.items)) }
@@ -173,7 +174,7 @@ fn put(rows: &mut Vec<Vec<Seat>>, at: usize, seat: Seat) -> Result<(), AllocErro
     Ok(())
 }
 
-// One leaf's tables and their stewards' seats. The callers' seats go behind those of the leaves before it.
+// One leaf's tables and their steward's seats. The callers' seats are appended to those of the leaves before.
 fn leaf_tables<N: Founds>(
     alloc: Global,
     leaf: u32,

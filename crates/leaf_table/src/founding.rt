@@ -1,4 +1,4 @@
-// A value of no bytes that contracts alone see: a proof picks it when it is made.
+// A value that only contracts see. It is picked when it is made, and takes no bytes.
 
 ghost use Rattle.std.specs.Prelude.{◌≡◌, IfOk};
 
@@ -6,7 +6,7 @@ use atomic_table::{Play, Seat, Table, TableRule};
 use std::alloc::{AllocError, Global};
 use std::marker::{Brand, Model, PhantomData};
 
-/// What is picked.
+/// The value that is picked.
 pub trait Pick<B> {
     ghost use Rattle.std.specs.Prelude.{Option};
 
@@ -19,7 +19,7 @@ impl<B> Pick<B> for Brand {
     ghost value = { None };
 }
 
-// A table that holds whatever it is. Its first seat knows nothing yet.
+// A word that may hold any value. Its first seat knows nothing.
 struct Anything;
 
 impl<B> TableRule<(), Option<B>, ()> for Anything {
@@ -30,7 +30,7 @@ impl<B> TableRule<(), Option<B>, ()> for Anything {
     ghost first = { λ _. None };
 }
 
-// At one load the seat comes to know what N picks.
+// The load by which a seat learns N's value.
 struct Picks<N> {
     of: PhantomData<N>,
 }
@@ -41,7 +41,7 @@ impl<B, N: Pick<B>> Play<(), Option<B>> for Picks<N> {
     ghost then = { λ st m found m'. m'.0 ≡ N.value };
 }
 
-/// A token that stands for the value that was picked. It may cross threads, and dropping it does nothing.
+/// A token of the value that was picked. It may cross threads, and to drop it is a no-op.
 #[derive(Drop)]
 pub struct Founding<B> {
     seat: Seat<(), Option<B>>,
@@ -56,7 +56,7 @@ impl<B> Model for Founding<B> {
 }
 
 impl<B> Founding<B> {
-    /// The token of N's value. It takes the memory of one word, and gives it back at once.
+    /// The token of N's value. It takes the memory of one word, and gives it back at once. Err if there is none.
     pub fn pick<N: Pick<B>>(alloc: Global) -> Result<Founding<B>, AllocError>
         ensures { IfOk result (λ f. f ≡ N.value) }
     {

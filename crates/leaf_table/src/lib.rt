@@ -1,4 +1,4 @@
-//! A table of a leaf that callers and the leaf's steward share by turns.
+//! A table that the callers and the steward of a leaf share by turns.
 #![tactic(auto)]
 
 mod asking;
@@ -27,12 +27,12 @@ pub use shared_query::SharedQuery;
 pub use turns::{Answer, Turn};
 pub use value::LeafTable;
 
-/// What the steward knows of its table after a call of its own.
+/// No-op; states what the steward knows of its table after a call of its own.
 pub fn steward_knows()
     ensures { StewardKnows }
 {}
 
-/// Who made the entries that a seat has seen.
+/// No-op; states who may have made the entries that a seat has seen.
 pub fn makers_known()
     ensures { MakersKnown }
 {}

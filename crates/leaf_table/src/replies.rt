@@ -1,4 +1,4 @@
-// What the calls answer.
+// The replies of the calls.
 ghost use Rattle.leaf_table.specs.Turns.{reply_of};
 ghost use Rattle.leaf_table.specs.Calls.{IsCallersReply, IsToldAs};
 
@@ -7,7 +7,7 @@ use leaf_model::Groups;
 use row_records::Pending;
 use table_state::TableState;
 
-/// What a caller is answered, with the number of its entry. A worn seat makes no entry: it has seen 2^62.
+/// The reply to a caller, with the number of its entry. Worn: the seat has seen 2^62 entries, and no entry was made.
 #[derive(Drop)]
 pub enum Reply {
     Added { number: u64, kept: u64, late: u64 },
@@ -19,7 +19,7 @@ pub enum Reply {
     Worn,
 }
 
-/// What the steward took: how many writes the table accepted, and the record of those that were not taken before.
+/// The reply to a take: how many writes the table had accepted, and the record of those that were not taken yet.
 #[derive(Drop)]
 pub enum Taken {
     Took {
@@ -30,7 +30,7 @@ pub enum Taken {
     Worn,
 }
 
-/// A table that was shut, with its writes that were not taken pending.
+/// A table that was shut, with the record of its writes that were not taken.
 #[derive(Drop)]
 pub struct ClosedTable {
     pub number: u64,
@@ -38,7 +38,7 @@ pub struct ClosedTable {
     pub table: TableState,
 }
 
-// The reply of an entry, with its number.
+// The reply of an entry, with the number of the entry.
 pub(crate) fn numbered(number: u64, answer: Answer) -> Reply
     requires { IsCallersReply (reply_of answer) }
     ensures { IsToldAs number (reply_of answer) result }

@@ -1,4 +1,4 @@
-// A shared table, and one turn at it.
+// A shared table: its seats, and one turn at it.
 ghost use Rattle.std.specs.Prelude.{◌≡◌, ◌<◌, ◌≤◌, length, IfOk, IsOk};
 ghost use Rattle.turnstile.specs.Seats.{IsSeatOf, HasRoom, Joined, LearnsOthers, Told, keeps_all_but, given, unused_seat};
 ghost use Rattle.leaf_table.specs.Turns.{is_founded, MayNow};
@@ -18,10 +18,11 @@ use std::thread::Threads;
 use table_state::TableState;
 use turnstile::{Clock, Turnstile};
 
-/// A caller's or the steward's seat at a table.
+/// A seat at a table, of callers or of the steward.
 pub type Seat = turnstile::Seat<LeafTable>;
 
-/// A table of a leaf. Its callers add, expire, keep and ask; the leaf's steward, whose seat has the id 0, takes, flushes, shuts and opens.
+/// A table of a leaf. Callers add, expire, keep and ask. The steward, whose seat has the id 0, takes, notes what was
+/// flushed, shuts, hands over and opens.
 #[derive(Drop)]
 pub struct SharedTable {
     alloc: Global,
@@ -29,7 +30,7 @@ pub struct SharedTable {
     pub(crate) table: u32,
     pub(crate) name: Text,
     pub(crate) turns: Turnstile<LeafTable>,
-    /// About how many rows there are: a hint, of which nothing is claimed.
+    /// An estimate of its rows. It is a hint only.
     pub(crate) weight: AtomicU64,
 }
 
@@ -45,7 +46,8 @@ impl Model for SharedTable {
 }
 
 impl SharedTable {
-    /// A shut table of that name, the steward's seat, and the first caller's, which has the share. N picks the base.
+    /// Makes a shut table of that name, the steward's seat, and a callers' seat of `share` ids. N picks the base. Err
+    /// if memory runs out.
     pub fn new<N: Founds>(
         alloc: Global,
         leaf: u32,
@@ -82,14 +84,14 @@ impl SharedTable {
         Ok((shared, steward, caller))
     }
 
-    /// The table's name.
+    /// The name of the table.
     pub fn name(&self) -> &Text
         ensures { result.now ≡ name_of self.now }
     {
         &self.name
     }
 
-    /// Gives the seat's last ids to a new seat, which has seen as much. It takes no memory.
+    /// Splits the seat: the last `share` ids go to a new seat, which has seen the same. It takes no memory.
     pub fn split(&self, seat: &mut Seat, share: u64) -> Result<Seat, AllocError>
         requires seat { IsSeatOf seat.old self.now.site }
         requires share { (1 ≤ share) × (share < seat.old.share) }
@@ -101,7 +103,7 @@ impl SharedTable {
         self.turns.split(seat, share)
     }
 
-    /// Takes over the ids of another seat, and what it has seen.
+    /// Merges another seat into this one: its ids, and what it has seen.
     pub fn join(&self, seat: &mut Seat, other: Seat)
         requires seats { IsSeatOf seat.old self.now.site × IsSeatOf other self.now.site }
         ensures seat { IsSeatOf seat.new self.now.site }
@@ -110,7 +112,7 @@ impl SharedTable {
         self.turns.join(seat, other)
     }
 
-    /// Lets each of two seats see what the other has seen. It makes no entry and takes no memory.
+    /// Lets each of two seats learn what the other has seen. It makes no entry and takes no memory.
     pub fn meet(&self, a: &mut Seat, b: &mut Seat) -> Result<(), AllocError>
         requires seats { IsSeatOf a.old self.now.site × IsSeatOf b.old self.now.site }
         ensures seats { IsSeatOf a.new self.now.site × IsSeatOf b.new self.now.site }
@@ -152,12 +154,12 @@ impl SharedTable {
         answer
     }
 
-    /// About how many rows the table has. Nothing is claimed of it.
+    /// An estimate of the rows of the table. It is a hint only.
     pub fn weight(&self) -> u64 {
         self.weight.load(Ordering::SeqCst)
     }
 
-    // Notes what a turn did to the number of rows.
+    // Updates the estimate after a turn.
     fn weigh(&self, opened: u64, answer: &Answer) {
         match answer {
             Answer::Added { kept, .. } => {
@@ -172,7 +174,7 @@ impl SharedTable {
         }
     }
 
-    // Takes one turn at the clock C, which is the berth's.
+    // Takes one turn. Its entry carries the time of the clock C, which is the berth's.
     fn turn_at<C: Clock, R: Wait + Threads + Sync, B: Berth, G: Gate>(
         &self,
         rt: &R,
@@ -191,7 +193,7 @@ impl SharedTable {
         self.turn::<C, R, G>(rt, steward, turn, gate)
     }
 
-    // Takes one turn of the steward, whose entry carries the berth's clock.
+    // Takes one turn of the steward. Its entry carries the berth's clock.
     pub(crate) fn steward_turn<R: Wait + Threads + Sync, B: Berth, G: Gate>(
         &self,
         rt: &R,
@@ -210,7 +212,7 @@ impl SharedTable {
     }
 }
 
-// How many rows a table has that is opened.
+// The rows of the table that a turn opens; 0 for any other turn.
 fn rows_opened(turn: &Turn) -> u64 {
     match turn {
         Turn::Open { table, .. } => table.rows(),

@@ -1,4 +1,4 @@
-// The calls of the leaf's steward. None of them takes memory. Each entry carries the berth's clock as it is at the call.
+// The calls of the steward. None takes memory. Each entry carries the berth's clock at the call.
 ghost use Rattle.std.specs.Prelude.{◌≡◌, ◌≤◌, length, OnOk};
 ghost use Rattle.turnstile.specs.Seats.{IsSeatOf};
 ghost use Rattle.leaf_history.specs.Calls as call;
@@ -16,7 +16,7 @@ use std::thread::Threads;
 use table_state::TableState;
 
 impl SharedTable {
-    /// Takes the writes that were not taken. The steward knows that the table is open.
+    /// Takes the record of the writes that were not taken yet. The steward has to know that the table is open.
     pub fn take<R: Wait + Threads + Sync, B: Berth, G: Gate>(
         &self,
         rt: &R,
@@ -53,7 +53,7 @@ impl SharedTable {
         }
     }
 
-    /// Notes that the disk holds the first writes. The steward has taken as many.
+    /// Notes that the disk has the first `writes` writes. The steward has to have taken as many.
     pub fn flushed<R: Wait + Threads + Sync, B: Berth, G: Gate>(
         &self,
         rt: &R,
@@ -75,7 +75,7 @@ impl SharedTable {
         steward.seen()
     }
 
-    /// Shuts the table, and hands out its content. The steward knows that it is open.
+    /// Shuts the table, and takes its content out. The steward has to know that it is open.
     pub fn shut<R: Wait + Threads + Sync, B: Berth, G: Gate>(
         &self,
         rt: &R,
@@ -108,7 +108,7 @@ impl SharedTable {
         }
     }
 
-    /// Notes that the table was drained. The steward knows that it is shut.
+    /// Notes that the table was handed over. The steward has to know that it is shut.
     pub fn done<R: Wait + Threads + Sync, B: Berth, G: Gate>(
         &self,
         rt: &R,
@@ -129,8 +129,8 @@ impl SharedTable {
         steward.seen()
     }
 
-    /// Opens the table with a content. The steward knows that it is shut, and of a founded one that this is the content of
-    /// its first writes. A worn seat is given the table back.
+    /// Opens the table with this content. The steward has to know that it is shut, and if the table is founded, that
+    /// this is the content of its first writes. If the seat is worn, the content is given back.
     pub fn reopen<R: Wait + Threads + Sync, B: Berth, G: Gate>(
         &self,
         rt: &R,

@@ -5,18 +5,18 @@ use row_records::Pending;
 use std::snapshot::Snapshot;
 use table_state::TableState;
 
-/// What one turn asks of the table.
+/// A call, as it takes its turn.
 #[derive(Drop)]
 pub enum Turn {
     Add(Rows),
-    /// `copy` is missing where it was refused memory.
+    /// `copy` is None if memory for it ran out.
     AddCopy {
         rows: Snapshot<Rows>,
         copy: Option<Rows>,
     },
     Expire(i64),
     Keep(u64),
-    /// `copy` is missing where it was refused memory.
+    /// `copy` is None if memory for it ran out.
     Ask {
         query: Snapshot<Query>,
         copy: Option<SharedQuery>,
@@ -31,7 +31,7 @@ pub enum Turn {
     },
 }
 
-/// What one turn answers. A reply without its number, and what is handed out to the steward.
+/// The answer of a turn: a reply without its number, or what goes to the steward.
 #[derive(Drop)]
 pub enum Answer {
     Added { kept: u64, late: u64 },

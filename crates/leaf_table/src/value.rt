@@ -21,7 +21,7 @@ use std::thread::Threads;
 use table_state::{AddFault, TableState};
 use turnstile::Object;
 
-/// What stands behind a turnstile. A shut table is empty here: its content is in the steward's hands.
+/// The value behind a turnstile. While the table is shut, it is empty here: the steward has its content.
 #[derive(Drop)]
 pub struct LeafTable {
     pub(crate) alloc: Global,
@@ -49,7 +49,7 @@ impl LeafTable {
         }
     }
 
-    // Adds a copy of rows, where there is one.
+    // Adds the copy of the rows. NoMemory if there is none.
     fn add_copy(&mut self, rows: Snapshot<Rows>, copy: Option<Rows>) -> Answer
         requires may { self.old.live ≡ true → MayWrite self.old.name self.old.table }
         requires rows { AllByRecursion IsRow rows.value }

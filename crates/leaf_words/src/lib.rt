@@ -1,4 +1,4 @@
-//! How a leaf came to its tables, in the words that its code and its printed lines share.
+//! How a start came to its tables. The leaf and its printed lines share these words.
 #![tactic(auto)]
 
 mod ways;

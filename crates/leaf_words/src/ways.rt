@@ -1,23 +1,23 @@
-// Where a leaf's tables come from.
+// Where a start takes the tables from.
 
-/// Why a leaf reads its disk.
+/// Why a start does not take the tables from the region.
 #[derive(Clone, Copy, Debug, PartialEq, Eq)]
 pub enum WhyDisk {
     /// The region is shorter than a head.
     NoHead,
-    /// Its flag is this byte, which is not 1.
+    /// The flag has this value, which is not 1.
     Closed(u8),
-    /// Its image has this version, which is not read.
+    /// The image has this version, which a start does not read.
     OtherVersion(u32),
-    /// It is no image.
+    /// The bytes are no image.
     NoImage,
 }
 
-/// Where the tables come from.
+/// Where a start takes the tables from.
 #[derive(Clone, Copy, Debug, PartialEq, Eq)]
 pub enum Way {
-    /// From the region.
+    /// The region has an image.
     Memory,
-    /// From the disk, since the region was no image.
+    /// The log, for this reason.
     Disk(WhyDisk),
 }

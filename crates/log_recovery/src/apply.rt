@@ -19,7 +19,8 @@ use table_state::{AddFault, TableState};
 /// One table for each name, in their order, each without a write.
 pub fn empty_tables(alloc: Global, names: &Names) -> Result<Vec<TableState>, AllocError>
     ensures empty { IfOk result (λ tables. tables.items ≡ tables_of names.now []) }
-    ensures columns { IfOk result (λ tables. AreFew names.now [] (map (λ (t : Table). columns_most t.store) tables.items)) }
+    ensures columns { IfOk result (λ tables.
+        AreFew names.now [] (map (λ (t : Table). columns_most t.store) tables.items)) }
 {
     let mut tables = Vec::new(alloc);
     for _name in names.as_slice() {
@@ -38,10 +39,13 @@ pub fn apply(
     requires distinct { AreDistinct names.now }
     requires record { IsRecord (record_is flush) }
     requires may { MayApply names.now (length flush.writes) (map bare tables.old.items) }
-    ensures does { (records : List LogRecord) → HasApplied names.now records (map bare tables.old.items) → Applies names.now records (record_is flush) result (map bare tables.new.items) }
+    ensures does { (records : List LogRecord) → HasApplied names.now records (map bare tables.old.items)
+        → Applies names.now records (record_is flush) result (map bare tables.new.items) }
     ensures named { IfErr result TellsName }
-    ensures columns { OnOk result ((records : List LogRecord) → AreFew names.now records (map (λ (t : Table). columns_most t.store) tables.old.items)
-        → AreFew names.now (records ++ record_is flush ∷ []) (map (λ (t : Table). columns_most t.store) tables.new.items)) }
+    ensures columns { OnOk result ((records : List LogRecord)
+        → AreFew names.now records (map (λ (t : Table). columns_most t.store) tables.old.items)
+        → AreFew names.now (records ++ record_is flush ∷ [])
+        (map (λ (t : Table). columns_most t.store) tables.new.items)) }
 {
     match names.place_of(flush.table.as_str().as_bytes()) {
         None => Err(RecoveryFault::Stranger(flush.table)),

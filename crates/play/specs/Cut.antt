@@ -1,4 +1,4 @@
--- What a run that ends before its time has played and written: no word of it is new but how lists begin.
+-- What a run that stops early has played and written.
 use Rattle.std.specs.Prelude.{◌≡◌, ◌⊎◌, ℕ, ◌≤◌, List, [], ◌∷◌, ◌++◌, length, map, Option}
 use Rattle.berth_face.specs.Berth.{Meaning}
 use Rattle.berth_face.specs.Streams.{Written}
@@ -14,7 +14,7 @@ use Rattle.transcript.specs.Leaving.{AreKnown, IsToldRun}
 
 -- ---- which commands were played
 
--- Of these items the first were played, whole; or whole but for the last, of which the lanes were begun.
+-- A prefix of these items was played. Its last item may be a burst of which only prefixes of the lanes were.
 pub data PlaysSome (items played : List Item) : Type 0 where
   whole : Begins played items → PlaysSome items played
   within : (before : List Item) (last of : Item) (behind : List Item)
@@ -25,20 +25,21 @@ pub data PlaysSome (items played : List Item) : Type 0 where
 
 -- ---- how much of their text was written
 
--- the lines of the last item, where there is one
+-- the lines of the last item, if there is one
 abbrev pub last_lines : List PlayedItem → List Line
 last_lines [] = []
 last_lines (x ∷ []) = item_lines x
 last_lines (x ∷ y ∷ more) = last_lines (y ∷ more)
 
 module _ {B : Type 0} (meaning : B → Meaning) (olds news : List B) where
-  -- Some of the items were played. What they print is told as of a run that was done; all of it was written but the rest, which is of the last of them.
+  -- Some of the items were played. Their transcript says what a finished run of them would say. All of its text was
+  -- written but `rest`, which belongs to the last of them.
   pub record IsShortened (base : ℕ → Option NamedStates) (items : List Item) (was now : Option (List ℕ)) (before after : List Held) : Type 0 where
     pub played : List PlayedItem
     pub some : PlaysSome items (map item_of played)
     pub rest : List ℕ
     pub written : Written was now (lines_text (script_fleet items).names (all_lines played)) rest
     pub last : length rest ≤ length (lines_text (script_fleet items).names (last_lines played))
-    -- nothing is written of a burst of which not all was played
+    -- of a burst that was not played whole, nothing was written
     pub cut : Begins (map item_of played) items ⊎ (rest ≡ lines_text (script_fleet items).names (last_lines played))
     pub told : (known : ℕ → Option Known) → AreKnown meaning olds news base known → IsToldRun meaning olds news (map item_of played) known (all_lines played) before after

@@ -1,4 +1,4 @@
--- The base of a berth in memory that holds nothing, and to which nothing was ever written.
+-- The base of a new berth in memory, which is empty and was never written.
 use Rattle.std.specs.Prelude.{◌≡◌, ◌⊎◌, ℕ, ◌≤◌, ◌^◌, List, [], length, take, None, refl}
 use mathlib.Core.Logic.{inl}
 use Rattle.std.proofs.Common.{ap, sym, subst, ◌∙◌, arith, lit<, lit≤}
@@ -25,7 +25,7 @@ nothing_kept name = no_base
 abbrev none_written : List ℕ → List Write
 none_written name = []
 
--- no rows are not too many
+-- a table without writes has at most 2^40 rows
 short : (k : ℕ) → length (content (take k [])).rows ≤ 2 ^ 40
 short k =
     let nil : take k [] ≡ [] = nil_from_length (take k []) (length-take k [] ∙ omega arith) in
@@ -35,7 +35,7 @@ short k =
 empty_log : HasSoundLog none_written []
 empty_log = record { sound = ([], 0, is_short (lit≤ tt) refl refl, λ name k. short k); each = λ name. refl }
 
--- over it a leaf rests that has no tables yet
+-- the berth is as a leaf at rest without tables leaves it
 rests_empty : (m : Meaning) → OpenedOn [] [] m → m.leaves m.clock m.held → Rests [] nothing_kept none_written None m
 rests_empty m o there = record {
   watched = record { each = tt; apart = tt };
@@ -47,7 +47,7 @@ rests_empty m o there = record {
   region = λ p left. closed (subst (λ (held : Pair). IsClosed held.region) (sym o.held) (inl (lit< tt)));
 }
 
--- a leaf may begin over a berth that was just made on nothing, and no name has writes there
+-- a leaf may begin over a berth that was just made empty, where no name has writes
 pub is_fresh_base : (berth : MemBerth) → FreshOn [] [] berth → IsBase nothing_kept (meaning berth)
 is_fresh_base berth f =
     let there = stands berth.region.items berth.disk.items berth.calls.items berth.region_faults berth.disk_faults berth.disk_reads in

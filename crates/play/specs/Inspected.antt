@@ -9,7 +9,8 @@ use Rattle.region_inspect.specs.declared.seen.Seen.{Seen}
 use Rattle.region_inspect.specs.Shows.{Shows}
 use Rattle.region_inspect.specs.Lines.{region_text}
 
--- The leaf's berth was read, and it is in its place: its region and its disk are as they were, and nothing was read of the disk. All other berths are as they were.
+-- The leaf's berth was read, and is in its place. Its region and its disk hold what they held, and its disk was not
+-- read. All other berths are untouched.
 pub record IsLookedAt {B : Type 0} (meaning : B → Meaning) (leaf : ℕ) (old new : List B) : Type 0 where
   pub berth : B
   pub berth_now : B
@@ -17,19 +18,19 @@ pub record IsLookedAt {B : Type 0} (meaning : B → Meaning) (leaf : ℕ) (old n
   pub back : new ≡ slice_set old leaf berth_now
   pub untouched : Untouched (meaning berth) (meaning berth_now)
 
--- It shows this, where the berth tells what it holds; or a call on its region failed.
+-- The region shows this, if the berth tells its contents. None: a call on the region failed.
 pub record IsSeen {B : Type 0} (meaning : B → Meaning) (leaf : ℕ) (old new : List B) (seen : Option Seen) : Type 0 where
   pub looked : IsLookedAt meaning leaf old new
   pub shows : IsTrue (meaning looked.berth).tells → IfSome seen (Shows (meaning looked.berth).held.region)
   pub cause : seen ≡ None → Rose (meaning looked.berth).region_faults (meaning looked.berth_now).region_faults
 
--- what was written shows the region of the leaf's berth, or that it failed
+-- the text that was written shows the region of the leaf's berth, or that it failed
 pub record IsInspected {B : Type 0} (meaning : B → Meaning) (leaf : ℕ) (was now : Option (List ℕ)) (old new : List B) : Type 0 where
   pub seen : Option Seen
   pub is : IsSeen meaning leaf old new seen
   pub written : Appends was now (region_text leaf seen)
 
--- nothing was written, or a front of that
+-- nothing was written, or a prefix of that text
 pub data InspectEndsShort {B : Type 0} (meaning : B → Meaning) (leaf : ℕ) (was now : Option (List ℕ)) (old new : List B) : Type 0 where
   nothing : now ≡ was → IsLookedAt meaning leaf old new → InspectEndsShort meaning leaf was now old new
   some : (seen : Option Seen) → IsSeen meaning leaf old new seen → WritesFront was now (region_text leaf seen) → InspectEndsShort meaning leaf was now old new

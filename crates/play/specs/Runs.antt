@@ -1,4 +1,4 @@
--- A script's play in the middle.
+-- The play of a script, in the middle.
 use Rattle.std.specs.Prelude.{◌≡◌, ℕ, List, [], ◌∷◌, length, map, slice_get, Option, Some, None, ⊤}
 use Rattle.std.specs.List.{AllByRecursion, filter_map}
 use Rattle.std.specs.Io.KnownBytes.{Appends}
@@ -32,22 +32,22 @@ use Rattle.play.specs.Played.{KeepsCounts}
 
 -- ---- the tables
 
--- what a table of this name is founded with
+-- the base of a table with this name, if the leaf's base is known
 abbrev pub table_base : Option NamedStates → List ℕ → Option TableBase
 table_base None name = None
 table_base (Some base) name = Some (record { writes = (base name).writes; flushed = (base name).flushed })
 
--- what each leaf's table in its place is founded with
+-- the base of each table of each leaf
 abbrev pub table_bases : (ℕ → Option NamedStates) → List (List ℕ) → ℕ → ℕ → Option TableBase
 table_bases base names leaf table = table_base (base leaf) (name_at names table)
 
 -- ---- the leaves
 
--- a fleet of so many leaves with these names, which plays the items
+-- a fleet with these numbers of machines and leaves and these names
 abbrev pub fleet_named : ℕ → ℕ → List (List ℕ) → Fleet
 fleet_named machines per_machine names = record { machines = machines; per_machine = per_machine; names = names }
 
--- it is the fleet that the items make, and all of them may be played
+-- the items make this fleet, and it may play all of them
 pub record IsFleetOf (items : List Item) (machines per_machine : ℕ) (names : List (List ℕ)) : Type 0 where
   pub is : script_fleet items ≡ fleet_named machines per_machine names
   pub are_names : AreNames names
@@ -58,24 +58,24 @@ pub record IsFleetOf (items : List Item) (machines per_machine : ℕ) (names : L
 abbrev pub berths_in : {B : Type 0} → List (Hold B) → List B
 berths_in {B} xs = filter_map (λ (x : Hold B). berth_in x) xs
 
--- P of the berth of each leaf that is held, as it was when the run began and as it is now
+-- P holds of the berth of each leaf that is held, as it was when the run began and as it is now
 abbrev pub AtHolds : {B : Type 0} → (B → Meaning) → List B → List (Hold B) → (ℕ → Meaning → Meaning → Type 0) → Type 0
 AtHolds {B} meaning olds xs P = (leaf : ℕ) (old : B) (x : Hold B) (l : Leaf) (b : B) → slice_get olds leaf ≡ Some old → slice_get xs leaf ≡ Some x → x.held ≡ Some (l, b)
     → P leaf (meaning old) (meaning b)
 
--- as many leaves, and no count of their faults fell
+-- the number of leaves is the same, and no count of their faults fell
 pub record HoldsKeep {B : Type 0} (meaning : B → Meaning) (olds : List B) (xs : List (Hold B)) : Type 0 where
   pub as_many : length xs ≡ length olds
   pub each : AtHolds meaning olds xs (λ leaf old now. KeepsCounts old now)
 
--- what each leaf's lines tell of has its cause
+-- the faults and reads that each leaf's lines tell have their cause
 abbrev pub AreCounted : {B : Type 0} → (B → Meaning) → List B → List (Hold B) → List Piece → Type 0
 AreCounted meaning olds xs pieces = AtHolds meaning olds xs (λ leaf old now. CountsRose leaf pieces old now)
 
 -- ---- items
 
--- What holds after these items, whose lines were written, of which the watches heard, and that the standing queries followed: of a fleet whose leaves had these berths when the run began,
--- and are these since.
+-- What holds after these items, of a fleet whose leaves had the berths `olds` when the run began, and what is held of
+-- each since: their lines were written, the watches heard of them, and the standing queries followed them.
 pub record RunSoFar {B : Type 0} (base : ℕ → Option NamedStates) (meaning : B → Meaning) (fleet : Fleet) (olds : List B) (was written : Option (List ℕ)) (watching watched : List Held) (items : List Item) (followers : List Follower) (xs : List (Hold B)) : Type 0 where
   pub played : List PlayedItem
   pub items_are : map item_of played ≡ items
@@ -87,7 +87,7 @@ pub record RunSoFar {B : Type 0} (base : ℕ → Option NamedStates) (meaning : 
   pub followed : (known : ℕ → Option Known) → AreKnown meaning olds olds base known → (histories : ℕ → ℕ → List Entry) → GoOn xs histories
       → FollowedAll fleet (grounds_of fleet known) histories played [] followers
 
--- one item more, whose lines were written
+-- one more item was played, and its lines were written
 pub record Advances {B : Type 0} (meaning : B → Meaning) (fleet : Fleet) (olds news : List Follower) (xs ys : List (Hold B)) (was written : Option (List ℕ)) (watching watched : List Held) (item : Item) : Type 0 where
   pub played : PlayedItem
   pub item_is : item_of played ≡ item
@@ -97,12 +97,12 @@ pub record Advances {B : Type 0} (meaning : B → Meaning) (fleet : Fleet) (olds
   pub counted : AllCounted meaning (all_pieces (played ∷ [])) xs ys
   pub follows : (histories : ℕ → ℕ → List Entry) → GoOn ys histories → FollowsItem fleet (grounds_in ys) histories played olds news
 
--- what the items are, with what the standing queries tell
+-- the items are a transcript, and standing queries tell what they should
 pub record ToldFleet {B : Type 0} (meaning : B → Meaning) (fleet : Fleet) (known : ℕ → Option Known) (played : List PlayedItem) (olds : List B) (xs : List (Hold B)) : Type 0 where
   pub fleet_is : IsToldFleet meaning fleet known played olds xs
   pub standing : AreTold fleet (grounds_of fleet known) fleet_is.transcript.histories fleet_is.transcript.played
 
--- a run of all the items
+-- a run of all items
 pub record IsRun {B : Type 0} (base : ℕ → Option NamedStates) (meaning : B → Meaning) (fleet : Fleet) (olds : List B) (was now : Option (List ℕ)) (watching watched : List Held) (items : List Item) (xs : List (Hold B)) : Type 0 where
   pub played : List PlayedItem
   pub items_are : map item_of played ≡ items
@@ -111,7 +111,7 @@ pub record IsRun {B : Type 0} (base : ℕ → Option NamedStates) (meaning : B �
   pub counted : AreCounted meaning olds xs (all_pieces played)
   pub told : (known : ℕ → Option Known) → AreKnown meaning olds olds base known → ToldFleet meaning fleet known played olds xs
 
--- how a play ends
+-- how a play may end
 abbrev pub IsEnd : Status → Type 0
 IsEnd Status.Done = ⊤
 IsEnd Status.WriteFault = ⊤

@@ -1,4 +1,4 @@
--- A play that ends before all was played and written.
+-- A play that stops before all was played and written.
 use Rattle.std.specs.Prelude.{◌≡◌, ◌⊎◌, ℕ, ◌≤◌, List, [], ◌∷◌, length, map, Option, Some, Ok}
 use Rattle.berth_face.specs.Berth.{Meaning}
 use Rattle.berth_face.specs.Streams.{ReadsAll, Written, WritesFront}
@@ -32,7 +32,8 @@ use Rattle.run_words.specs.declared.words.Request.TheVariants.{Inspect, Play, So
 
 -- ---- in the middle
 
--- What holds where a play ends after some of these items, of whose text a front was written. Before the first item the leaves are as they were.
+-- What holds if a play stops after some of these items, of whose text a prefix was written. Before the first item the
+-- leaves are as they were.
 pub record RunShort {B : Type 0} (base : ℕ → Option NamedStates) (meaning : B → Meaning) (fleet : Fleet) (olds : List B) (was written : Option (List ℕ)) (watching watched : List Held) (items : List Item) (xs : List (Hold B)) : Type 0 where
   pub played : List PlayedItem
   pub some : PlaysSome items (map item_of played)
@@ -50,11 +51,11 @@ pub record RunShort {B : Type 0} (base : ℕ → Option NamedStates) (meaning : 
 
 -- ---- at the end
 
--- of these items nothing was played and nothing written, or some were played
+-- nothing was played or written, or some of these items were played
 abbrev pub StopsShort : {B : Type 0} → (B → Meaning) → List B → List B → (ℕ → Option NamedStates) → List Item → Option (List ℕ) → Option (List ℕ) → List Held → List Held → Type 0
 StopsShort meaning olds news base items was now watching watched = ((now ≡ was) × (news ≡ olds) × (watched ≡ watching)) ⊎ IsShortened meaning olds news base items was now watching watched
 
--- nothing was played and nothing written, or some of a script whose text was read to its end
+-- nothing was played or written, or some of a script whose text was read to its end
 pub data EndsShort {B : Type 0} (base : ℕ → Option NamedStates) (meaning : B → Meaning) (before after was now : Option (List ℕ)) (olds news : List B) (watching watched : List Held) : Type 0 where
   nothing : now ≡ was → news ≡ olds → watched ≡ watching → EndsShort base meaning before after was now olds news watching watched
   some : (text : List ℕ) (script : Script)
@@ -71,14 +72,15 @@ pub data SoakEndsShort {B : Type 0} (base : ℕ → Option NamedStates) (meaning
       → IsShortened meaning olds news base (soak_script seed rows).items was now watching watched
       → SoakEndsShort base meaning seed rows was now olds news watching watched
 
--- what was played and written of what the words ask for, at a status behind which something may have been; of a count its own clauses tell
+-- what was played and written of a request, at a status after which something may have been; clauses of their own say
+-- it of a count
 abbrev pub IsShort : {B : Type 0} → (ℕ → Option NamedStates) → (B → Meaning) → Option Request → Option (List ℕ) → Option (List ℕ) → Option (List ℕ) → Option (List ℕ) → List B → List B → List Held → List Held → Type 0
 IsShort base meaning (Some Play) before after was now olds news watching watched = EndsShort base meaning before after was now olds news watching watched
 IsShort base meaning (Some (Soak seed rows)) before after was now olds news watching watched = SoakEndsShort base meaning seed rows was now olds news watching watched
 IsShort base meaning (Some (Inspect leaf)) before after was now olds news watching watched = InspectEndsShort meaning leaf was now olds news
 IsShort base meaning request before after was now olds news watching watched = Unit {0}
 
--- where the sink failed, or memory ran out
+-- the property holds, if the sink failed or memory ran out
 abbrev pub IfShort : Status → Type 0 → Type 0
 IfShort Status.WriteFault P = P
 IfShort Status.NoMemory P = P
@@ -86,7 +88,7 @@ IfShort _ P = Unit {0}
 
 -- ---- one item
 
--- An item that was not played, or of whose text not all was written.
+-- An item that was not played, or whose text was not all written.
 pub data StopsAt {B : Type 0} (meaning : B → Meaning) (fleet : Fleet) (olds : List Follower) (xs ys : List (Hold B)) (was written : Option (List ℕ)) (watching watched : List Held) (item : Item) : Type 0 where
   unplayed : ys ≡ xs → written ≡ was → watched ≡ watching → StopsAt meaning fleet olds xs ys was written watching watched item
   short : (played : PlayedItem)

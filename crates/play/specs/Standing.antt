@@ -30,42 +30,43 @@ use Rattle.player.specs.Crew.{AllCounted}
 use Rattle.bursts.specs.Items.{MayPlayItem}
 use Rattle.lane_play.specs.Went.{ItemWent}
 
--- the run itself plays it
+-- the run itself plays this command
 abbrev pub is_of_run : Command → Bool
 is_of_run (command.Standing leaf q) = true
 is_of_run (command.Tell standing) = true
 is_of_run _ = false
 
--- a command outside bursts that a run of such a fleet may play
+-- a command outside bursts that a run of this fleet may play
 abbrev pub MayRunAlone : Fleet → Command → Type 0
 MayRunAlone fleet (command.Standing leaf q) = IsAlone (leaf_count fleet) fleet.names (command.Standing leaf q)
 MayRunAlone fleet (command.Tell standing) = ⊤
 MayRunAlone fleet c = MayPlay fleet c
 
--- an item that it may play
+-- an item that a run of this fleet may play
 abbrev pub MayRun : Fleet → Item → Type 0
 MayRun fleet (item.One c) = MayRunAlone fleet c
 MayRun fleet (item.Burst lanes) = MayPlayItem fleet (item.Burst lanes)
 
--- why a standing query that asked its table so tells nothing
+-- why a standing query tells no rows after this reply of its table
 abbrev pub why_untold : Reply → WhyUntold
 why_untold (reply.Shut number) = untold.Shut
 why_untold reply.Worn = untold.Worn
 why_untold _ = untold.Memory
 
--- a stale state behind that reply to its spread: made fresh by groups, and otherwise as it was
+-- a stale state after this reply to its spread: groups make it fresh; any other leaves it as it was
 abbrev pub SettlesBy : Reply → Follower → Result (Unit {0}) WhyUntold → Follower → Type 0
 SettlesBy (reply.Groups number gs) old result new = (result ≡ Ok tt) × (new ≡ settled number gs old)
 SettlesBy told old result new = (result ≡ Err (why_untold told)) × (new ≡ old)
 
--- and what it then tells, where there is memory for that
+-- the state after this reply, and what it tells, if there is memory for that
 abbrev pub TellsBy : {E : Type 0} → ℕ → Follower → Reply → Result Line E → Follower → Type 0
 TellsBy standing old (reply.Groups number gs) result new = (new ≡ settled number gs old) × IfOk result (TellsState standing new)
 TellsBy standing old told result new = (new ≡ old) × (result ≡ Ok (line.Untold standing (why_untold told)))
 
 -- ---- what the run did by itself
 
--- Of which no watch hears, with its pieces, also where there was no memory for their lines. D is what the standing queries did by these, however histories go on.
+-- What the run itself did, with its pieces; no watch hears of it. Memory for their lines may have run out. D is what
+-- the standing queries did by these pieces, however the histories go on.
 pub record PlaysItself {B E : Type 0} (meaning : B → Meaning) (fleet : Fleet) (c : Command) (D : (ℕ → ℕ → Ground) → (ℕ → ℕ → List Entry) → List Piece → Type 0) (xs : List (Hold B))
     (result : Result (Vec Line Global) E) (ys : List (Hold B)) : Type 0 where
   pub pieces : List Piece
@@ -75,33 +76,33 @@ pub record PlaysItself {B E : Type 0} (meaning : B → Meaning) (fleet : Fleet) 
   pub lines_are : IfOk result (λ lines. lines.items ≡ lines_in pieces)
   pub did : (histories : ℕ → ℕ → List Entry) → GoOn ys histories → D (grounds_in ys) histories pieces
 
--- or for want of memory nothing
+-- the same, or memory ran out before anything was done
 abbrev pub PlaysOwn : {B E : Type 0} → (B → Meaning) → Fleet → Command → ((ℕ → ℕ → Ground) → (ℕ → ℕ → List Entry) → List Piece → Type 0) → List (Hold B) → Result (Vec Line Global) E → List (Hold B) → Type 0
 PlaysOwn meaning fleet c D xs result ys = PlaysItself meaning fleet c D xs result ys ⊎ (IsErr result × (ys ≡ xs))
 
--- the standing query of that number told, and is this one where there are lines
+-- the standing query with this number told, and is then `new` if there are lines
 abbrev pub TellsSo : {E : Type 0} → Fleet → ℕ → Follower → Result (Vec Line Global) E → Follower → (ℕ → ℕ → Ground) → (ℕ → ℕ → List Entry) → List Piece → Type 0
 TellsSo fleet standing old result new grounds histories pieces = (between : Follower) × TellsItself fleet grounds histories standing old pieces between × OnOk result (between ≡ new)
 
--- the same of all of them at a command
+-- the standing queries at this command, after which they are `news` if there are lines
 abbrev pub DoesSo : {E : Type 0} → Fleet → Command → List Follower → Result (Vec Line Global) E → List Follower → (ℕ → ℕ → Ground) → (ℕ → ℕ → List Entry) → List Piece → Type 0
 DoesSo fleet c olds result news grounds histories pieces =
     (between : List Follower) × DoesItself fleet grounds histories (One (record { command = c; pieces = pieces })) olds between × OnOk result (between ≡ news)
 
--- the one line of what a standing query tells
+-- the one line that a standing query tells
 abbrev pub TellsLine : ℕ → Follower → List Line → Type 0
 TellsLine standing f lines = (told : Line) × TellsState standing f told × (lines ≡ told ∷ [])
 
 -- ---- what an item did
 
--- To the leaves, and to the standing queries; T is what comes of those by its lines, where there are any.
+-- What an item did to leaves and standing queries. T says what its lines, if there are any, make of these.
 pub record ItemDid {B : Type 0} (meaning : B → Meaning) (fleet : Fleet) (item : Item) (T : List Follower → List Line → Type 0) (olds : List Follower) (xs : List (Hold B)) (before : List Held)
     (lines : Option (List Line)) (ys : List (Hold B)) (after : List Held) : Type 0 where
   pub went : ItemWent meaning fleet item xs before lines ys after
   pub did : (histories : ℕ → ℕ → List Entry) → GoOn ys histories
       → (between : List Follower) × DoesItself fleet (grounds_in ys) histories went.played olds between × IfSome lines (T between)
 
--- they did what is theirs and no more, or they followed the item's lines
+-- the queries did only what is theirs at the item, or they followed its lines
 abbrev pub IsBefore : List Follower → List Follower → List Line → Type 0
 IsBefore news between lines = between ≡ news
 

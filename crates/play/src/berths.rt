@@ -1,4 +1,4 @@
-// A script's play over the berths.
+// Plays the items of a script over the berths.
 ghost use Rattle.std.specs.Prelude.{◌≡◌, ◌+◌, ◌≤◌, List, [], length, map, OnOk, OnErr, IfOk, IfSome, None, IsErrOf, IsOk};
 ghost use Rattle.std.specs.List.{AllByRecursion};
 ghost use Rattle.std.specs.Io.KnownBytes.{Appends};
@@ -34,14 +34,14 @@ use std::thread::Threads;
 
 const PIECE: usize = 1_024; // lines that are put together and written at once
 
-/// Why an item's lines were not written whole.
+/// Why the lines of an item were not all written.
 #[derive(Clone, Copy, Debug, PartialEq, Eq)]
 enum WriteError {
     Failed,
     NoMemory,
 }
 
-/// How many leaves the fleet of these items has.
+/// The number of leaves of the fleet of these items.
 pub fn leaf_count(items: &Items) -> usize
     requires { AreItems items.now }
     ensures { result ≡ leaves_in items.now }
@@ -61,7 +61,7 @@ pub fn leaf_count(items: &Items) -> usize
     }
 }
 
-/// The fleet of these items, where there is one.
+/// The fleet of these items. None if there is no item.
 fn plan_of(items: &Items) -> Result<Option<Fleet>, AllocError>
     requires { AreItems items.now }
     ensures none { IfOk result (λ found. found ≡ None → items.now ≡ []) }
@@ -86,7 +86,7 @@ fn plan_of(items: &Items) -> Result<Option<Fleet>, AllocError>
     }
 }
 
-/// Plays a script's items over the first berths, and puts those back in their places.
+/// Plays the items of a script over the first berths, and puts these back in their places.
 pub fn play_items<N: Bases, R: Wait + Threads + Sync, K: Sink, B: Berth, G: Gate>(
     rt: &R,
     alloc: Global,
@@ -181,7 +181,7 @@ fn play_over<N: Bases, R: Wait + Threads + Sync, K: Sink, B: Berth, G: Gate>(
     status
 }
 
-/// Plays items one after another, and writes the lines of each.
+/// Plays items, one after another, and writes the lines of each.
 fn play_all<'t, N: Bases, R: Wait + Threads + Sync, K: Sink, B: Berth, G: Gate>(
     rt: &R,
     alloc: Global,
@@ -232,7 +232,7 @@ fn play_all<'t, N: Bases, R: Wait + Threads + Sync, K: Sink, B: Berth, G: Gate>(
     Status::Done
 }
 
-/// Passes the gate before a command outside bursts, as lane 0 and with the command's place among such commands.
+/// Passes the gate before a command outside bursts, as lane 0, with the command's index among such commands.
 fn pass_before<G: Gate>(gate: &G, item: &Item, step: &mut u32) {
     if matches!(item, Item::One(_)) {
         gate.pass(0, *step);
@@ -240,7 +240,7 @@ fn pass_before<G: Gate>(gate: &G, item: &Item, step: &mut u32) {
     }
 }
 
-/// Plays an item, which the standing queries follow, and writes its lines.
+/// Plays an item, lets the standing queries follow it, and writes its lines.
 fn play_next<'t, R: Wait + Threads + Sync, K: Sink, B: Berth, G: Gate>(
     rt: &R,
     alloc: Global,
@@ -274,7 +274,7 @@ fn play_next<'t, R: Wait + Threads + Sync, K: Sink, B: Berth, G: Gate>(
     write_lines(alloc, names, lines, sink)
 }
 
-/// Writes the lines of an item, where there was memory for them.
+/// Writes the lines of an item. NoMemory if there was no memory for them.
 fn write_lines<K: Sink>(
     alloc: Global,
     names: &Names,
@@ -295,7 +295,7 @@ fn write_lines<K: Sink>(
     write_pieces(alloc, names, lines.as_slice(), sink)
 }
 
-/// Writes lines one piece after another.
+/// Writes lines, piece by piece.
 fn write_pieces<K: Sink>(
     alloc: Global,
     names: &Names,
@@ -315,7 +315,7 @@ fn write_pieces<K: Sink>(
     Ok(())
 }
 
-/// Writes a piece of lines at once; what the text held before is gone.
+/// Writes a piece of lines with one call. `text` is scratch space.
 fn write_piece<K: Sink>(
     text: &mut Vec<u8>,
     names: &Names,

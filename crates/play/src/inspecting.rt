@@ -1,4 +1,4 @@
-// What the region of a leaf's berth holds, told in lines.
+// Inspects the region of a leaf's berth.
 ghost use Rattle.std.specs.Prelude.{◌≡◌, ◌≢◌, ◌<◌, ◌+◌, length, option_map, Some, None, Err, IfOk};
 ghost use Rattle.std.specs.Io.KnownBytes.{Appends};
 ghost use Rattle.berth_face.specs.Causes.{Rose};
@@ -19,7 +19,7 @@ use run_ends::{Status, write_all};
 use script_text::Why;
 use std::alloc::Global;
 
-/// Writes what the region of a leaf's berth holds. It reads no source, and all berths hold what they held.
+/// Writes what the region of a leaf's berth holds. It reads no source, and all berths still hold what they held.
 #[tactic(auto, using(crate::proofs::Looked::leaves_all, crate::proofs::Looked::leaves_looked))]
 pub fn play_inspect<K: Sink, B: Berth>(
     alloc: Global,
@@ -51,7 +51,7 @@ pub fn play_inspect<K: Sink, B: Berth>(
     }
 }
 
-/// Looks at the berth of a leaf, which is there.
+/// Reads the region of a leaf's berth. There is such a berth.
 fn look_at<B: Berth>(alloc: Global, leaf: u32, berths: &mut Vec<B>) -> Result<Seen, LookFault>
     requires { leaf < length berths.old.items }
     ensures seen { IfOk result (λ seen. IsSeen B.meaning leaf berths.old.items berths.new.items (Some seen)) }

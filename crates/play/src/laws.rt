@@ -1,7 +1,7 @@
-// The law of the top call's statuses.
+// The law of the statuses of `run`.
 ghost use Rattle.play.specs.Complete.{IsComplete};
 
-/// Where the outside fails nowhere, what the words and the text allow is done, unless memory runs out.
+/// No-op; states that if neither source nor sink failed, what words and text allow is done, unless memory ran out.
 pub fn complete()
     ensures { IsComplete }
 {}

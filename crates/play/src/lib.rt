@@ -1,4 +1,4 @@
-//! The top call: what the program does with its words, its source, its sink and its berths.
+//! The whole program as one call, `run`, over its words, source, sink and berths.
 #![tactic(auto)]
 
 mod bases;

@@ -1,4 +1,4 @@
-// The top call.
+// The whole program as one call.
 ghost use Rattle.std.specs.Prelude.{map, string_bytes};
 ghost use Rattle.play.specs.Played.{AreBases};
 ghost use Rattle.play.specs.Ran.{HasRun, outside, sight};
@@ -17,7 +17,7 @@ use std::alloc::Global;
 use std::sync::Wait;
 use std::thread::Threads;
 
-/// Does all that the program does, over what is handed in.
+/// Does what the words ask for, with this source, sink, berths and watches. Gives the status.
 pub fn run<N: Bases, R: Wait + Threads + Sync, S: Source, K: Sink, B: Berth, G: Gate>(
     rt: &R,
     alloc: Global,
@@ -28,10 +28,10 @@ pub fn run<N: Bases, R: Wait + Threads + Sync, S: Source, K: Sink, B: Berth, G: 
     gate: &G,
     watches: &mut Vec<Box<dyn Watch>>,
 ) -> Status
-    // Leaf L uses berth L. N says of which the base is known; a leaf with that base may begin there.
+    // Leaf L uses berth L. N names the berths whose base is known; a leaf with that base has to be able to begin there.
     requires bases { AreBases N.base B.meaning berths.old.items }
 
-    // What was done, and why a run ended otherwise.
+    // What was done, or why it was not.
     ensures { HasRun N.base B.meaning (sight S.left S.faults K.written K.faults) (request_of (map string_bytes words.now)) result
         (outside source.old sink.old berths.old watches.old (map (λ watch. held watch) watches.old.items))
         (outside source.new sink.new berths.new watches.new (map (λ watch. held watch) watches.new.items)) }

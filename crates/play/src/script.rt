@@ -1,4 +1,4 @@
-// A source that is a script, and its play.
+// Plays a source that is a script.
 ghost use Rattle.std.specs.Prelude.{◌≡◌, ◌≢◌, ◌<◌, ◌∷◌, [], length, map, Some, None, IfSome, IfOk, IfErr};
 ghost use Rattle.berth_face.specs.Causes.{Rose};
 ghost use Rattle.berth_face.specs.Streams.{TakesAtMost};
@@ -18,7 +18,7 @@ use std::alloc::Global;
 use std::sync::Wait;
 use std::thread::Threads;
 
-/// Reads a source that is a script, and plays it.
+/// Reads a source as a script, and plays it.
 pub fn play_source<N: Bases, R: Wait + Threads + Sync, S: Source, K: Sink, B: Berth, G: Gate>(
     rt: &R,
     alloc: Global,

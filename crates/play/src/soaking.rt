@@ -1,4 +1,4 @@
-// The play of a script that two numbers make.
+// Plays the script of a soak.
 ghost use Rattle.std.specs.Prelude.{◌≡◌, ◌≢◌, ◌≤◌, length, map};
 ghost use Rattle.berth_face.specs.Causes.{Rose};
 ghost use Rattle.run_ends.specs.Outcome.{IfScript, UnlessCutOff};
@@ -16,7 +16,7 @@ use std::alloc::Global;
 use std::sync::Wait;
 use std::thread::Threads;
 
-/// How many leaves the fleet of a soak has.
+/// The number of leaves in the fleet of a soak.
 const LEAVES: usize = 8;
 
 /// Plays the script of a seed and a number of rows. It reads no source.

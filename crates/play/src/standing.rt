@@ -1,4 +1,4 @@
-// Items that the run itself plays: standing queries are declared, and tell what they know.
+// Plays items with their standing queries: declares them, tells them, and lets them follow the lines of each item.
 ghost use Rattle.std.specs.Prelude.{◌≡◌, ◌+◌, ◌<◌, ◌≤◌, ◌++◌, ◌∷◌, [], IfErr, IfOk, OnErr, OnOk, length, map, true, false};
 ghost use Rattle.std.specs.List.{AllByRecursion};
 ghost use Rattle.printed_lines.specs.Lines.{IsOf};
@@ -28,8 +28,8 @@ use std::alloc::{AllocError, Global};
 use std::sync::Wait;
 use std::thread::Threads;
 
-/// Plays an item, and gives the lines that it prints; each standing query follows what they tell of its table. For want of memory all leaves and seats are back
-/// all the same, and so are the watches.
+/// Plays an item, and lets each standing query follow its lines. Gives the lines. After Err, which is want of memory,
+/// all leaves, seats and watches are still back.
 pub fn play_followed<'t, R: Wait + Threads + Sync, B: Berth, G: Gate>(
     rt: &R,
     alloc: Global,
@@ -58,7 +58,7 @@ pub fn play_followed<'t, R: Wait + Threads + Sync, B: Berth, G: Gate>(
     Ok(lines)
 }
 
-// Plays an item, by the leaves or by the run itself.
+// Plays an item, by the crew or by the run itself.
 fn play_any<'t, R: Wait + Threads + Sync, B: Berth, G: Gate>(
     rt: &R,
     alloc: Global,
@@ -94,14 +94,14 @@ fn play_any<'t, R: Wait + Threads + Sync, B: Berth, G: Gate>(
     }
 }
 
-// Whether the run itself plays it.
+// Whether the run itself plays the command.
 fn is_of_run(command: &Command) -> bool
     ensures { result ≡ is_of_run command.now }
 {
     matches!(command, Command::Standing { .. } | Command::Tell(_))
 }
 
-// Declares a standing query, or has one tell what it knows.
+// Declares a standing query, or lets one tell.
 fn play_own<'t, R: Wait + Threads + Sync, B: Berth, G: Gate>(
     rt: &R,
     alloc: Global,
@@ -141,7 +141,7 @@ fn play_own<'t, R: Wait + Threads + Sync, B: Berth, G: Gate>(
     }
 }
 
-// Declares a standing query behind the others.
+// Declares a standing query.
 fn declare<'t, B: Berth>(
     alloc: Global,
     crew: &Crew<'t, B>,
@@ -166,7 +166,7 @@ fn declare<'t, B: Berth>(
     Ok(lines)
 }
 
-// Has a standing query tell what it knows: where its state is stale, the leaf's table is asked first.
+// Lets a standing query tell. If its state is stale, the leaf's table is asked first.
 fn tell<'t, R: Wait + Threads + Sync, B: Berth, G: Gate>(
     rt: &R,
     alloc: Global,
@@ -221,7 +221,7 @@ fn told_line(alloc: Global, follower: &mut Follower, standing: u32) -> Result<Li
     })
 }
 
-// What a stale state tells, once its table was asked.
+// Asks the table of a stale query. Gives the line of that, and what the query then tells.
 fn tell_stale<'t, R: Wait + Threads + Sync, B: Berth, G: Gate>(
     rt: &R,
     alloc: Global,
@@ -250,7 +250,7 @@ fn tell_stale<'t, R: Wait + Threads + Sync, B: Berth, G: Gate>(
     two_lines(alloc, line, told)
 }
 
-// What a standing query tells behind that reply to its spread.
+// What a standing query tells after this reply to its spread.
 fn told_behind(
     alloc: Global,
     follower: &mut Follower,
@@ -268,7 +268,7 @@ fn told_behind(
     }
 }
 
-// Makes a stale state fresh by the reply to its spread, or says why it stays stale.
+// Makes a stale state fresh by the reply to its spread. Err says why it stays stale.
 fn settle(follower: &mut Follower, reply: Reply) -> Result<(), WhyUntold>
     requires stale { follower.old.standing.stale ≡ true }
     requires groups { IfGroups reply (AreGroups (spread follower.old.standing.query)) }

@@ -1,4 +1,4 @@
-// The tables of a fleet as a run begins, with all their seats.
+// The tables of a fleet when a run begins, with all their seats.
 ghost use Rattle.std.specs.Prelude.{◌≤◌, IfOk};
 ghost use Rattle.region_layout.specs.Names.{AreNames};
 ghost use Rattle.leaf_table.specs.Fleet.{IsNewFleet};
@@ -10,7 +10,7 @@ use leaf_table::{CallerSeats, FleetTables, StewardSeats};
 use std::alloc::{AllocError, Global};
 use std::marker::Brand;
 
-/// How many ids the callers of a table have: all but the steward's.
+/// The number of ids of a table's callers: all but the steward's.
 const SHARE: u64 = 65_536;
 
 /// The tables of a fleet, and the steward's and the callers' seat at each.
@@ -21,7 +21,8 @@ pub struct NewTables {
     pub callers: CallerSeats,
 }
 
-/// New tables of these names for so many leaves. Those of a leaf of which N knows the berth's base are founded with that.
+/// Makes tables of these names for each leaf. If N knows the base of a leaf's berth, its tables are founded with it.
+/// Err if memory runs out.
 pub fn new_tables<N: Bases>(
     alloc: Global,
     leaves: u32,

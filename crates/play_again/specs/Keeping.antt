@@ -1,4 +1,4 @@
--- What is known of berths that a run left, and two runs one after the other.
+-- What a run leaves known of its berths, and two runs one after the other.
 use Rattle.std.specs.Prelude.{◌≡◌, ◌≢◌, ℕ, zero, suc, List, [], ◌∷◌, length, map, slice_get, Option, Some, None, Ok, Vec, bytes_eq, nat_lt, if◌then◌else◌}
 use Rattle.std.specs.Global.{Global}
 use Rattle.leaf_model.specs.declared.writes.Write.{Write}
@@ -27,13 +27,13 @@ use Rattle.run_words.specs.declared.words.Request.{Request}
 
 -- ---- a base as a list, which unlike a function can be kept
 
--- what is kept of one name: its writes, and how many of them every crash leaves
+-- what is kept of a name: its writes, and how many of them every crash leaves
 pub record Kept : Type 0 where
   pub name : List ℕ
   pub writes : List Write
   pub flushed : ℕ
 
--- each name stands as the first that is kept of it says; a name of which nothing is kept has no writes
+-- the state of each name by the first item that is kept of it; without one it has no writes
 abbrev pub states_of : List Kept → NamedStates
 states_of [] name = no_base
 states_of (k ∷ ks) name = if bytes_eq name k.name then base_of k.writes k.flushed else states_of ks name
@@ -44,7 +44,7 @@ abbrev pub base_kept : Option (List Kept) → Option NamedStates
 base_kept None = None
 base_kept (Some kept) = Some (states_of kept)
 
--- the bases of the leaves' berths, where this is kept of the first of them; of the others none is known
+-- the base of each leaf's berth that is kept; none of the leaves after the last
 abbrev pub bases_of : List (Option (List Kept)) → ℕ → Option NamedStates
 bases_of [] leaf = None
 bases_of (kept ∷ more) zero = base_kept kept
@@ -58,42 +58,44 @@ IsKeptBase m (Some kept ∷ more) = IsBase (states_of kept) m × (more ≡ [])
 
 -- ---- what a run leaves known
 
--- where a leaf's tables stand behind these histories; where the fleet has no such leaf, as they stood in the base
+-- the tables of a leaf after these histories; the base, if the fleet has no such leaf
 abbrev pub tables_left : Fleet → ℕ → NamedStates → (ℕ → List Entry) → Meaning → NamedStates
 tables_left fleet leaf base histories m = if nat_lt leaf (leaf_count fleet) then tables_of base (watched_with fleet.names base histories) m else base
 
--- a leaf may begin over the berth with the base that is kept, which has a front of each table's writes and each flushed one
+-- the kept base is one that a leaf may begin with over the berth; it has a prefix of each table's writes with each
+-- flushed one
 pub record IsKeptOf (tables : NamedStates) (m : Meaning) (kept : List Kept) : Type 0 where
   pub is_base : IsBase (states_of kept) m
   pub front : (name : List ℕ) → IsFrontOf (tables name) (states_of kept name)
 
--- something is kept of a leaf's berth just where its base was known
+-- something is kept of a leaf's berth exactly if its base was known
 abbrev pub KeepsOne : Fleet → ℕ → Option Known → (ℕ → List Entry) → Meaning → Option (List Kept) → Type 0
 KeepsOne fleet leaf None histories m next = next ≡ None
 KeepsOne fleet leaf (Some k) histories m None = ⊥
 KeepsOne fleet leaf (Some k) histories m (Some kept) = IsKeptOf (tables_left fleet leaf k.base histories m) m kept
 
--- so it is of each berth
+-- this is kept of each berth
 pub record KeepsEach {B : Type 0} (meaning : B → Meaning) (berths : List B) (fleet : Fleet) (known : ℕ → Option Known) (histories : ℕ → ℕ → List Entry) (next : List (Option (List Kept))) : Type 0 where
   pub as_many : length next ≡ length berths
   pub each : (leaf : ℕ) (berth : B) (kept : Option (List Kept)) → slice_get berths leaf ≡ Some berth → slice_get next leaf ≡ Some kept
       → KeepsOne fleet leaf (known leaf) (histories leaf) (meaning berth) kept
 
--- What is kept is the base that a run left of each berth, by the histories of its transcript, over one of the things that may be known.
+-- What is kept is the base that the run left of each berth, by the histories of its transcript, for one choice of what
+-- may be known.
 pub record KeepsBy {B : Type 0} (meaning : B → Meaning) (old new : List B) (base : ℕ → Option NamedStates) (items : List Item) (lines : List Line) (watching watched : List Held)
     (told : (known : ℕ → Option Known) → AreKnown meaning old new base known → IsToldRun meaning old new items known lines watching watched) (next : List (Option (List Kept))) : Type 0 where
   pub known : ℕ → Option Known
   pub are_known : AreKnown meaning old new base known
   pub keeps : KeepsEach meaning new (script_fleet items) known (told known are_known).transcript.histories next
 
--- what was known of each berth is kept as it was
+-- what was known of each berth is kept unchanged
 pub record KeepsSame {B : Type 0} (meaning : B → Meaning) (old new : List B) (base : ℕ → Option NamedStates) (next : List (Option (List Kept))) : Type 0 where
   pub known : ℕ → Option Known
   pub are_known : AreKnown meaning old new base known
   pub keeps : KeepsEach meaning new no_fleet known (λ leaf table. []) next
 
--- What a play over berths with these bases leaves known, however it ended: where it was done, by its transcript; where it ended before, by that of the items that were played; or nothing was
--- written, and the berths are as they were.
+-- What a play over berths with these bases leaves known, however it ended. If it was done, by its transcript; if it
+-- stopped, by the transcript of the items that were played; if nothing was written, the berths are as they were.
 pub data LeavesKnown {B : Type 0} (status : Status) (base : ℕ → Option NamedStates) (meaning : B → Meaning) (before after was now : Option (List ℕ)) (old new : List B) (next : List (Option (List Kept))) : Type 0 where
   done : (watching watched : List Held) (played : IsPlayed base meaning before after was now old new watching watched)
       → status ≡ Status.Done
@@ -113,12 +115,13 @@ pub data LeavesKnown {B : Type 0} (status : Status) (base : ℕ → Option Named
 
 -- ---- two runs
 
--- after a run that ended so over berths that are these now, another ran over what the first left known; where nothing could be kept of that, none did
+-- after a run that left these berths, another ran over what the first left known; None: memory to keep that ran out,
+-- and there was no other
 abbrev pub RunsNext : {S K B W : Type 0} → (B → Meaning) → Sight S K → Option Request → Option Status → (List (Option (List Kept)) → Type 0) → Outside S K B W → Outside S K B W → Type 0
 RunsNext meaning of request None leaves old new = new ≡ old
 RunsNext meaning of request (Some status) leaves old new = (kept : List (Option (List Kept))) × leaves kept × HasRun (bases_of kept) meaning of request status old new
 
--- a run, from the first of these to a source and a sink of its own, and then the next one over its berths and watches, with its own source and sink
+-- a run, and then another over the berths and watches that it left, each with a source and a sink of its own
 pub record RanTwice {S K B W : Type 0} (base : ℕ → Option NamedStates) (meaning : B → Meaning) (of : Sight S K) (request : Option Request) (status : Status) (next : Option Status) (old : Outside S K B W) (source : S) (sink : K) (next_source : S) (next_sink : K) (new : Outside S K B W) : Type 0 where
   pub between : Vec B Global
   pub watches : W

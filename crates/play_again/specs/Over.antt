@@ -5,11 +5,11 @@ use Rattle.crash_moments.specs.Left.{NamedStates}
 use Rattle.play.specs.Played.{AreBases, IsBase}
 use Rattle.play_again.specs.Keeping.{Kept, bases_of, states_of}
 
--- a leaf may begin over the berth, with some base
+-- a leaf may begin over the berth with some base
 abbrev pub HasBase : Meaning → Type 0
 HasBase m = (base : NamedStates) × IsBase base m
 
--- so it is of the berths of so many leaves, the first ones
+-- this holds of the first `leaves` berths
 abbrev pub HaveBases : {B : Type 0} → ℕ → (B → Meaning) → List B → Type 0
 HaveBases {B} leaves meaning berths = (leaf : ℕ) (b : B) → leaf < leaves → slice_get berths leaf ≡ Some b → HasBase (meaning b)
 
@@ -18,7 +18,7 @@ abbrev pub IsBaseKept : Meaning → Option (List Kept) → Type 0
 IsBaseKept m None = ⊥
 IsBaseKept m (Some kept) = IsBase (states_of kept) m
 
--- a base is kept of each of so many berths, and a run may begin over these
+-- a base is kept of each of the first `leaves` berths, and a run may begin over these
 pub record KeepsBases {B : Type 0} (leaves : ℕ) (meaning : B → Meaning) (berths : List B) (kept : List (Option (List Kept))) : Type 0 where
   pub as_many : length kept ≡ length berths
   pub each : (leaf : ℕ) (b : B) (k : Option (List Kept)) → leaf < leaves → slice_get berths leaf ≡ Some b → slice_get kept leaf ≡ Some k → IsBaseKept (meaning b) k

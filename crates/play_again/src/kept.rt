@@ -1,4 +1,4 @@
-// What is known of berths, as a token that contracts alone see: a proof chooses it when it is made.
+// A token of what is known of berths. Only contracts see what; a proof chooses it when the token is made.
 ghost use Rattle.std.specs.Prelude.{◌≡◌, List, Option, IfOk};
 ghost use Rattle.play_again.specs.Keeping.{Kept};
 
@@ -6,7 +6,8 @@ use atomic_table::{Play, Seat, Table, TableRule};
 use std::alloc::{AllocError, Global};
 use std::marker::{Brand, Model, PhantomData};
 
-/// Of the berth of each leaf, where it is known: of each of some names the writes that it has, and how many of them every crash leaves. No value of it is made.
+/// For each leaf's berth its base, if that is known: for each name its writes, and how many of them every crash leaves.
+/// Specification only, never constructed.
 pub struct KeptTables {
     nothing: u8,
 }
@@ -20,7 +21,7 @@ impl Model for KeptTables {
     ghost view = { λ _. [] };
 }
 
-/// What is chosen.
+/// What may be chosen.
 pub trait Choice {
     ghost use Rattle.std.specs.Prelude.{List, Option};
     ghost use Rattle.play_again.specs.Keeping.{Kept};
@@ -32,7 +33,7 @@ impl Choice for Brand {
     ghost fits = { λ _. Unit {0} };
 }
 
-// A table that holds whatever it is. Its first seat knows nothing.
+// A word that may hold any value. Its first seat knows nothing.
 struct Anything;
 
 impl TableRule<(), KeptTables, ()> for Anything {
@@ -43,7 +44,7 @@ impl TableRule<(), KeptTables, ()> for Anything {
     ghost first = { λ _. [] };
 }
 
-// At one load the seat comes to know something that fits.
+// The load by which a seat learns a value that fits.
 struct Chooses<N> {
     of: PhantomData<N>,
 }
@@ -52,7 +53,8 @@ impl<N: Choice> Play<(), KeptTables> for Chooses<N> {
     ghost then = { λ st m found m'. N.fits m'.0 };
 }
 
-/// A token of what is known of berths: of each of the first some the base, as a list, or nothing. Dropping it does nothing.
+/// A token of what is known of berths: for each of the first ones its base, as a list, or nothing. To drop it is a
+/// no-op.
 #[derive(Drop)]
 pub struct KnownBerths {
     seat: Seat<(), KeptTables>,
@@ -68,7 +70,8 @@ impl Model for KnownBerths {
 }
 
 impl KnownBerths {
-    /// Knows what fits, where anything does. It takes the memory of one word, and gives it back at once.
+    /// Makes a token of a value that fits, if there is one. It takes the memory of one word, and gives it back at once.
+    /// Err if there is none.
     pub fn choose<N: Choice>(alloc: Global) -> Result<KnownBerths, AllocError>
         requires { (known : List (Option (List Kept))) × N.fits known }
         ensures { IfOk result (λ known. N.fits known) }

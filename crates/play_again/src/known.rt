@@ -17,7 +17,8 @@ use std::snapshot::Snapshot;
 use std::sync::Wait;
 use std::thread::Threads;
 
-/// Keeps a base of this berth, the first of some, where it has one that can be kept. Of the others nothing is known then.
+/// Keeps a base of this berth, as that of leaf 0, if it has one that can be kept. Nothing is then known of other
+/// berths. Err if memory runs out.
 pub fn keep<B: Berth>(alloc: Global, berth: &B) -> Result<KnownBerths, AllocError>
     requires { (kept : List Kept) × IsBase (states_of kept) (B.meaning berth.now) }
     ensures { IfOk result (λ known. IsKeptBase (B.meaning berth.now) known) }
@@ -25,7 +26,7 @@ pub fn keep<B: Berth>(alloc: Global, berth: &B) -> Result<KnownBerths, AllocErro
     keep_base::<Brand, B>(alloc, berth)
 }
 
-// Keeps what N says of this berth.
+// Keeps what N chooses of this berth.
 fn keep_base<N: Choice, B>(alloc: Global, _berth: &B) -> Result<KnownBerths, AllocError>
     requires { (known : List (Option (List Kept))) × N.fits known }
     ensures { IfOk result (λ known. N.fits known) }
@@ -33,7 +34,7 @@ fn keep_base<N: Choice, B>(alloc: Global, _berth: &B) -> Result<KnownBerths, All
     KnownBerths::choose::<N>(alloc)
 }
 
-/// A run over the berths of which this is known.
+/// Runs the program over berths of which this is known.
 pub fn run_known<R: Wait + Threads + Sync, S: Source, K: Sink, B: Berth, G: Gate>(
     rt: &R,
     alloc: Global,
@@ -53,7 +54,7 @@ pub fn run_known<R: Wait + Threads + Sync, S: Source, K: Sink, B: Berth, G: Gate
     run_for::<Brand, R, S, K, B, G>(rt, alloc, words, source, sink, berths, gate, watches, known)
 }
 
-// A run over berths with the bases of N, which the caller picks by what is known.
+// Runs the program over berths with the bases of N, which the caller picks by what is known.
 fn run_for<N: Bases, R: Wait + Threads + Sync, S: Source, K: Sink, B: Berth, G: Gate>(
     rt: &R,
     alloc: Global,
@@ -73,7 +74,8 @@ fn run_for<N: Bases, R: Wait + Threads + Sync, S: Source, K: Sink, B: Berth, G: 
     run::<N, R, S, K, B, G>(rt, alloc, words, source, sink, berths, gate, watches)
 }
 
-/// A play, and what it left known of the berths, however it ended, where there was memory for that.
+/// Plays a script. Gives the status, and what the play left known of the berths, however it ended; None if memory for
+/// that ran out.
 pub fn run_keeping<N: Bases, R: Wait + Threads + Sync, S: Source, K: Sink, B: Berth, G: Gate>(
     rt: &R,
     alloc: Global,
@@ -110,7 +112,8 @@ pub fn run_keeping<N: Bases, R: Wait + Threads + Sync, S: Source, K: Sink, B: Be
     }
 }
 
-// Keeps what N says of these berths. How the run ended, and what the berths, the source and the sink were and are, is for the pick alone.
+// Keeps what N chooses of these berths. The other arguments are for the choice alone: how the run ended, and what
+// berths, source and sink were and are.
 fn keep_left<N: Choice, S, K, B>(
     alloc: Global,
     _status: &Status,
@@ -127,7 +130,8 @@ fn keep_left<N: Choice, S, K, B>(
     KnownBerths::choose::<N>(alloc)
 }
 
-/// Two plays, one after the other, over the same berths: the second is begun however the first ended, where there was memory to keep what it left known.
+/// Plays two scripts, one after the other, over the same berths. The second play begins however the first ended, if
+/// memory sufficed to keep what that left known.
 pub fn run_twice<N: Bases, R: Wait + Threads + Sync, S: Source, K: Sink, B: Berth, G: Gate>(
     rt: &R,
     alloc: Global,
@@ -143,7 +147,7 @@ pub fn run_twice<N: Bases, R: Wait + Threads + Sync, S: Source, K: Sink, B: Bert
     requires words { request_of (map string_bytes words.now) ≡ Some Play }
     requires bases { AreBases N.base B.meaning berths.old.items }
 
-    // The first ran over the bases of N, and the second over a base that the first left, however that ended.
+    // The first run was over the bases of N, and the second over bases that the first left, however it ended.
     ensures { RanTwice N.base B.meaning (sight S.left S.faults K.written K.faults) (request_of (map string_bytes words.now)) result.0 result.1
         (outside source.old sink.old berths.old watches.old (map (λ watch. held watch) watches.old.items)) source.new sink.new next_source.old next_sink.old
         (outside next_source.new next_sink.new berths.new watches.new (map (λ watch. held watch) watches.new.items)) }

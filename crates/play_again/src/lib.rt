@@ -1,4 +1,4 @@
-//! Runs over berths of which something is known: what a run left of them, or that leaves may begin there, whatever they hold.
+//! Runs over berths with known bases: those that an earlier run left, or any over which leaves may begin.
 #![tactic(auto)]
 
 mod kept;

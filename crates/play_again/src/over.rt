@@ -1,4 +1,4 @@
-// A run over berths over which leaves may begin, whatever they hold.
+// Runs over berths of which only is known that leaves may begin there.
 ghost use Rattle.std.specs.Prelude.{◌≡◌, List, Option, IfOk, OnErr, map, string_bytes};
 ghost use Rattle.berth_face.specs.Berth.{OpenedOn, Pair};
 ghost use Rattle.region_layout.specs.Region.{reads};
@@ -19,13 +19,15 @@ use std::marker::Brand;
 use std::sync::Wait;
 use std::thread::Threads;
 
-/// A leaf may begin over a berth that was opened on a region and a disk which belong to some tables, as each pair does that a crash may leave.
+/// No-op; states that a leaf may begin over a berth that was opened on a region and a disk which belong to some tables;
+/// each pair that a crash may leave does.
 pub fn has_base_where_opened<B: Berth>(berth: &B)
     ensures { (tables : NamedStates) (p : Pair) → Left reads tables p → OpenedOn p.region p.disk (B.meaning berth.now) → HasBase (B.meaning berth.now) }
 {}
 
-/// A run over berths of which each that its leaves use is one over which a leaf may begin, whatever it holds: what it prints and leaves is told over bases of theirs. Err where the one word that this takes finds
-/// no memory; then nothing was read, written or played.
+/// Runs the program over berths. Over each that its leaves use, a leaf has to be able to begin, whatever the berth
+/// holds. What the run prints and leaves is told over bases of these berths. Err if memory for one word runs out; then
+/// nothing was read, written or played.
 pub fn run_over<R: Wait + Threads + Sync, S: Source, K: Sink, B: Berth, G: Gate>(
     rt: &R,
     alloc: Global,
@@ -50,7 +52,7 @@ pub fn run_over<R: Wait + Threads + Sync, S: Source, K: Sink, B: Berth, G: Gate>
     ))
 }
 
-// Keeps a base of each of the berths that the leaves use which the words and the source ask for.
+// Keeps a base of each berth that the leaves of this request use.
 fn keep_used<S: Source, B: Berth>(
     alloc: Global,
     words: &[String],
@@ -63,7 +65,7 @@ fn keep_used<S: Source, B: Berth>(
     keep_bases::<Brand, S, B>(alloc, words, source, berths)
 }
 
-// Keeps what N says of these berths.
+// Keeps what N chooses of these berths.
 fn keep_bases<N: Choice, S, B>(
     alloc: Global,
     _words: &[String],

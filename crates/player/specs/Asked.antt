@@ -20,24 +20,24 @@ use Rattle.leaf_moves.specs.Plays.{Goes}
 use Rattle.player.specs.Crew.{AllCounted}
 use Rattle.player.specs.Lines.{reply_line}
 
--- of groups that were told at an entry
+-- P holds of the groups, if the reply has some
 abbrev pub IfGroups : Reply → (ℕ → List Group → Type 0) → Type 0
 IfGroups (reply.Groups number gs) P = P number gs
 IfGroups _ P = ⊤
 
--- they are of some rows, which are no more than a table may have
+-- the groups of some rows, at most as many as a table may have
 pub record AreGroups (q : Query) (number : ℕ) (gs : List Group) : Type 0 where
   pub some : 0 < number
   pub rows : List Row
   pub few : length rows ≤ 2 ^ 40
   pub are : gs ≡ groups q rows
 
--- they are of the rows that the table held before that entry, as a table may
+-- the groups of the rows of the table before that entry, which are ones that a table may hold
 pub record AreGroupsThen (g : Ground) (entries : List Entry) (q : Query) (number : ℕ) (gs : List Group) : Type 0 where
   pub held : IsHeld (held (after g.founded g.base (take (number - 1) entries)))
   pub are : gs ≡ groups q (rows_before g entries number)
 
--- What was done, and what the reply's groups are of, however the histories go on.
+-- What the ask did, and the rows that the groups in its reply are of, however the histories go on.
 pub record AsksLeaf {B : Type 0} (meaning : B → Meaning) (names : List (List ℕ)) (leaf table : ℕ) (q : Query) (xs : List (Hold B)) (line : Line) (answer : Reply) (ys : List (Hold B)) : Type 0 where
   pub piece : Piece
   pub prints : CallPiece leaf table (call.Ask q) piece

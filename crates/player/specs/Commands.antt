@@ -51,11 +51,11 @@ use Rattle.leaf_deeds.specs.Moves.{FaultRose}
 
 -- ---- deeds
 
--- how a deed ended, as it is told where it was a drain, and where it was a start
+-- how a deed ended, in the words of the watches, as a drain and as a start
 abbrev pub answer_of : Ending → Answer
 answer_of ends = record { drained = drained_by ends; started = started_by ends }
 
--- what the steward of the leaf with this number did between two meetings of all seats, with its piece
+-- a deed of leaf `number` between two meetings of all seats, with its piece
 pub record ActsWith {B E : Type 0} (meaning : B → Meaning) (names : List (List ℕ)) (number : ℕ) (deed : Deed) (leaf : Leaf) (callers : List (Option SeatView)) (b : B)
     (answer : Answer) (result : Result (Vec Line Global) E) (leaf' : Leaf) (callers' : List (Option SeatView)) (b' : B) : Type 0 where
   pub piece : Piece
@@ -86,7 +86,7 @@ pub record StartsFirst {B E : Type 0} (meaning : B → Meaning) (k : ℕ) (x : M
 
 -- ---- calls
 
--- what a caller asks for
+-- the call that a request makes
 abbrev pub call_of : Request → Call
 call_of (request.Add rows) = call.Add rows
 call_of (request.Expire horizon) = call.Expire horizon
@@ -99,7 +99,7 @@ IsRequest (request.Expire horizon) = IsTime horizon
 IsRequest (request.Keep n) = ⊤
 IsRequest (request.Ask q) = ⊤
 
--- a call of one of the leaves
+-- a call at one of the leaves
 pub record CallsAt {B E : Type 0} (meaning : B → Meaning) (leaf table : ℕ) (r : Request) (x : Members B) (result : Result (Vec Line Global) E) (y : Members B) : Type 0 where
   pub piece : Piece
   pub prints : CallPiece leaf table (call_of r) piece
@@ -107,12 +107,12 @@ pub record CallsAt {B E : Type 0} (meaning : B → Meaning) (leaf table : ℕ) (
 
 -- ---- queries
 
--- the number of the leaf's entry, where it stands in the list
+-- the number of the leaf's entry, if the leaf is in the list
 abbrev pub number_in : ℕ → List Named → Option ℕ
 number_in leaf [] = None
 number_in leaf (n ∷ ns) = if n.leaf == leaf then Some n.number else number_in leaf ns
 
--- the line of a leaf with these numbers among those that answered, those that were shut, and those that were refused memory
+-- the line of a leaf, by its number among the leaves that answered, that were shut, and that ran out of memory
 abbrev pub said_line : ℕ → ℕ → Option ℕ → Option ℕ → Option ℕ → Line
 said_line leaf table (Some number) shut starved = line.Entry leaf table number said.Asked
 said_line leaf table None (Some number) starved = line.Entry leaf table number said.RefusedShut
@@ -123,20 +123,20 @@ said_line leaf table None None None = line.Worn leaf table
 abbrev pub asked_line : ℕ → ℕ → Fanned → Line
 asked_line leaf table f = said_line leaf table (number_in leaf f.named) (number_in leaf f.shut) (number_in leaf f.starved)
 
--- those of the first so many leaves
+-- the lines of the first `leaves` leaves
 abbrev pub asked_lines : ℕ → ℕ → Fanned → List Line
 asked_lines zero table f = []
 asked_lines (suc leaves) table f = asked_lines leaves table f ++ asked_line leaves table f ∷ []
 
--- all that a query prints
+-- all lines of a query
 abbrev pub query_lines : ℕ → ℕ → Query → Fanned → List Line
 query_lines leaves table q f = asked_lines leaves table f ++ line.Answer (length f.named) leaves (answer_lines q f.groups) ∷ []
 
--- one row of seats was asked, or for want of memory none of them
+-- the seats at one table asked, or, as memory ran out, none did
 abbrev pub AsksRow : {E : Type 0} → Query → List (List Shared) → ℕ → List (List SeatView) → Result Fanned E → List (List SeatView) → Type 0
 AsksRow q tables table rows result rows' = (IsErr result × (rows' ≡ rows)) ⊎ ((after : List SeatView) × AllAsked q tables table (row rows table) after result × (rows' ≡ slice_set rows table after))
 
--- a query of all leaves, whose answer is over what they hold then, however their histories go on
+-- a query of all leaves; its answer is over what they then hold, however their histories go on
 pub record AsksAll {B E : Type 0} (meaning : B → Meaning) (q : Query) (x : Members B) (result : Result (Vec Line Global) E) (y : Members B) : Type 0 where
   pub pieces : List Piece
   pub prints : QueryPieces (fleet_in x) q pieces
@@ -145,32 +145,32 @@ pub record AsksAll {B E : Type 0} (meaning : B → Meaning) (q : Query) (x : Mem
 
 -- ---- tails
 
--- the line of a call that was made at a leaf
+-- the line of a call at a leaf, if it was made
 abbrev pub also_line : Option ℕ → ℕ → Option Reply → List Line
 also_line (Some leaf) table (Some reply) = reply_line leaf table reply ∷ []
 also_line leaf table reply = []
 
--- those of a try
+-- the lines of a try
 abbrev pub try_lines : ℕ → TryOf Reply → List Line
 try_lines table t = reply_line t.first table t.one ∷ (also_line (Some t.second) table t.two ++ also_line (pick_of free_of is_added t) table t.added)
 
--- all that a tail prints
+-- all lines of a tail
 abbrev pub tail_lines : ℕ → Tailed → List Line
 tail_lines table t = flat_map (try_lines table) (tries_seen t.tries) ++ line.Tailed (sent_to t.sent) ∷ []
 
--- what a tail of these rows did by the seats of one row, which then are these
+-- what a tail of these rows did by the seats at one table, which are then `after`
 pub record Sends (tables : List (List Shared)) (table key : ℕ) (rows : List Row) (seats : List SeatView) (t : Tailed) (after : List SeatView) : Type 0 where
   pub tails : Tails free_of is_added (length tables) (words_of key) (tries_seen t.tries) (sent_to t.sent)
   pub calls : CallsOn tables table seats (calls_in rows (tries_seen t.tries)) after
   pub over : (histories : ℕ → List Entry) → one.GoOn after histories → AllByRecursion (IsOverRows (bases_in tables table) histories) (calls_in rows (tries_seen t.tries))
 
--- the row stands among others
+-- the same; the seats at other tables stay
 pub record SendsRow (tables : List (List Shared)) (table key : ℕ) (rows : List Row) (seats : List (List SeatView)) (t : Tailed) (seats' : List (List SeatView)) : Type 0 where
   pub after : List SeatView
   pub sends : Sends tables table key rows (row seats table) t after
   pub now : seats' ≡ slice_set seats table after
 
--- a tail of these rows, whose picks are by what the leaves held then, however their histories go on
+-- a tail of these rows; its picks are by what the leaves then held, however their histories go on
 pub record TailsAll {B E : Type 0} (meaning : B → Meaning) (key table : ℕ) (rows : List Row) (x : Members B) (result : Result (Vec Line Global) E) (y : Members B) : Type 0 where
   pub pieces : List Piece
   pub goes : GoesWith meaning x.names (holds_in x) result pieces (holds_in y)

@@ -1,4 +1,4 @@
--- A crew over the leaves of a fleet, as its callers see it: that of the run, or of a lane.
+-- A crew over the leaves of a fleet, as its callers see it. The run has one, and so has each lane.
 use Rattle.std.specs.Prelude.{◌≡◌, ◌⊎◌, ℕ, suc, ◌<◌, ◌≤◌, true, false, Bool, List, [], ◌∷◌, length, map, slice_get, slice_index_or, Option, Some, None, Result, Vec, IfOk, is_some, ⊤}
 use Rattle.std.specs.Global.{Global}
 use Rattle.std.specs.List.{AllByRecursion}
@@ -29,15 +29,15 @@ pub record CrewState (B : Type 0) : Type 0 where
   pub tables : List (List Shared)
   pub holds : List (Hold B)
 
--- the seats at that leaf, of rows that have for each table a seat at each leaf, or none at all
+-- the seats at leaf `leaf`: one for each table, or none
 abbrev pub column : {A : Type 0} → ℕ → List (List A) → List (Option A)
 column leaf rows = map (λ row. slice_get row leaf) rows
 
--- that leaf's tables, and its steward's seats at them
+-- the leaf's tables, and the steward's seats at them
 abbrev pub seated_at : List (List ℕ) → List (List Shared) → List (List SeatView) → ℕ → Seated
 seated_at names tables stewards leaf = record { names = names; tables = row tables leaf; seats = row stewards leaf }
 
--- leaves that are down, from the one with this number on: one over each of these berths
+-- leaves that are down, from leaf `leaf` on, one over each of these berths
 abbrev pub new_holds : {B : Type 0} → ℕ → List (List ℕ) → List (List Shared) → List (List SeatView) → List (List SeatView) → List B → List (Hold B)
 new_holds leaf names tables stewards callers [] = []
 new_holds leaf names tables stewards callers (b ∷ berths) =
@@ -45,15 +45,15 @@ new_holds leaf names tables stewards callers (b ∷ berths) =
 
 -- ---- what is held
 
--- a seat of callers at that table of each leaf
+-- a callers' seat at that table is held for each leaf
 abbrev pub HasSeats : {B : Type 0} → List (Hold B) → ℕ → Type 0
 HasSeats {B} xs table = (leaf : ℕ) (x : Hold B) → slice_get xs leaf ≡ Some x → is_some (caller_in x.callers table) ≡ true
 
--- that leaf
+-- that leaf is held
 abbrev pub HasLeaf : {B : Type 0} → List (Hold B) → ℕ → Type 0
 HasLeaf {B} xs leaf = (x : Hold B) → slice_get xs leaf ≡ Some x → is_some x.held ≡ true
 
--- what a command needs that is for these: the fleet begins with leaves that are down
+-- all that such a command needs is held
 abbrev pub HasAimed : {B : Type 0} → Fleet → List (Hold B) → Aim → Type 0
 HasAimed fleet xs AtFleet = (leaf : ℕ) → HasLeaf xs leaf
 HasAimed fleet xs (AtTable table) = HasSeats xs table
@@ -62,22 +62,22 @@ HasAimed fleet xs (AtLeaf leaf) = HasLeaf xs leaf
 HasAimed fleet xs AtLeaves = (leaf : ℕ) → leaf < leaf_count fleet → HasLeaf xs leaf
 HasAimed fleet xs AtRun = ⊤
 
--- what a command needs
+-- all that a command needs is held
 abbrev pub HasFor : {B : Type 0} → Fleet → List (Hold B) → Command → Type 0
 HasFor fleet xs c = HasAimed fleet xs (aim_of c)
 
--- all of it, as the run has between two items
+-- everything is held, as the run does between two items
 pub record HasAll {B : Type 0} (fleet : Fleet) (xs : List (Hold B)) : Type 0 where
   pub leaves : (leaf : ℕ) → HasLeaf xs leaf
   pub seats : (table : ℕ) → table < length fleet.names → HasSeats xs table
 
--- the same is held
+-- the same leaves and seats are held
 pub record StillHas {B : Type 0} (xs ys : List (Hold B)) : Type 0 where
   pub count : length ys ≡ length xs
   pub each : (leaf : ℕ) (x y : Hold B) → slice_get xs leaf ≡ Some x → slice_get ys leaf ≡ Some y
       → (is_some y.held ≡ is_some x.held) × ((table : ℕ) → is_some (caller_in y.callers table) ≡ is_some (caller_in x.callers table))
 
--- callers' seats stand at the same tables
+-- callers' seats are held at the same tables
 pub record SameSeats {B : Type 0} (xs ys : List (Hold B)) : Type 0 where
   pub count : length ys ≡ length xs
   pub each : (leaf : ℕ) (x y : Hold B) → slice_get xs leaf ≡ Some x → slice_get ys leaf ≡ Some y → (table : ℕ) → is_some (caller_in y.callers table) ≡ is_some (caller_in x.callers table)
@@ -90,7 +90,7 @@ PassesIf meaning None None = ⊤
 PassesIf meaning (Some x) None = ⊥
 PassesIf meaning None (Some y) = ⊥
 
--- time passed for the berth of each leaf that is held
+-- the clock of each berth that is held did not fall
 pub record AllPass {B : Type 0} (meaning : B → Meaning) (xs ys : List (Hold B)) : Type 0 where
   pub count : length ys ≡ length xs
   pub each : (leaf : ℕ) (x y : Hold B) → slice_get xs leaf ≡ Some x → slice_get ys leaf ≡ Some y → PassesIf meaning x.held y.held
@@ -106,7 +106,7 @@ pub record AllCounted {B : Type 0} (meaning : B → Meaning) (pieces : List Piec
   pub count : length ys ≡ length xs
   pub each : (leaf : ℕ) (x y : Hold B) → slice_get xs leaf ≡ Some x → slice_get ys leaf ≡ Some y → CountedIf meaning leaf pieces x.held y.held
 
--- what a command did, with its pieces, and what the watches heard of it, also where there was no memory for their lines
+-- what a command did, with its pieces, and what the watches heard of it; memory for its lines may have run out
 pub record PlaysWith {B E : Type 0} (meaning : B → Meaning) (fleet : Fleet) (c : Command) (xs : List (Hold B)) (before : List Held) (result : Result (Vec Line Global) E) (ys : List (Hold B)) (after : List Held) : Type 0 where
   pub pieces : List Piece
   pub plays : Plays meaning fleet c xs pieces ys
@@ -117,11 +117,11 @@ pub record PlaysWith {B E : Type 0} (meaning : B → Meaning) (fleet : Fleet) (c
 
 -- ---- what is lent to a lane
 
--- the test of a place in a list
+-- whether the place is marked
 abbrev pub is_set : List Bool → ℕ → Bool
 is_set marks place = slice_index_or marks place false
 
--- a seat at that table, at each leaf where there is one, has so many ids of its own at least
+-- each callers' seat at that table has at least n ids of its own
 abbrev pub Spares : {B : Type 0} → List (Hold B) → ℕ → ℕ → Type 0
 Spares {B} xs table n = (leaf : ℕ) (x : Hold B) (c : SeatView) → slice_get xs leaf ≡ Some x → caller_in x.callers table ≡ Some c → n ≤ c.share
 

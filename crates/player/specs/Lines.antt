@@ -1,4 +1,4 @@
--- The lines of calls and of a steward's deeds, and the pieces that they are of.
+-- The lines of calls and deeds, and the pieces that they belong to.
 use Rattle.std.specs.Prelude.{◌≡◌, ℕ, Bool, List, [], ◌∷◌, ◌++◌, map, Option, Result, Ok, Err, Vec, IfOk, ⊤}
 use Rattle.std.specs.Global.{Global}
 use Rattle.std.specs.List.{AllByRecursion}
@@ -20,7 +20,7 @@ use Rattle.leaf_moves.specs.Steps.{CallStep, noted, noted_all}
 
 -- ---- calls
 
--- the line of a call of a leaf's table that had this reply
+-- the line of a call at a leaf's table with this reply
 abbrev pub reply_line : ℕ → ℕ → Reply → Line
 reply_line leaf table (told.Added number kept late) = line.Entry leaf table number (said.Added kept late)
 reply_line leaf table (told.Removed number rows) = line.Entry leaf table number (said.Removed rows)
@@ -30,7 +30,7 @@ reply_line leaf table (told.Full number) = line.Entry leaf table number said.Ref
 reply_line leaf table (told.NoMemory number) = line.Entry leaf table number said.RefusedMemory
 reply_line leaf table told.Worn = line.Worn leaf table
 
--- what a caller's call did, with its piece, also where there was no memory for its line
+-- what a caller's call did, with its piece; memory for its line may have run out
 pub record CallsWith {E : Type 0} (names : List (List ℕ)) (leaf table : ℕ) (c : Call) (tables : List Shared) (callers : List (Option SeatView)) (result : Result (Vec Line Global) E) (callers' : List (Option SeatView)) : Type 0 where
   pub piece : Piece
   pub step : CallStep leaf table c tables callers piece callers'
@@ -51,7 +51,7 @@ note_lines leaf notes = map (noted_line leaf) (noted_all notes)
 abbrev pub AreEnded : ℕ → Deed → List Note → Ending → List Line → Type 0
 AreEnded leaf deed notes ends lines = lines ≡ note_lines leaf notes ++ line.Ended deed leaf ends ∷ []
 
--- the lines that were not refused stand one behind the other
+-- the lines of both, one after the other; neither is Err
 abbrev pub AreJoined : {E : Type 0} → Result (Vec Line Global) E → Result (Vec Line Global) E → List Line → Type 0
 AreJoined (Ok first) (Ok second) lines = lines ≡ first.items ++ second.items
 AreJoined (Ok first) (Err e) lines = ⊥

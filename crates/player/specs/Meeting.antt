@@ -1,4 +1,4 @@
--- Notes by their tables, and meetings of a leaf's steward and its callers.
+-- Notes by their tables, and meetings of a leaf's steward with its callers.
 use Rattle.std.specs.Prelude.{◌≡◌, ℕ, ◌<◌, ◌≤◌, List, length, slice_get, slice_set, Option, Some, IsTrue}
 use Rattle.std.specs.List.{AllByRecursion}
 use Rattle.berth_face.specs.Berth.{Meaning}
@@ -8,13 +8,13 @@ use Rattle.leaf_steward.specs.declared.notes.Note.{Note}
 use Rattle.leaf_steward.specs.Seated.{AreFounded}
 use Rattle.leaf_moves.specs.Stage.{Leaf, MeetsIf, Stands, seated_of, with_seats}
 
--- each note is of a table among so many
+-- each note is of one of `count` tables
 abbrev pub ArePlaces : ℕ → List Note → Type 0
 ArePlaces count notes = AllByRecursion (λ (n : Note). n.table < count) notes
 
 -- ---- meetings
 
--- the steward's seat at the table in that place and the callers', where there is one, met, and no other
+-- at that table the steward's seat and the callers', if there is one, met; no others did
 pub record MeetsAt (table : ℕ) (leaf : Leaf) (callers : List (Option SeatView)) (leaf' : Leaf) (callers' : List (Option SeatView)) : Type 0 where
   pub steward : SeatView
   pub caller : Option SeatView
@@ -26,7 +26,7 @@ pub record MeetsAt (table : ℕ) (leaf : Leaf) (callers : List (Option SeatView)
   pub leaf_is : leaf' ≡ with_seats leaf (slice_set (seated_of leaf).seats table steward_then)
   pub callers_are : callers' ≡ slice_set callers table caller_then
 
--- the first k of the steward's seats and of the callers' have met
+-- the first k of the steward's seats and of the callers' met
 pub record MeetFirst (k : ℕ) (leaf : Leaf) (callers : List (Option SeatView)) (leaf' : Leaf) (callers' : List (Option SeatView)) (m : Meaning) : Type 0 where
   pub seats : List SeatView
   pub leaf_is : leaf' ≡ with_seats leaf seats

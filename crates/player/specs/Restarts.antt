@@ -32,7 +32,7 @@ IsRestart (deed.Flush table) = ⊥
 IsRestart (deed.Drain stop) = stop ≡ None
 IsRestart deed.Kill = ⊥
 
--- a leaf of a crew that has all its leaves may be drained and started
+-- a leaf of a crew that holds all leaves may be drained and started
 pub record MayDo {B : Type 0} (x : Members B) (number : ℕ) : Type 0 where
   pub members : AreMembers x
   pub within : number < leaf_count (fleet_in x)
@@ -46,13 +46,13 @@ pub record HasDone {B E : Type 0} (meaning : B → Meaning) (number : ℕ) (deed
 
 module _ {F T E : Type 0} (g : Shared F (MutBor T × (ℕ × (Deed × Unit {0}))) ((Answer × Result (Vec Line Global) E) × (MutBor T × Unit {0}))) (f : F)
     (may : T → ℕ → Type 0) (did : T → ℕ → Deed → Answer × Result (Vec Line Global) E → T → Type 0) where
-  -- a closure that drains and starts leaves, and what may be done of a leaf then
+  -- the closure may drain and start each leaf that `may` allows, does what `did` says, and other leaves stay allowed
   pub record DoesDeeds : Type 0 where
     pub may_call : (p : MutBor T) (number : ℕ) (deed : Deed) → may p.now number → IsRestart deed → g.pre f (p, (number, (deed, tt)))
     pub does : (p q : MutBor T) (number : ℕ) (deed : Deed) (r : Answer × Result (Vec Line Global) E) → g.post f (p, (number, (deed, tt))) (r, (q, tt)) → did p.now number deed r q.now
     pub keeps : (x y : T) (number : ℕ) (deed : Deed) (r : Answer × Result (Vec Line Global) E) (other : ℕ) → did x number deed r y → may x other → may y other
 
-  -- and a leaf that it may drain and start
+  -- the closure may drain and start this leaf
   pub record MayRestart (x : T) (leaf : ℕ) : Type 0 where
     pub here : may x leaf
     pub deeds : DoesDeeds
@@ -63,28 +63,28 @@ module _ {F T E : Type 0} (g : Shared F (MutBor T × (ℕ × (Deed × Unit {0}))
 abbrev pub lines_of : List (Vec Line Global) → List (List Line)
 lines_of parts = map (λ (lines : Vec Line Global). lines.items) parts
 
--- the lines that were not refused stand behind those of earlier deeds
+-- the lines of a deed are appended to those of earlier ones; neither is Err
 abbrev pub PartJoins : {E : Type 0} → Result (Vec (Vec Line Global) Global) E → Result (Vec Line Global) E → List (Vec Line Global) → Type 0
 PartJoins (Ok before) (Ok lines) after = after ≡ before.items ++ lines ∷ []
 PartJoins (Ok before) (Err e) after = ⊥
 PartJoins (Err e) part after = ⊥
 
--- the lines of these pieces stand behind those of earlier deeds
+-- the lines of these pieces are appended to those of earlier deeds
 abbrev pub ArePartsOf : {E : Type 0} → Result (Vec (Vec Line Global) Global) E → List Piece → List (Vec Line Global) → Type 0
 ArePartsOf (Ok before) pieces after = lines_of after ≡ lines_of before.items ++ map piece_lines pieces
 ArePartsOf (Err e) pieces after = ⊥
 
--- ---- a chain of them
+-- ---- chains of deeds
 
--- the piece of a drain that was answered so
+-- the piece of a drain with this answer
 abbrev pub IsDrained : ℕ → Drained → Piece → Type 0
 IsDrained leaf got p = (notes : List Noted) × (ending : Ending) × (p ≡ Acted leaf (Drain None) notes ending) × (got ≡ drained_by ending)
 
--- the piece of a start that was answered so
+-- the piece of a start with this answer
 abbrev pub IsStarted : ℕ → Started → Piece → Type 0
 IsStarted leaf got p = (notes : List Noted) × (ending : Ending) × (p ≡ Acted leaf Start notes ending) × (got ≡ started_by ending)
 
--- the pieces of calls, one for each
+-- one piece for each call, with its answer
 abbrev pub AreAnswered : List FleetCall → List Piece → Type 0
 AreAnswered [] [] = ⊤
 AreAnswered [] (p ∷ ps) = ⊥
@@ -93,11 +93,11 @@ AreAnswered (call.Starts leaf got ∷ calls) [] = ⊥
 AreAnswered (call.Drains leaf got ∷ calls) (p ∷ ps) = IsDrained leaf got p × AreAnswered calls ps
 AreAnswered (call.Starts leaf got ∷ calls) (p ∷ ps) = IsStarted leaf got p × AreAnswered calls ps
 
--- no lines were made
+-- lines for which memory ran out
 abbrev pub no_lines : Result (Vec Line Global) (Unit {0})
 no_lines = Err tt
 
--- calls one after another, with the lines of each
+-- calls, one after another, with the lines of each
 pub data Chain {T E : Type 0} (did : T → ℕ → Deed → Answer × Result (Vec Line Global) E → T → Type 0) (x : T) (told : Result (Vec (Vec Line Global) Global) E) : (calls : List FleetCall) (y : T) (told' : Result (Vec (Vec Line Global) Global) E) → Type 0 where
   none : (calls : List FleetCall) (y : T) (told' : Result (Vec (Vec Line Global) Global) E)
       → calls ≡ []
@@ -119,7 +119,7 @@ pub data Chain {T E : Type 0} (did : T → ℕ → Deed → Answer × Result (Ve
       → calls ≡ earlier ++ call.Starts leaf answer.started ∷ []
       → Chain did x told calls y told'
 
--- leaves took these calls, with their pieces and the lines of each
+-- the leaves took these calls, with their pieces and the lines of each
 pub record Restarted {B E : Type 0} (meaning : B → Meaning) (x : Members B) (told : Result (Vec (Vec Line Global) Global) E) (calls : List FleetCall) (y : Members B) (told' : Result (Vec (Vec Line Global) Global) E) : Type 0 where
   pub pieces : List Piece
   pub answered : AreAnswered calls pieces

@@ -1,4 +1,4 @@
--- What a crew takes back of a lane.
+-- What a crew takes back from a lane.
 use Rattle.std.specs.Prelude.{◌≡◌, ℕ, ◌<◌, ◌≤◌, List, length, slice_get, slice_set, Option, Some}
 use Rattle.berth_face.specs.Berth.{Meaning}
 use Rattle.turnstile.specs.Seats.{IsSeatOf}
@@ -13,20 +13,20 @@ use Rattle.player.specs.Stage.{held_of}
 
 -- ---- seats
 
--- each seat of two crews' rows is at that table of its leaf, and where the second has one, so has the first
+-- the seats of two crews at one table: each is at the table of its leaf, and if the second has one, so has the first
 pub record MayJoin (tables : List (List Shared)) (table : ℕ) (seats off : List SeatView) : Type 0 where
   pub few : length seats ≤ 256
   pub counts : (length off ≤ length seats) × (length seats ≤ length tables)
   pub ours : (leaf : ℕ) (s : SeatView) → slice_get seats leaf ≡ Some s → (t : Shared) × (place tables leaf table ≡ Some t) × IsSeatOf s t.site
   pub theirs : (leaf : ℕ) (u : SeatView) → slice_get off leaf ≡ Some u → (t : Shared) × (place tables leaf table ≡ Some t) × IsSeatOf u t.site
 
--- from the place k on the second row's seats were joined to the first's
+-- from index k on the seats of the second were joined to those of the first
 pub record JoinsFrom (k : ℕ) (seats off after : List SeatView) : Type 0 where
   pub count : length after ≡ length seats
   pub joined : (leaf : ℕ) → k ≤ leaf → JoinsIf (slice_get seats leaf) (slice_get off leaf) (slice_get after leaf)
   pub others : (leaf : ℕ) → leaf < k → slice_get after leaf ≡ slice_get seats leaf
 
--- of the first k tables
+-- the same of the first k tables
 pub record RowsJoined (k : ℕ) (rows offs rows' offs' : List (List SeatView)) : Type 0 where
   pub counts : (length rows' ≡ length rows) × (length offs' ≡ length offs)
   pub joined : (table : ℕ) → table < k → JoinsFrom 0 (row rows table) (row offs table) (row rows' table)
@@ -34,7 +34,7 @@ pub record RowsJoined (k : ℕ) (rows offs rows' offs' : List (List SeatView)) :
 
 -- ---- leaves
 
--- a leaf came back, where it was lent
+-- a leaf came back, if it was lent
 pub record LeafBack {B : Type 0} (meaning : B → Meaning) (leaf : ℕ) (off : Option (Leaf × B)) (xs ys : List (Hold B)) : Type 0 where
   pub before : Hold B
   pub after : Hold B
@@ -43,7 +43,7 @@ pub record LeafBack {B : Type 0} (meaning : B → Meaning) (leaf : ℕ) (off : O
   pub comes : ComesBack meaning off before.held before.callers after.held after.callers
   pub now : ys ≡ slice_set xs leaf after
 
--- those from the number k on came back
+-- the leaves from number k on came back
 pub record LeavesBack {B : Type 0} (meaning : B → Meaning) (k : ℕ) (offs : List (Option (OneLeaf B))) (xs ys : List (Hold B)) : Type 0 where
   pub count : length ys ≡ length xs
   pub back : (leaf : ℕ) (x y : Hold B) (o : Option (OneLeaf B)) → k ≤ leaf → slice_get xs leaf ≡ Some x → slice_get offs leaf ≡ Some o → slice_get ys leaf ≡ Some y

@@ -1,4 +1,5 @@
--- The callers' seats: for each table a row with a seat at each leaf, or an empty one. Those of one leaf are a column.
+-- The callers' seats: for each table a row with a seat at each leaf, or an empty one. The column of a leaf has its seat
+-- at each table.
 use Rattle.std.specs.Prelude.{◌≡◌, ◌≢◌, ◌⊎◌, ℕ, ◌<◌, ◌≤◌, List, [], length, slice_get, slice_set, Option, Some}
 use Rattle.leaf_history.specs.Calls.{Call}
 use Rattle.leaf_history.specs.History.{LegalFrom}
@@ -10,7 +11,7 @@ use Rattle.leaf_table.specs.Lists.{place, row}
 use Rattle.leaf_steward.specs.Seated.{Seated}
 use Rattle.player.specs.Crew.{column}
 
--- the same rows but for the seat at that leaf of one table's row
+-- the rows with this element at that table and leaf
 abbrev pub with_place : {A : Type 0} → List (List A) → ℕ → ℕ → A → List (List A)
 with_place rows table leaf x = slice_set rows table (slice_set (row rows table) leaf x)
 
@@ -19,11 +20,11 @@ pub record AreRows {A : Type 0} (n size : ℕ) (rows : List (List A)) : Type 0 w
   pub count : length rows ≡ n
   pub each : (table : ℕ) → table < n → (row rows table ≡ []) ⊎ (length (row rows table) ≡ size)
 
--- that table has a seat at that leaf
+-- the row of that table has a seat at that leaf
 abbrev pub HasSeat : ℕ → ℕ → List (List SeatView) → Type 0
 HasSeat leaf table rows = (c : SeatView) × (place rows table leaf ≡ Some c)
 
--- the rows stay as long, and the seats at the other leaves as they are
+-- the rows keep their lengths, and the seats at other leaves
 pub record OnlyColumn (leaf : ℕ) (rows rows' : List (List SeatView)) : Type 0 where
   pub count : length rows' ≡ length rows
   pub lengths : (table : ℕ) → length (row rows' table) ≡ length (row rows table)
@@ -31,16 +32,16 @@ pub record OnlyColumn (leaf : ℕ) (rows rows' : List (List SeatView)) : Type 0 
 
 -- ---- the seats of one leaf
 
--- the tables, and the callers' seat at each, where there is one
+-- tables, and at each the callers' seat, if there is one
 pub record Called : Type 0 where
   pub tables : List Shared
   pub seats : List (Option SeatView)
 
--- those of the leaf with this number
+-- those of leaf `leaf`
 abbrev pub called_at : ℕ → List Shared → List (List SeatView) → Called
 called_at leaf tables rows = record { tables = tables; seats = column leaf rows }
 
--- a caller's seat at the table, which has seen a legal history
+-- a callers' seat at the table, which has seen a legal history
 pub record IsCallersAt (t : Shared) (c : SeatView) : Type 0 where
   pub seat : IsSeatOf c t.site
   pub caller : IsCaller c
@@ -50,7 +51,7 @@ pub record AreCalled (x : Called) : Type 0 where
   pub count : length x.seats ≡ length x.tables
   pub each : (place : ℕ) (t : Shared) (c : SeatView) → slice_get x.tables place ≡ Some t → slice_get x.seats place ≡ Some (Some c) → IsCallersAt t c
 
--- a call of the table in that place
+-- a call at table `table`
 pub record Calls (table : ℕ) (c : Call) (x : Called) (reply : Reply) (y : Called) : Type 0 where
   pub shared : Shared
   pub before : SeatView
@@ -60,7 +61,7 @@ pub record Calls (table : ℕ) (c : Call) (x : Called) (reply : Reply) (y : Call
   pub answered : Answered (base_seen shared) before c reply after
   pub now : y ≡ record { tables = x.tables; seats = slice_set x.seats table (Some after) }
 
--- the callers' seats of the leaf with this number, at tables of its own
+-- the callers' seats of leaf `leaf` are at its tables
 pub record IsColumn (leaf : ℕ) (tables : List Shared) (rows : List (List SeatView)) : Type 0 where
   pub size : ℕ
   pub sizes : AreRows (length tables) size rows

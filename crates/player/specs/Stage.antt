@@ -1,4 +1,4 @@
--- One leaf as a crew holds it.
+-- One leaf, as a crew holds it.
 use Rattle.std.specs.Prelude.{◌≡◌, ℕ, List, length, map, Option, Some, None}
 use Rattle.region_layout.specs.Names.{AreNames}
 use Rattle.leaf_table.specs.Turns.{Shared}
@@ -12,21 +12,21 @@ use Rattle.leaf_deeds.specs.Held.{berth_of, state_of}
 use Rattle.player.specs.Crew.{column}
 use Rattle.player.specs.Rows.{MayMeet}
 
--- the berth of a leaf that is held
+-- the berth of a leaf, if it is held
 abbrev pub own_berth : {B : Type 0} → Option (OneLeaf B) → Option B
 own_berth None = None
 own_berth (Some x) = Some (berth_of x)
 
--- the leaf with its berth, where it is held
+-- the leaf with its berth, if it is held
 abbrev pub held_of : {B : Type 0} → Option (OneLeaf B) → Option (Leaf × B)
 held_of None = None
 held_of (Some x) = Some (state_of x, berth_of x)
 
--- what is held of the leaf with this number: its callers' seats, and this
+-- what is held of leaf `leaf`: its callers' seats, and maybe the leaf
 abbrev pub hold_at : {B : Type 0} → ℕ → List (List Shared) → List (List SeatView) → Option (OneLeaf B) → Hold B
 hold_at leaf tables rows x = record { tables = row tables leaf; callers = column leaf rows; held = held_of x }
 
--- the leaf with this number has tables of these names, a seat of its steward at each, and the callers' seats of its column are at them
+-- leaf `number` has tables of these names, and the steward's seat at each; the callers' seats of its column are at them
 pub record IsMember (names : List (List ℕ)) (number : ℕ) (x : Seated) (rows : List (List SeatView)) : Type 0 where
   pub named : AreNames names
   pub same : x.names ≡ names

@@ -48,7 +48,7 @@ impl<'t, B: Berth> Members<'t, B> {
         lines
     }
 
-    /// Lets the steward of that leaf do what it is told, and gives the lines of that.
+    /// Lets a leaf's steward do a deed. Gives its lines; Err if memory for them ran out.
     pub fn act<R: Wait + Threads + Sync, G: Gate>(
         &mut self,
         rt: &R,
@@ -69,7 +69,7 @@ impl<'t, B: Berth> Members<'t, B> {
         lines
     }
 
-    /// Lets the steward of that leaf do what it is told, and gives how that ended, with its lines.
+    /// Lets a leaf's steward do a deed. Gives how it ended, and its lines; Err if memory for them ran out.
     pub fn deed<R: Wait + Threads + Sync, G: Gate>(
         &mut self,
         rt: &R,
@@ -106,7 +106,7 @@ impl<'t, B: Berth> Members<'t, B> {
     }
 }
 
-// Lets a leaf's steward do what it is told. All seats of the leaf meet before that and behind it.
+// Lets a leaf's steward do a deed. All seats of the leaf meet before it and after it.
 fn act_on<'t, R: Wait + Threads + Sync, B: Berth, G: Gate>(
     rt: &R,
     alloc: Global,

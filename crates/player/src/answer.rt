@@ -1,4 +1,4 @@
-// How a deed ended, as watches are told it.
+// How a deed ended, in the words of the watches.
 ghost use Rattle.std.specs.Prelude.{◌≡◌};
 ghost use Rattle.transcript.specs.Watching.{came_by, drained_by, started_by};
 ghost use Rattle.player.specs.Commands.{answer_of};
@@ -7,7 +7,7 @@ use leaf_words::Way;
 use printed_lines::Ending;
 use rollover_watch::{Drained, Started};
 
-/// How a deed ended, as it is told where it was a drain, and where it was a start.
+/// How a deed ended: as a drain, and as a start. Only the one that it was counts.
 #[derive(Clone, Copy)]
 pub struct Answer {
     pub drained: Drained,

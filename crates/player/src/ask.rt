@@ -24,7 +24,8 @@ use std::sync::Wait;
 use std::thread::Threads;
 
 impl<'t, B: Berth> Members<'t, B> {
-    /// Asks the query's table at every leaf, and gives the lines of that and of the answer. Want of memory may be found before any leaf is asked.
+    /// Asks the query's table at each leaf. Gives the line of each leaf, and the answer. Err is want of memory: no leaf
+    /// was asked, or only the lines are lost.
     pub fn ask<R: Threads + Wait + Sync, G: Gate>(
         &mut self,
         rt: &R,
@@ -46,7 +47,7 @@ impl<'t, B: Berth> Members<'t, B> {
     }
 }
 
-// Asks by the seats of one table's row.
+// Asks by the seats of one table.
 fn ask_row<R: Threads + Wait + Sync, G: Gate>(
     rt: &R,
     alloc: Global,
@@ -65,7 +66,7 @@ fn ask_row<R: Threads + Wait + Sync, G: Gate>(
     ask_all(rt, alloc, tables, table, row, query, gate)
 }
 
-/// The place of the first table of that name, or the number of tables.
+/// The index of the first table with that name; the number of tables if there is none.
 pub fn place_of(names: &Names, name: &str) -> u32
     requires { length names.now < 2 ^ 32 }
     ensures { result ≡ place_among name.now names.now }
@@ -76,7 +77,7 @@ pub fn place_of(names: &Names, name: &str) -> u32
     }
 }
 
-// The lines of a query that was answered so by so many leaves: that of each leaf in their order, and the answer.
+// The lines of a query: that of each leaf in order, and the answer.
 fn query_lines(
     alloc: Global,
     leaves: u32,
@@ -112,7 +113,7 @@ fn asked_lines(
     Ok(lines)
 }
 
-// The line of a leaf that was asked.
+// The line of one leaf.
 fn asked_line(leaf: u32, table: u32, fanned: &Fanned) -> Line
     ensures { result ≡ asked_line leaf table fanned.now }
 {
@@ -127,7 +128,7 @@ fn asked_line(leaf: u32, table: u32, fanned: &Fanned) -> Line
     }
 }
 
-// The number of the leaf's entry, where it stands in the list.
+// The number of the leaf's entry, if the leaf is in the list.
 fn number_in(leaf: u32, list: &[Named]) -> Option<u64>
     ensures { result ≡ number_in leaf list.now }
 {

@@ -1,4 +1,4 @@
-// A crew begins.
+// Makes the leaves of a crew.
 ghost use Rattle.std.specs.Prelude.{◌≡◌, ◌+◌, ◌<◌, ◌≤◌, ◌++◌, ◌∷◌, [], ℕ, Option, Some, drop, length, map, slice_get, vec_len, vec_capacity, IfOk};
 ghost use Rattle.std.specs.List.{AllByRecursion};
 ghost use Rattle.region_layout.specs.Names.{AreNames};
@@ -20,7 +20,7 @@ use leaf_model::Names;
 use leaf_table::{FleetTables, Seat, SharedTable};
 use std::alloc::{AllocError, Global};
 
-/// As many copies of the names.
+/// `count` copies of the names. Err if memory runs out.
 pub fn copies(alloc: Global, names: &Names, count: u32) -> Result<Vec<Names>, AllocError>
     ensures count { IfOk result (λ copies. length copies.items ≡ count) }
     ensures same { IfOk result (λ copies. AllByRecursion (λ copy. copy ≡ names.now) copies.items) }
@@ -32,7 +32,7 @@ pub fn copies(alloc: Global, names: &Names, count: u32) -> Result<Vec<Names>, Al
     Ok(copies)
 }
 
-/// Puts a leaf that is down over each of the first berths, as many as there are lists of stewards' seats.
+/// Makes a leaf that is down over each of the first berths, as many as there are lists of the steward's seats.
 pub fn begin_all<'t, B: Berth>(
     leaves: &mut Vec<Option<OneLeaf<'t, B>>>,
     names: &Names,
@@ -63,7 +63,7 @@ pub fn begin_all<'t, B: Berth>(
     }
 }
 
-// Puts a leaf that is down behind the others, where room was left for it.
+// Appends a leaf that is down. There is room for it.
 fn begin<'t, B: Berth>(
     leaves: &mut Vec<Option<OneLeaf<'t, B>>>,
     names: Names,

@@ -1,4 +1,4 @@
-// Calls of callers, other than queries.
+// Calls of callers at one leaf.
 ghost use Rattle.std.specs.Prelude.{◌≡◌, ◌<◌, length};
 ghost use Rattle.turnstile.specs.Seats.{IsSeatOf};
 ghost use Rattle.leaf_table.specs.Calls.{Answered, IsCaller, SameSeat, base_seen};
@@ -31,7 +31,7 @@ pub enum Request<'q> {
 }
 
 impl<'t, B: Berth> Members<'t, B> {
-    /// Plays a caller's call of that leaf's table, and gives its line.
+    /// Makes a caller's call at that leaf's table. Gives its line; Err if memory for it ran out.
     pub fn call<R: Wait + Threads + Sync, G: Gate>(
         &mut self,
         rt: &R,
@@ -55,7 +55,7 @@ impl<'t, B: Berth> Members<'t, B> {
         call_lines(alloc, leaf, table, &reply)
     }
 
-    /// Asks that leaf's table alone, and gives the line of that with the reply.
+    /// Asks that leaf's table alone. Gives its line, and the reply.
     pub fn ask_leaf<R: Wait + Threads + Sync, G: Gate>(
         &mut self,
         rt: &R,
@@ -81,7 +81,7 @@ impl<'t, B: Berth> Members<'t, B> {
     }
 }
 
-// Calls the table in that place, by the seat there of the leaf's column.
+// Calls the leaf's table `table`, by the callers' seat there.
 fn call_one<R: Wait + Threads + Sync, G: Gate>(
     rt: &R,
     gate: &G,

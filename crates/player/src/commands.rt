@@ -15,7 +15,7 @@ use std::sync::Wait;
 use std::thread::Threads;
 
 impl<'t, B: Berth> Members<'t, B> {
-    /// Does what the command says, and gives the lines that it prints.
+    /// Plays a command. Gives the lines that it prints; Err if memory ran out.
     pub fn play<R: Wait + Threads + Sync, G: Gate>(
         &mut self,
         rt: &R,
@@ -68,7 +68,7 @@ impl<'t, B: Berth> Members<'t, B> {
             Command::Query(query) => self.ask(rt, alloc, gate, &query),
             Command::Tail { key, table, rows } => self.tail(rt, alloc, gate, key, table, &rows),
             Command::Rollover(percent) => self.rollover(rt, alloc, gate, watches, percent),
-            // (the run keeps the standing queries)
+            // (the run plays these)
             Command::Standing {
                 leaf: _leaf,
                 query: _query,

@@ -1,4 +1,4 @@
-// The leaves of a fleet, and what each command of a script does to them.
+// A crew: leaves of a fleet, and how commands are played over them.
 ghost use Rattle.std.specs.Prelude.{◌≡◌, ◌⊎◌, ◌*◌, ◌+◌, ◌<◌, ◌≤◌, ◌++◌, ℕ, List, Option, Some, true, length, map, take, drop, slice_get, vec_len, vec_capacity, IfOk, IsErr};
 ghost use Rattle.std.specs.List.{AllByRecursion};
 ghost use Rattle.region_layout.specs.Names.{AreNames};
@@ -34,7 +34,8 @@ use std::marker::Model;
 use std::sync::Wait;
 use std::thread::Threads;
 
-/// The leaves of a fleet, each of which owns its berth, with a caller's seat at each of their tables. It borrows the tables.
+/// The leaves of a fleet, each of which owns its berth, and a callers' seat at each of their tables. It borrows the
+/// tables.
 #[derive(Drop)]
 pub struct Crew<'t, B: Berth> {
     members: Members<'t, B>,
@@ -52,9 +53,9 @@ impl<'t, B: Berth> Model for Crew<'t, B> {
 }
 
 impl<'t, B: Berth> Crew<'t, B> {
-    /// The leaves of a new fleet, all down, each over a berth of its own: the first so many of these. The others stay.
-    /// Where a leaf's tables are founded, a leaf with their base may begin over its berth.
-    /// For want of memory all berths stay as they were.
+    /// The leaves of a new fleet, all down, each over one of the first berths, which it takes; the other berths stay.
+    /// If a leaf's tables are founded, a leaf with their base has to be able to begin over its berth. Err is want of
+    /// memory, and leaves all berths as they were.
     pub fn new(
         alloc: Global,
         names: Names,
@@ -103,29 +104,29 @@ impl<'t, B: Berth> Crew<'t, B> {
         Ok(Crew { members })
     }
 
-    /// How many tables each leaf has.
+    /// The number of tables of each leaf.
     pub fn table_count(&self) -> u32
         ensures { result ≡ length self.now.fleet.names }
     {
         self.members.names.as_slice().len() as u32
     }
 
-    /// How many leaves the fleet has.
+    /// The number of leaves.
     pub fn leaf_count(&self) -> u32
         ensures { result ≡ leaf_count self.now.fleet }
     {
         self.members.machines * self.members.per_machine
     }
 
-    /// The place of the first table of that name, or the number of tables.
+    /// The index of the first table with that name; the number of tables if there is none.
     pub fn place_of(&self, table: &str) -> u32
         ensures { result ≡ place_among table.now self.now.fleet.names }
     {
         place_of(&self.members.names, table)
     }
 
-    /// Plays a command, and gives the lines that it prints.
-    /// Want of memory for the lines loses none of what the command did to the leaves. Of a query it may be found before any leaf is asked.
+    /// Plays a command. Gives the lines that it prints. Err is want of memory: the command was played, and only its
+    /// lines are lost; but a query or a tail may then also have asked no leaf.
     pub fn play<R: Wait + Threads + Sync, G: Gate>(
         &mut self,
         rt: &R,
@@ -146,7 +147,7 @@ impl<'t, B: Berth> Crew<'t, B> {
         self.members.play(rt, alloc, gate, watches, command)
     }
 
-    /// Asks that table of one leaf, and gives the line of that with the reply.
+    /// Asks that table of one leaf. Gives its line, and the reply.
     pub fn ask_leaf<R: Wait + Threads + Sync, G: Gate>(
         &mut self,
         rt: &R,
@@ -178,14 +179,15 @@ impl<'t, B: Berth> Crew<'t, B> {
         self.members.meet_all();
     }
 
-    /// How many ids of its own the seat of callers at that table has, at the leaf where it has fewest.
+    /// The least number of own ids of the callers' seats at that table.
     pub fn spare(&self, table: u32) -> u64
         ensures { Spares self.now.holds table result }
     {
         self.members.spare(table)
     }
 
-    /// Cuts off, for a lane, an id at each leaf of each table that is marked, and each leaf that is marked. For want of memory nothing is cut off.
+    /// Cuts off for a lane one id of the seat at each leaf of each marked table, and each marked leaf. Err is want of
+    /// memory, and cuts nothing off.
     pub fn cut_off(
         &mut self,
         alloc: Global,
@@ -204,7 +206,8 @@ impl<'t, B: Berth> Crew<'t, B> {
         Ok(Crew { members })
     }
 
-    /// Takes a lane's seats and leaves back: callers' seats meet and are joined, and the seats of each leaf that comes back meet.
+    /// Takes back the seats and leaves of a lane. Callers' seats meet and are joined. The seats of each leaf that comes
+    /// back meet.
     pub fn take_back(&mut self, other: Crew<'t, B>)
         requires may { MayTakeBack self.old other }
         ensures back { TakesBack B.meaning self.old.holds other.entry.holds self.new.holds }
@@ -214,7 +217,7 @@ impl<'t, B: Berth> Crew<'t, B> {
         self.members.take_back(other.members);
     }
 
-    /// Lets all seats meet a last time, and puts the berths in front of the others, in the order of the leaves.
+    /// Lets all seats meet a last time, and puts the berths before the others, in the order of the leaves.
     pub fn abandon(self, berths: &mut Vec<B>)
         requires all { HasAll self.fleet self.holds }
         requires room { length self.holds + vec_len berths.old ≤ vec_capacity berths.old }

@@ -1,4 +1,4 @@
-// A crew comes to its end.
+// The end of a crew.
 ghost use Rattle.std.specs.Prelude.{◌≡◌, ◌+◌, ◌<◌, ◌≤◌, ◌++◌, ◌∷◌, ℕ, List, Option, Some, true, is_some, length, map, slice_get, vec_len, vec_capacity};
 ghost use Rattle.leaf_table.specs.Turns.{Shared};
 ghost use Rattle.leaf_table.specs.Lists.{lists_in};
@@ -18,7 +18,7 @@ use leaf_deeds::OneLeaf;
 use leaf_table::Seat;
 
 impl<'t, B: Berth> Members<'t, B> {
-    /// Lets all seats meet a last time, and puts the berths in front of the others, in the order of the leaves.
+    /// Lets all seats meet a last time, and puts the berths before the others, in the order of the leaves.
     pub fn abandon(self, berths: &mut Vec<B>)
         requires members { AreMembers self }
         requires held { (leaf : ℕ) → HasLeaf (holds_in self) leaf }
@@ -30,7 +30,7 @@ impl<'t, B: Berth> Members<'t, B> {
     }
 }
 
-// Abandons one leaf after another, from the last to the first.
+// Gives up one leaf after another, from the last to the first.
 fn abandon_all<'t, B: Berth>(
     leaves: Vec<Option<OneLeaf<'t, B>>>,
     rows: Vec<Vec<Seat>>,
@@ -54,7 +54,7 @@ fn abandon_all<'t, B: Berth>(
     leaves.destroy_empty();
 }
 
-// Lets the seats of the leaf with this number meet, and puts its berth in front.
+// Lets the seats of leaf `number` meet, and puts its berth before the others.
 fn abandon_one<'t, B: Berth>(
     rows: &mut Vec<Vec<Seat>>,
     number: u32,

@@ -1,4 +1,4 @@
-// The lines of calls and of what a steward's command did.
+// The lines of calls and deeds.
 ghost use Rattle.std.specs.Prelude.{◌≡◌, ◌∷◌, ◌++◌, [], IfOk, OnOk};
 ghost use Rattle.printed_lines.specs.declared.line.Line.TheVariants.{Entry};
 ghost use Rattle.leaf_moves.specs.Steps.{said_of_note};
@@ -9,7 +9,7 @@ use leaf_table::Reply;
 use printed_lines::{Deed, Ending, Line, Said};
 use std::alloc::{AllocError, Global};
 
-/// The one line of a call of that leaf's table that had this reply.
+/// The line of a call at that leaf's table with this reply, as a list.
 pub fn call_lines(
     alloc: Global,
     leaf: u32,
@@ -23,7 +23,7 @@ pub fn call_lines(
     Ok(lines)
 }
 
-/// The line of a reply of that leaf's table to a caller.
+/// The line of this reply of that leaf's table to a caller.
 pub fn call_line(leaf: u32, table: u32, reply: &Reply) -> Line
     ensures { result ≡ reply_line leaf table reply.now }
 {
@@ -58,7 +58,7 @@ pub fn entry(leaf: u32, table: u32, number: u64, said: Said) -> Line
     }
 }
 
-/// The lines of a leaf's deed that made these notes: one for each, and how it ended.
+/// The lines of a deed: one for each note, and how it ended.
 pub fn deed_lines(
     alloc: Global,
     leaf: u32,
@@ -74,7 +74,7 @@ pub fn deed_lines(
     Ok(lines)
 }
 
-/// Puts one line for each note behind the others.
+/// Appends one line for each note.
 fn put_notes(lines: &mut Vec<Line>, number: u32, notes: &Notes) -> Result<(), AllocError>
     ensures { OnOk result (lines.new.items ≡ lines.old.items ++ note_lines number notes.now) }
 {
@@ -102,7 +102,7 @@ fn said_of_note(what: What) -> Said
     }
 }
 
-/// The lines of both, those of the second behind those of the first. Where either were refused, so are these.
+/// The lines of both, first those of `first`. Err if either is.
 pub fn joined(
     first: Result<Vec<Line>, AllocError>,
     second: Result<Vec<Line>, AllocError>,

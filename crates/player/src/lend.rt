@@ -15,7 +15,8 @@ use leaf_table::{FleetTables, Seat, SharedTable};
 use std::alloc::{AllocError, Global};
 
 impl<'t, B: Berth> Members<'t, B> {
-    /// Cuts off an id at each leaf of each table that is marked, and each leaf that is marked. For want of memory nothing is cut off.
+    /// Cuts off one id of the seat at each leaf of each marked table, and each marked leaf. Err is want of memory, and
+    /// cuts nothing off.
     pub fn cut_off(
         &mut self,
         alloc: Global,
@@ -47,7 +48,7 @@ impl<'t, B: Berth> Members<'t, B> {
     }
 }
 
-// For each table an empty row, with room for so many seats where the table is marked.
+// An empty list for each table, with room for `count` seats if the table is marked.
 fn rooms(alloc: Global, marks: &[bool], count: usize) -> Result<Vec<Vec<Seat>>, AllocError>
     ensures { IfOk result (λ rows. (length rows.items ≡ length marks.now) × AreRoomy (is_set marks.now) count rows.items) }
 {
@@ -58,14 +59,14 @@ fn rooms(alloc: Global, marks: &[bool], count: usize) -> Result<Vec<Vec<Seat>>, 
     Ok(rows)
 }
 
-// So much, where it is needed.
+// The count, if it is needed.
 fn room_if(needed: bool, count: usize) -> usize
     ensures { needed ≡ true → count ≤ result }
 {
     if needed { count } else { 0 }
 }
 
-// Cuts off an id of each seat of each row that is marked.
+// Cuts off one id of each seat at each marked table.
 fn split_rows(
     tables: &FleetTables,
     marks: &[bool],
@@ -89,7 +90,7 @@ fn split_rows(
     }
 }
 
-// Cuts off an id of each seat of a row, where that is needed.
+// Cuts off one id of each seat at a table, if it is needed.
 fn split_row_if(
     needed: bool,
     tables: &FleetTables,
@@ -107,7 +108,7 @@ fn split_row_if(
     }
 }
 
-// Cuts off an id of each seat of a row.
+// Cuts off one id of each seat at a table.
 fn split_row(tables: &FleetTables, table: u32, seats: &mut Vec<Seat>, off: &mut Vec<Seat>)
     requires may { MaySplit tables.now table seats.old.items }
     requires none { off.old.items ≡ [] }
@@ -121,7 +122,7 @@ fn split_row(tables: &FleetTables, table: u32, seats: &mut Vec<Seat>, off: &mut 
     }
 }
 
-// Cuts off an id of a seat.
+// Cuts off one id of a seat.
 fn split_seat(shared: &SharedTable, seat: &mut Seat) -> Seat
     requires seat { IsSeatOf seat.old shared.now.site }
     requires share { 1 < seat.old.share }
@@ -134,7 +135,7 @@ fn split_seat(shared: &SharedTable, seat: &mut Seat) -> Seat
     }
 }
 
-// Takes over each leaf that is marked.
+// Takes each marked leaf out of its slot.
 fn split_slots<T>(marks: &[bool], slots: &mut Vec<Option<T>>, off: &mut Vec<Option<T>>)
     requires count { length marks.now ≡ length slots.old.items }
     requires none { off.old.items ≡ [] }
@@ -147,14 +148,14 @@ fn split_slots<T>(marks: &[bool], slots: &mut Vec<Option<T>>, off: &mut Vec<Opti
     }
 }
 
-// Takes over what stands in a slot, where that is needed.
+// Takes the value out of a slot, if it is needed.
 fn split_slot<T>(needed: bool, slot: &mut Option<T>) -> Option<T>
     ensures { SlotSplits needed slot.old result slot.new }
 {
     if needed { slot.take() } else { None }
 }
 
-// Puts an item behind the others, where room was left for it.
+// Appends an item. There is room for it.
 fn put_behind<T>(items: &mut Vec<T>, item: T)
     requires room { vec_len items.old < vec_capacity items.old }
     ensures items { items.new.items ≡ items.old.items ++ item ∷ [] }

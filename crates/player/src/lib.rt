@@ -1,4 +1,4 @@
-//! The leaves of a fleet, and what each command of a script does to them, as lines.
+//! The leaves of a fleet, and how each command of a script is played over them, and printed.
 #![tactic(auto)]
 
 mod act;

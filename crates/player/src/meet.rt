@@ -1,4 +1,4 @@
-// Meetings of a leaf's steward and its callers.
+// Meetings of a leaf's steward with its callers.
 ghost use Rattle.std.specs.Prelude.{◌≡◌, ◌<◌, length};
 ghost use Rattle.crash_moments.specs.Left.{NamedStates};
 ghost use Rattle.leaf_table.specs.Lists.{lists_in};
@@ -13,7 +13,7 @@ use berth_face::Berth;
 use leaf_deeds::OneLeaf;
 use leaf_table::Seat;
 
-/// Lets the seat of callers at each table of the leaf with this number and the steward's see what the other has seen.
+/// Lets the callers' seat and the steward's at each table of leaf `number` learn what the other has seen.
 pub fn meet<'t, B: Berth>(rows: &mut Vec<Vec<Seat>>, number: u32, leaf: &mut OneLeaf<'t, B>)
     requires { MayMeet number (seats_of leaf.old) (lists_in rows.old.items) }
     ensures met { MeetAll (state_of leaf.old) (column number (lists_in rows.old.items)) (state_of leaf.new) (column number (lists_in rows.new.items)) (B.meaning (berth_of leaf.old)) }
@@ -27,7 +27,7 @@ pub fn meet<'t, B: Berth>(rows: &mut Vec<Vec<Seat>>, number: u32, leaf: &mut One
     }
 }
 
-// Lets the seats of the table in that place meet, where callers have one there.
+// Lets the seats at that table meet, if callers have one there.
 fn meet_at<'t, B: Berth>(
     rows: &mut Vec<Vec<Seat>>,
     number: u32,
@@ -47,7 +47,7 @@ fn meet_at<'t, B: Berth>(
     }
 }
 
-// Lets the seats of the table in that place meet.
+// Lets the seats at that table meet.
 fn meet_there<'t, B: Berth>(
     rows: &mut Vec<Vec<Seat>>,
     number: u32,

@@ -1,4 +1,4 @@
-// Meetings of all seats of whole leaves, and how many ids seats have.
+// Meetings of all seats of leaves, and the ids that seats have left.
 ghost use Rattle.std.specs.Prelude.{◌≡◌, ◌<◌, ◌≤◌, ℕ, Some, length, slice_get};
 ghost use Rattle.leaf_table.specs.Calls.{SeatView};
 ghost use Rattle.script_text.specs.Commands.{leaf_count};
@@ -30,7 +30,7 @@ impl<'t, B: Berth> Members<'t, B> {
         }
     }
 
-    /// Lets the seats of that leaf meet.
+    /// Lets the seats of leaf `number` meet.
     pub fn meet_leaf(&mut self, number: u32)
         requires members { AreMembers self.old }
         requires leaf { number < leaf_count (fleet_in self.old) }
@@ -51,7 +51,7 @@ impl<'t, B: Berth> Members<'t, B> {
         }
     }
 
-    /// How many ids of its own the seat of callers at that table has, at the leaf where it has fewest.
+    /// The least number of own ids of the callers' seats at that table.
     pub fn spare(&self, table: u32) -> u64
         ensures { Spares (holds_in self.now) table result }
     {
@@ -63,7 +63,7 @@ impl<'t, B: Berth> Members<'t, B> {
     }
 }
 
-// The least share of a row of seats, or 0 where there is none.
+// The least share of these seats; 0 if there are none.
 fn least_share(seats: &[Seat]) -> u64
     ensures { (leaf : ℕ) (s : SeatView) → slice_get seats.now leaf ≡ Some s → result ≤ s.share }
 {

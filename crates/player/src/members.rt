@@ -1,4 +1,4 @@
-// The leaves of a fleet, with their callers' seats.
+// The leaves of a fleet that a crew holds, and the callers' seats.
 ghost use Rattle.std.specs.Prelude.{◌≡◌, ◌+◌, ◌<◌, ◌≤◌, vec_len, vec_capacity};
 ghost use Rattle.std.specs.List.{insert};
 
@@ -8,7 +8,8 @@ use leaf_deeds::OneLeaf;
 use leaf_model::Names;
 use leaf_table::{FleetTables, Seat};
 
-/// What is held of the leaves of a fleet: some of them, and for each table a row with a callers' seat at each leaf, or an empty one. It borrows the tables.
+/// The leaves that are held of a fleet, and for each table a row: a callers' seat at each leaf, or nothing. It borrows
+/// the tables.
 #[derive(Drop)]
 pub struct Members<'t, B: Berth> {
     pub names: Names,
@@ -27,7 +28,7 @@ impl<'t, B: Berth> Leaves for Members<'t, B> {
     ghost did = { λ x leaf deed result y. HasDone B.meaning leaf deed x result y };
 }
 
-/// Puts an item in a place of the list, where room was left for it.
+/// Inserts an item at `place`. There is room for it.
 pub fn put_in<T>(items: &mut Vec<T>, place: usize, item: T)
     requires place { place ≤ vec_len items.old }
     requires room { vec_len items.old < vec_capacity items.old }

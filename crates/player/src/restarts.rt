@@ -8,7 +8,7 @@ use rollover_driver::Fleet;
 use rollover_watch::{Drained, Started};
 use std::alloc::{AllocError, Global};
 
-/// What is known of leaves that a closure drains and starts.
+/// Leaves that a closure drains and starts, and what that does.
 pub trait Leaves {
     ghost use Rattle.std.specs.Prelude.{ℕ, Result, Vec};
     ghost use Rattle.std.specs.Global.{Global};
@@ -17,14 +17,15 @@ pub trait Leaves {
     ghost use Rattle.player.specs.declared.answer.Answer.{Answer};
     ghost use Rattle.printed_lines.specs.declared.line.Deed.{Deed};
 
-    /// When a leaf may be drained and started.
+    /// The leaf may be drained and started.
     ghost may: { Self → ℕ → Type 0 };
 
-    /// What such a deed did, with its answer and its lines.
+    /// What a drain or a start of the leaf did, with its answer and its lines.
     ghost did: { Self → ℕ → Deed → Answer × Result (Vec Line Global) AllocError → Self → Type 0 };
 }
 
-/// The leaves, the lines of each deed, and what does the deeds: a closure, since a method of a trait may not need the gate.
+/// The leaves, the lines of each deed so far, and the closure that does the deeds. A method of a trait could not need
+/// the gate.
 pub struct Restarts<'f, T, F> {
     pub leaves: T,
     pub told: Result<Vec<Vec<Line>>, AllocError>,
@@ -49,7 +50,7 @@ impl<'f, T: Leaves, F: Fn(&mut T, u32, Deed) -> (Answer, Result<Vec<Line>, Alloc
         }
     }
 
-    // Drains or starts a leaf, and keeps its lines.
+    // Drains or starts a leaf, and keeps the lines.
     fn restart(&mut self, leaf: u32, deed: Deed) -> Answer
         requires may { MayRestart F.Fn self.old.act.now T.may T.did self.old.leaves leaf }
         requires deed { IsRestart deed }
@@ -83,7 +84,7 @@ impl<'f, T: Leaves, F: Fn(&mut T, u32, Deed) -> (Answer, Result<Vec<Line>, Alloc
     ghost stays = { λ fleet. restart.none [] fleet.leaves fleet.told refl refl refl };
 }
 
-// Puts the lines of a deed behind those of earlier ones. Where either were refused, so are all.
+// Appends the lines of a deed. Err if they or those before are.
 fn put_part(told: &mut Result<Vec<Vec<Line>>, AllocError>, part: Result<Vec<Line>, AllocError>)
     ensures { IfOk told.new (λ parts. PartJoins told.old part parts.items) }
 {
@@ -94,7 +95,7 @@ fn put_part(told: &mut Result<Vec<Vec<Line>>, AllocError>, part: Result<Vec<Line
     }
 }
 
-// The same behind lines that were not refused.
+// The same, after lines that are not Err.
 fn push_part(
     parts: &mut Vec<Vec<Line>>,
     part: Result<Vec<Line>, AllocError>,

@@ -12,7 +12,8 @@ use rollover_watch::Watch;
 use std::alloc::{AllocError, Global};
 use std::collections::VecDeque;
 
-/// The lines of the waves that were begun, each before those of its deeds; how the rollover ended; and those of the watches.
+/// The lines of a rollover: of each wave that was begun, its own and those of its deeds; how the rollover ended; and
+/// one for each watch.
 pub fn rolled_lines(
     alloc: Global,
     plan: Waves,
@@ -38,7 +39,7 @@ pub fn rolled_lines(
     Ok(lines)
 }
 
-// Puts the lines of waves behind the others.
+// Appends the lines of the waves.
 #[tactic(auto, using(crate::proofs::RolledLines::waves_begin, crate::proofs::RolledLines::waves_go_on, crate::proofs::RolledLines::waves_end))]
 fn put_waves(
     lines: &mut Vec<Line>,
@@ -59,7 +60,7 @@ fn put_waves(
     Ok(())
 }
 
-// Puts a wave's line, and those of its deeds, behind the others.
+// Appends the line of a wave, and those of its deeds.
 #[tactic(auto, using(crate::proofs::RolledLines::wave_whole, crate::proofs::RolledLines::wave_left))]
 fn put_wave(
     lines: &mut Vec<Line>,
@@ -81,7 +82,7 @@ fn put_wave(
     put_parts(lines, leaves, told)
 }
 
-// Puts the lines of the first so many deeds behind the others.
+// Appends the lines of the first `count` deeds.
 fn put_parts(
     lines: &mut Vec<Line>,
     count: usize,
@@ -96,7 +97,7 @@ fn put_parts(
     Ok(())
 }
 
-// Puts the lines of a deed behind the others, where there is one.
+// Appends the lines of a deed, if there is one.
 fn put_part(lines: &mut Vec<Line>, part: Option<Vec<Line>>) -> Result<(), AllocError>
     ensures { OnOk result (lines.new.items ≡ lines.old.items ++ part_lines part) }
 {
@@ -109,7 +110,7 @@ fn put_part(lines: &mut Vec<Line>, part: Option<Vec<Line>>) -> Result<(), AllocE
     }
 }
 
-// Puts the lines of watches behind the others.
+// Appends the lines of the watches.
 fn put_watches(lines: &mut Vec<Line>, watches: &[Box<dyn Watch>]) -> Result<(), AllocError>
     ensures { OnOk result (lines.new.items ≡ lines.old.items ++ watch_lines (map (λ watch. held watch) watches.now)) }
 {

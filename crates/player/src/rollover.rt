@@ -1,4 +1,4 @@
-// A rollover of the leaves.
+// A rollover of the leaves of a crew.
 ghost use Rattle.std.specs.Prelude.{◌≡◌, ◌⊎◌, ◌<◌, ◌≤◌, ℕ, [], length, map, IsErr};
 ghost use Rattle.script_text.specs.declared.command.Command.TheVariants.{Rollover};
 ghost use Rattle.std.specs.List.{AllByRecursion};
@@ -23,8 +23,8 @@ use std::sync::Wait;
 use std::thread::Threads;
 
 impl<'t, B: Berth> Members<'t, B> {
-    /// Drains and starts the leaves wave by wave, and tells the watches. Memory for the plan is had before any leaf is drained.
-    /// Want of memory for the lines loses none of what was done.
+    /// Drains and starts the leaves, wave by wave, and tells the watches. Err is want of memory: for the plan, before
+    /// any leaf is drained; or only for the lines.
     pub fn rollover<R: Wait + Threads + Sync, G: Gate>(
         &mut self,
         rt: &R,
@@ -79,7 +79,7 @@ impl<'t, B: Berth> Members<'t, B> {
         (rolled, told)
     }
 
-    // Takes the leaves, and leaves none.
+    // Takes the leaves out, and leaves none.
     fn taken(&mut self, alloc: Global) -> Members<'t, B>
         ensures taken { result ≡ self.old }
         ensures left { self.new.leaves.items ≡ [] }
@@ -95,7 +95,7 @@ impl<'t, B: Berth> Members<'t, B> {
         replace(self, bare)
     }
 
-    // Puts them back where they were taken.
+    // Puts the leaves back.
     fn put_back(&mut self, members: Members<'t, B>)
         requires { self.old.leaves.items ≡ [] }
         ensures { self.new ≡ members.entry }

@@ -22,7 +22,8 @@ use tail_picks::words_of;
 use tailer::{Sent, Tailed, Try, send};
 
 impl<'t, B: Berth> Members<'t, B> {
-    /// Sends rows to the table in that place of one leaf, and gives the lines of the calls and of where they went. Want of memory may be found before any leaf is asked.
+    /// Sends rows to table `table` of one leaf. Gives the line of each call, and where the rows went. Err is want of
+    /// memory: no leaf was asked, or only the lines are lost.
     pub fn tail<R: Threads + Wait + Sync, G: Gate>(
         &mut self,
         rt: &R,
@@ -54,7 +55,7 @@ impl<'t, B: Berth> Members<'t, B> {
     }
 }
 
-// Sends rows by the seats of one table's row.
+// Sends rows by the seats of one table.
 fn send_row<R: Threads + Wait + Sync, G: Gate>(
     rt: &R,
     alloc: Global,
@@ -77,7 +78,7 @@ fn send_row<R: Threads + Wait + Sync, G: Gate>(
     send(rt, alloc, tables, table, row, &mut words, rows, gate)
 }
 
-// The lines of a tail's calls, and of where its rows went.
+// The lines of a tail's calls, and of where the rows went.
 fn tail_lines(alloc: Global, table: u32, tailed: &Tailed) -> Result<Vec<Line>, AllocError>
     ensures { IfOk result (λ lines. lines.items ≡ tail_lines table tailed.now) }
 {
@@ -98,7 +99,7 @@ fn sent_to(sent: Sent) -> Option<u32>
     }
 }
 
-// Puts the lines of a try behind the others.
+// Appends the lines of a try.
 fn put_try(lines: &mut Vec<Line>, table: u32, tried: &Try) -> Result<(), AllocError>
     ensures { OnOk result (lines.new.items ≡ lines.old.items ++ try_lines table (try_seen tried.now)) }
 {
@@ -107,7 +108,7 @@ fn put_try(lines: &mut Vec<Line>, table: u32, tried: &Try) -> Result<(), AllocEr
     put_also(lines, tried.picked(), table, &tried.added)
 }
 
-// Puts the line of a call behind the others, where it was made.
+// Appends the line of a call, if it was made.
 fn put_also(
     lines: &mut Vec<Line>,
     leaf: Option<u32>,

@@ -1,4 +1,4 @@
-// What a crew takes back of a lane.
+// What a crew takes back from a lane.
 ghost use Rattle.std.specs.Prelude.{◌≡◌, ◌⊎◌, ◌<◌, ◌≤◌, ℕ, Option, Some, None, length, slice_get};
 ghost use Rattle.turnstile.specs.Seats.{IsSeatOf};
 ghost use Rattle.leaf_table.specs.Lists.{lists_in, row};
@@ -19,7 +19,8 @@ use leaf_deeds::OneLeaf;
 use leaf_table::{FleetTables, Seat, SharedTable};
 
 impl<'t, B: Berth> Members<'t, B> {
-    /// Takes a lane's seats and leaves back: callers' seats meet and are joined, and the seats of each leaf that comes back meet.
+    /// Takes back the seats and leaves of a lane. Callers' seats meet and are joined. The seats of each leaf that comes
+    /// back meet.
     pub fn take_back(&mut self, other: Members<'t, B>)
         requires members { AreMembers self.old × AreMembers other }
         requires same { SameFleet self.old other }
@@ -35,7 +36,7 @@ impl<'t, B: Berth> Members<'t, B> {
         self.take_leaves(other.leaves);
     }
 
-    /// Takes these leaves back, from the last to the first, each into its slot; the seats of each meet.
+    /// Takes these leaves back, from the last to the first, each into its slot. The seats of each meet.
     pub fn take_leaves(&mut self, leaves: Vec<Option<OneLeaf<'t, B>>>)
         requires members { AreMembers self.old }
         requires count { length leaves.items ≡ leaf_count (fleet_in self.old) }
@@ -53,7 +54,7 @@ impl<'t, B: Berth> Members<'t, B> {
         leaves.destroy_empty();
     }
 
-    /// Takes the leaf with this number back, if there is one.
+    /// Takes leaf `number` back, if there is one.
     pub fn take_slot(&mut self, number: u32, slot: Option<OneLeaf<'t, B>>)
         requires members { AreMembers self.old }
         requires within { number < leaf_count (fleet_in self.old) }
@@ -70,7 +71,7 @@ impl<'t, B: Berth> Members<'t, B> {
         }
     }
 
-    /// Takes the leaf with this number back: it is put into its slot, and its seats meet.
+    /// Takes leaf `number` back: puts it into its slot, and lets its seats meet.
     pub fn take_leaf(&mut self, number: u32, leaf: OneLeaf<'t, B>)
         requires members { AreMembers self.old }
         requires within { number < leaf_count (fleet_in self.old) }
@@ -86,7 +87,7 @@ impl<'t, B: Berth> Members<'t, B> {
     }
 }
 
-// Joins the seats of each row of a lane with those of the crew's.
+// Joins the seats of a lane with those of the crew, table by table.
 fn join_rows(tables: &FleetTables, rows: &mut Vec<Vec<Seat>>, others: &mut Vec<Vec<Seat>>)
     requires counts { (length others.old.items ≡ length rows.old.items) × (length rows.old.items ≤ 16) }
     requires may { (table : ℕ) → table < length rows.old.items → MayJoin tables.now table (row (lists_in rows.old.items) table) (row (lists_in others.old.items) table) }
@@ -97,7 +98,7 @@ fn join_rows(tables: &FleetTables, rows: &mut Vec<Vec<Seat>>, others: &mut Vec<V
     }
 }
 
-// Joins the seats of a row, from the last to the first.
+// Joins the seats at one table, from the last to the first.
 fn join_row(tables: &FleetTables, table: u32, seats: &mut Vec<Seat>, others: &mut Vec<Seat>)
     requires may { MayJoin tables.now table seats.old.items others.old.items }
     ensures joins { JoinsFrom 0 seats.old.items others.old.items seats.new.items }

@@ -10,7 +10,8 @@ ghost use Rattle.query_text.specs.Grammar.{IsSpelled, IsQueryRefused, plain_toke
 /// Law: a text is read as a query if and only if its tokens spell that query, part by part. It is refused at the first
 /// token that no query goes on with, or at its end if more has to follow.
 pub fn grammar_meaning()
-    ensures spelled { (text : List ℕ) → (query : Query) → (query_of text ≡ Ok query) ↔ IsSpelled query (plain_tokens (tokens_of text)) }
+    ensures spelled { (text : List ℕ) → (query : Query)
+        → (query_of text ≡ Ok query) ↔ IsSpelled query (plain_tokens (tokens_of text)) }
     ensures refused { (text : List ℕ) → (fault : QueryFault) → query_of text ≡ Err fault → IsQueryRefused text fault }
 {}
 

@@ -26,7 +26,8 @@ fn add_digit(value: u64, b: u8) -> Option<u64>
 #[tactic(auto, using(crate::proofs::Lexing::value_grows))]
 fn magnitude(start: u64, digits: &[u8]) -> Option<u64>
     requires { start ≤ 2 ^ 63 }
-    ensures { result ≡ if nat_le (value_from start digits.now) (2 ^ 63) then Some (value_from start digits.now) else None }
+    ensures { result ≡ if nat_le (value_from start digits.now) (2 ^ 63)
+        then Some (value_from start digits.now) else None }
 {
     let mut value = start;
     for b in digits {

@@ -9,7 +9,8 @@ use std::alloc::{AllocError, Global};
 
 /// SELECT's names, each with a comma.
 fn push_names(out: &mut String, names: &[Text]) -> Result<(), AllocError>
-    ensures { OnOk result ((further : List ℕ) → string_bytes out.new ++ further ≡ string_bytes out.old ++ names_then names.now further) }
+    ensures { OnOk result
+        ((further : List ℕ) → string_bytes out.new ++ further ≡ string_bytes out.old ++ names_then names.now further) }
 {
     for name in names {
         push_name(out, name)?;
@@ -19,7 +20,8 @@ fn push_names(out: &mut String, names: &[Text]) -> Result<(), AllocError>
 }
 
 fn push_more_aggs(out: &mut String, aggs: &[Agg]) -> Result<(), AllocError>
-    ensures { OnOk result ((further : List ℕ) → string_bytes out.new ++ further ≡ string_bytes out.old ++ more_aggs_then aggs.now further) }
+    ensures { OnOk result ((further : List ℕ)
+        → string_bytes out.new ++ further ≡ string_bytes out.old ++ more_aggs_then aggs.now further) }
 {
     for agg in aggs {
         push_part(out, ", ")?;
@@ -29,7 +31,8 @@ fn push_more_aggs(out: &mut String, aggs: &[Agg]) -> Result<(), AllocError>
 }
 
 fn push_aggs(out: &mut String, aggs: &[Agg]) -> Result<(), AllocError>
-    ensures { OnOk result ((further : List ℕ) → string_bytes out.new ++ further ≡ string_bytes out.old ++ aggs_then aggs.now further) }
+    ensures { OnOk result
+        ((further : List ℕ) → string_bytes out.new ++ further ≡ string_bytes out.old ++ aggs_then aggs.now further) }
 {
     match aggs {
         [] => Ok(()),
@@ -42,7 +45,8 @@ fn push_aggs(out: &mut String, aggs: &[Agg]) -> Result<(), AllocError>
 
 /// A bound of the range of times, after the words that lead to it.
 fn push_bound(out: &mut String, opening: &str, bound: i64) -> Result<(), AllocError>
-    ensures { OnOk result ((further : List ℕ) → string_bytes out.new ++ further ≡ string_bytes out.old ++ (opening.now ++ (signed_decimal bound ++ further))) }
+    ensures { OnOk result ((further : List ℕ) → string_bytes out.new
+        ++ further ≡ string_bytes out.old ++ (opening.now ++ (signed_decimal bound ++ further))) }
 {
     push_part(out, opening)?;
     push_number(out, bound)
@@ -50,7 +54,8 @@ fn push_bound(out: &mut String, opening: &str, bound: i64) -> Result<(), AllocEr
 
 /// The table and the range of times.
 fn push_range(out: &mut String, query: &Query) -> Result<(), AllocError>
-    ensures { OnOk result ((further : List ℕ) → string_bytes out.new ++ further ≡ string_bytes out.old ++ range_then query.now further) }
+    ensures { OnOk result
+        ((further : List ℕ) → string_bytes out.new ++ further ≡ string_bytes out.old ++ range_then query.now further) }
 {
     push_part(out, " FROM ")?;
     push_part(out, query.table.as_str())?;
@@ -59,7 +64,8 @@ fn push_range(out: &mut String, query: &Query) -> Result<(), AllocError>
 }
 
 fn push_cond(out: &mut String, cond: &Cond) -> Result<(), AllocError>
-    ensures { OnOk result ((further : List ℕ) → string_bytes out.new ++ further ≡ string_bytes out.old ++ cond_then cond.now further) }
+    ensures { OnOk result
+        ((further : List ℕ) → string_bytes out.new ++ further ≡ string_bytes out.old ++ cond_then cond.now further) }
 {
     push_part(out, " AND ")?;
     push_name(out, &cond.name)?;
@@ -70,7 +76,8 @@ fn push_cond(out: &mut String, cond: &Cond) -> Result<(), AllocError>
 }
 
 fn push_conds(out: &mut String, conds: &[Cond]) -> Result<(), AllocError>
-    ensures { OnOk result ((further : List ℕ) → string_bytes out.new ++ further ≡ string_bytes out.old ++ conds_then conds.now further) }
+    ensures { OnOk result
+        ((further : List ℕ) → string_bytes out.new ++ further ≡ string_bytes out.old ++ conds_then conds.now further) }
 {
     for cond in conds {
         push_cond(out, cond)?;
@@ -79,7 +86,8 @@ fn push_conds(out: &mut String, conds: &[Cond]) -> Result<(), AllocError>
 }
 
 fn push_more_names(out: &mut String, names: &[Text]) -> Result<(), AllocError>
-    ensures { OnOk result ((further : List ℕ) → string_bytes out.new ++ further ≡ string_bytes out.old ++ more_names_then names.now further) }
+    ensures { OnOk result ((further : List ℕ)
+        → string_bytes out.new ++ further ≡ string_bytes out.old ++ more_names_then names.now further) }
 {
     for name in names {
         push_part(out, ", ")?;
@@ -90,7 +98,8 @@ fn push_more_names(out: &mut String, names: &[Text]) -> Result<(), AllocError>
 
 /// GROUP BY, if a name is selected.
 fn push_group(out: &mut String, names: &[Text]) -> Result<(), AllocError>
-    ensures { OnOk result ((further : List ℕ) → string_bytes out.new ++ further ≡ string_bytes out.old ++ group_then names.now further) }
+    ensures { OnOk result
+        ((further : List ℕ) → string_bytes out.new ++ further ≡ string_bytes out.old ++ group_then names.now further) }
 {
     match names {
         [] => Ok(()),
@@ -104,7 +113,8 @@ fn push_group(out: &mut String, names: &[Text]) -> Result<(), AllocError>
 
 /// ORDER BY, if the answer has an order.
 fn push_order(out: &mut String, order: Option<u64>, aggs: &[Agg]) -> Result<(), AllocError>
-    ensures { OnOk result ((further : List ℕ) → string_bytes out.new ++ further ≡ string_bytes out.old ++ order_then (ordering_agg order aggs.now) further) }
+    ensures { OnOk result ((further : List ℕ)
+        → string_bytes out.new ++ further ≡ string_bytes out.old ++ order_then (ordering_agg order aggs.now) further) }
 {
     let Some(place) = order else {
         return Ok(());
@@ -119,7 +129,8 @@ fn push_order(out: &mut String, order: Option<u64>, aggs: &[Agg]) -> Result<(), 
 }
 
 fn push_limit(out: &mut String, limit: u32) -> Result<(), AllocError>
-    ensures { OnOk result ((further : List ℕ) → string_bytes out.new ++ further ≡ string_bytes out.old ++ (codes " LIMIT " ++ (decimal limit ++ further))) }
+    ensures { OnOk result ((further : List ℕ)
+        → string_bytes out.new ++ further ≡ string_bytes out.old ++ (codes " LIMIT " ++ (decimal limit ++ further))) }
 {
     push_part(out, " LIMIT ")?;
     push_number(out, i64::from(limit))

@@ -18,7 +18,8 @@ pub struct Quoted {
 /// Adds one byte, which does not end the quote. Tells whether a mark was just read.
 fn quote_byte(inside: &mut Vec<u8>, mark: u8, is_marked: bool, b: u8) -> Result<bool, AllocError>
     requires { is_marked ≡ true → b ≡ mark }
-    ensures { IfOk result (λ is_marked_now. (n : ℕ) → (rest : List ℕ) → behind inside.old.items n (quote_from mark is_marked (b ∷ rest)) ≡ behind inside.new.items (n + 1) (quote_from mark is_marked_now rest)) }
+    ensures { IfOk result (λ is_marked_now. (n : ℕ) → (rest : List ℕ) → behind inside.old.items n
+        (quote_from mark is_marked (b ∷ rest)) ≡ behind inside.new.items (n + 1) (quote_from mark is_marked_now rest)) }
 {
     if is_marked {
         inside.push(b)?;

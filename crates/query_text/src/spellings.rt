@@ -12,13 +12,15 @@ use std::alloc::{AllocError, Global};
 
 /// A part as it stands.
 pub fn push_part(out: &mut String, part: &str) -> Result<(), AllocError>
-    ensures { OnOk result ((further : List ℕ) → string_bytes out.new ++ further ≡ string_bytes out.old ++ (part.now ++ further)) }
+    ensures { OnOk result
+        ((further : List ℕ) → string_bytes out.new ++ further ≡ string_bytes out.old ++ (part.now ++ further)) }
 {
     out.push_str(part)
 }
 
 pub fn push_number(out: &mut String, number: i64) -> Result<(), AllocError>
-    ensures { OnOk result ((further : List ℕ) → string_bytes out.new ++ further ≡ string_bytes out.old ++ (signed_decimal number ++ further)) }
+    ensures { OnOk result ((further : List ℕ)
+        → string_bytes out.new ++ further ≡ string_bytes out.old ++ (signed_decimal number ++ further)) }
 {
     let digits = format!(in *out.allocator(); "{number}")?;
     push_part(out, digits.as_str())
@@ -74,7 +76,8 @@ fn quoted(alloc: Global, mark: u8, text: &str) -> Result<String, AllocError>
 
 fn push_quoted(out: &mut String, mark: u8, text: &str) -> Result<(), AllocError>
     requires { mark < 128 }
-    ensures { OnOk result ((further : List ℕ) → string_bytes out.new ++ further ≡ string_bytes out.old ++ (in_quotes mark text.now ++ further)) }
+    ensures { OnOk result ((further : List ℕ)
+        → string_bytes out.new ++ further ≡ string_bytes out.old ++ (in_quotes mark text.now ++ further)) }
 {
     let quoted = quoted(*out.allocator(), mark, text)?;
     push_part(out, quoted.as_str())
@@ -82,7 +85,8 @@ fn push_quoted(out: &mut String, mark: u8, text: &str) -> Result<(), AllocError>
 
 /// A name, plain where it may be.
 pub fn push_name(out: &mut String, name: &Text) -> Result<(), AllocError>
-    ensures { OnOk result ((further : List ℕ) → string_bytes out.new ++ further ≡ string_bytes out.old ++ (name_text name.now ++ further)) }
+    ensures { OnOk result ((further : List ℕ)
+        → string_bytes out.new ++ further ≡ string_bytes out.old ++ (name_text name.now ++ further)) }
 {
     if needs_no_quotes(name.as_str()) {
         push_part(out, name.as_str())
@@ -92,7 +96,8 @@ pub fn push_name(out: &mut String, name: &Text) -> Result<(), AllocError>
 }
 
 pub fn push_value(out: &mut String, value: &Value) -> Result<(), AllocError>
-    ensures { OnOk result ((further : List ℕ) → string_bytes out.new ++ further ≡ string_bytes out.old ++ (value_text value.now ++ further)) }
+    ensures { OnOk result ((further : List ℕ)
+        → string_bytes out.new ++ further ≡ string_bytes out.old ++ (value_text value.now ++ further)) }
 {
     match value {
         Value::Int(number) => push_number(out, *number),
@@ -117,7 +122,8 @@ pub fn op_word(op: Op) -> &'static str
 
 /// An aggregate's word and parenthesis, its name, and the other parenthesis.
 fn push_call(out: &mut String, opening: &str, name: &Text) -> Result<(), AllocError>
-    ensures { OnOk result ((further : List ℕ) → string_bytes out.new ++ further ≡ string_bytes out.old ++ (opening.now ++ (name_text name.now ++ (codes ")" ++ further)))) }
+    ensures { OnOk result ((further : List ℕ) → string_bytes out.new
+        ++ further ≡ string_bytes out.old ++ (opening.now ++ (name_text name.now ++ (codes ")" ++ further)))) }
 {
     push_part(out, opening)?;
     push_name(out, name)?;
@@ -125,7 +131,8 @@ fn push_call(out: &mut String, opening: &str, name: &Text) -> Result<(), AllocEr
 }
 
 pub fn push_agg(out: &mut String, agg: &Agg) -> Result<(), AllocError>
-    ensures { OnOk result ((further : List ℕ) → string_bytes out.new ++ further ≡ string_bytes out.old ++ agg_then agg.now further) }
+    ensures { OnOk result
+        ((further : List ℕ) → string_bytes out.new ++ further ≡ string_bytes out.old ++ agg_then agg.now further) }
 {
     match agg {
         Agg::Count => push_part(out, "COUNT(*)"),

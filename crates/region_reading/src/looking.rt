@@ -55,7 +55,8 @@ fn read_behind<B: Berth>(
     berth: &mut B,
 ) -> Result<(Vec<u8>, u64), LookFault>
     ensures told { IsTrue (B.meaning berth.old).tells
-        → IfOk result (λ read. (read.0.items ≡ drop place (B.meaning berth.old).held.region) × (read.1 ≡ length (B.meaning berth.old).held.region)) }
+        → IfOk result (λ read. (read.0.items ≡ drop place (B.meaning berth.old).held.region)
+        × (read.1 ≡ length (B.meaning berth.old).held.region)) }
     ensures untouched { Untouched (B.meaning berth.old) (B.meaning berth.new) }
     ensures cause { result ≡ Err fault.RegionFault
         → Rose (B.meaning berth.old).region_faults (B.meaning berth.new).region_faults }

@@ -12,7 +12,8 @@ use region_layout::{TablePlaces, TablePlacesList};
 pub fn all_known(names: &[Text], tables: TablePlacesList) -> Result<TablePlacesList, Text>
     ensures same { IfOk result (λ all. all ≡ tables) }
     ensures known { OnOk result (stranger_of names.now (map (λ (t : TablePlaces). t.name) tables) ≡ None) }
-    ensures stranger { IfErr result (λ name. stranger_of names.now (map (λ (t : TablePlaces). t.name) tables) ≡ Some name) }
+    ensures stranger { IfErr result (λ name.
+        stranger_of names.now (map (λ (t : TablePlaces). t.name) tables) ≡ Some name) }
 {
     let mut tables = tables.into_inner();
     match first_stranger(names, &tables) {

@@ -59,7 +59,8 @@ pub fn adopt_all(
     berth: &mut MemBerth,
     seen: &mut Vec<(u64, u64)>,
 ) -> Result<Option<(DrainTables, u64)>, AllocError>
-    ensures { IfOk result (λ found. IfSome found (λ back. AllByRecursion (λ (t : DrainTable). IsParts t.parts) back.0)) }
+    ensures { IfOk result (λ found.
+        IfSome found (λ back. AllByRecursion (λ (t : DrainTable). IsParts t.parts) back.0)) }
 {
     let mut adopt = adopt;
     for _ in 0..MOST_STEPS {

@@ -20,7 +20,8 @@ pub struct Rolled {
 #[tactic(auto, using(crate::proofs::Steps::one_drained))]
 fn drain<F: Fleet>(fleet: &mut F, leaf: u32, watches: &mut Vec<Box<dyn Watch>>) -> bool
     requires { F.has fleet.old leaf }
-    ensures { HasDone F.has F.stands (AreOfEach Drains (leaf ∷ [])) [] fleet.old (map (λ watch. held watch) watches.old.items) result fleet.new (map (λ watch. held watch) watches.new.items) }
+    ensures { HasDone F.has F.stands (AreOfEach Drains (leaf ∷ [])) [] fleet.old
+        (map (λ watch. held watch) watches.old.items) result fleet.new (map (λ watch. held watch) watches.new.items) }
 {
     let got = fleet.drain(leaf);
     tell_all(watches, &RollEvent::Drain { leaf, got })
@@ -30,7 +31,8 @@ fn drain<F: Fleet>(fleet: &mut F, leaf: u32, watches: &mut Vec<Box<dyn Watch>>) 
 #[tactic(auto, using(crate::proofs::Steps::one_started))]
 fn start<F: Fleet>(fleet: &mut F, leaf: u32, watches: &mut Vec<Box<dyn Watch>>) -> bool
     requires { F.has fleet.old leaf }
-    ensures { HasDone F.has F.stands (AreOfEach Starts (leaf ∷ [])) [] fleet.old (map (λ watch. held watch) watches.old.items) result fleet.new (map (λ watch. held watch) watches.new.items) }
+    ensures { HasDone F.has F.stands (AreOfEach Starts (leaf ∷ [])) [] fleet.old
+        (map (λ watch. held watch) watches.old.items) result fleet.new (map (λ watch. held watch) watches.new.items) }
 {
     let got = fleet.start(leaf);
     tell_all(watches, &RollEvent::Start { leaf, got })
@@ -39,7 +41,8 @@ fn start<F: Fleet>(fleet: &mut F, leaf: u32, watches: &mut Vec<Box<dyn Watch>>) 
 /// Drains the leaves in order and tells of each. Returns whether a watch asked for a halt.
 fn drain_all<F: Fleet>(fleet: &mut F, leaves: &[u32], watches: &mut Vec<Box<dyn Watch>>) -> bool
     requires { AllByRecursion (λ leaf. F.has fleet.old leaf) leaves.now }
-    ensures { HasDone F.has F.stands (AreOfEach Drains leaves.now) [] fleet.old (map (λ watch. held watch) watches.old.items) result fleet.new (map (λ watch. held watch) watches.new.items) }
+    ensures { HasDone F.has F.stands (AreOfEach Drains leaves.now) [] fleet.old
+        (map (λ watch. held watch) watches.old.items) result fleet.new (map (λ watch. held watch) watches.new.items) }
 {
     let mut asked = false;
     for leaf in leaves {
@@ -51,7 +54,8 @@ fn drain_all<F: Fleet>(fleet: &mut F, leaves: &[u32], watches: &mut Vec<Box<dyn 
 /// Starts the leaves in order and tells of each. Returns whether a watch asked for a halt.
 fn start_all<F: Fleet>(fleet: &mut F, leaves: &[u32], watches: &mut Vec<Box<dyn Watch>>) -> bool
     requires { AllByRecursion (λ leaf. F.has fleet.old leaf) leaves.now }
-    ensures { HasDone F.has F.stands (AreOfEach Starts leaves.now) [] fleet.old (map (λ watch. held watch) watches.old.items) result fleet.new (map (λ watch. held watch) watches.new.items) }
+    ensures { HasDone F.has F.stands (AreOfEach Starts leaves.now) [] fleet.old
+        (map (λ watch. held watch) watches.old.items) result fleet.new (map (λ watch. held watch) watches.new.items) }
 {
     let mut asked = false;
     for leaf in leaves {
@@ -69,7 +73,8 @@ fn roll_wave<F: Fleet>(
     watches: &mut Vec<Box<dyn Watch>>,
 ) -> bool
     requires { AllByRecursion (λ leaf. F.has fleet.old leaf) wave.now }
-    ensures { HasDone F.has F.stands (AreOfWave wave.now) (wave_begins number of) fleet.old (map (λ watch. held watch) watches.old.items) result fleet.new (map (λ watch. held watch) watches.new.items) }
+    ensures { HasDone F.has F.stands (AreOfWave wave.now) (wave_begins number of) fleet.old
+        (map (λ watch. held watch) watches.old.items) result fleet.new (map (λ watch. held watch) watches.new.items) }
 {
     let leaves = wave.as_slice();
     let mut asked = tell_all(watches, &RollEvent::Wave { number, of });
@@ -82,7 +87,8 @@ fn roll_wave<F: Fleet>(
 fn roll_all<F: Fleet>(fleet: &mut F, waves: &[Wave], watches: &mut Vec<Box<dyn Watch>>) -> Rolled
     requires few { length waves.now < 2 ^ 32 }
     requires known { AllByRecursion (λ wave. AllByRecursion (λ leaf. F.has fleet.old leaf) wave) waves.now }
-    ensures { HasRolled F.has F.stands waves.now fleet.old (map (λ watch. held watch) watches.old.items) result fleet.new (map (λ watch. held watch) watches.new.items) }
+    ensures { HasRolled F.has F.stands waves.now fleet.old
+        (map (λ watch. held watch) watches.old.items) result fleet.new (map (λ watch. held watch) watches.new.items) }
 {
     let of = waves.len() as u32;
     let mut begun = 0;
@@ -111,7 +117,8 @@ pub fn drive<F: Fleet>(fleet: &mut F, waves: &Waves, watches: &mut Vec<Box<dyn W
     requires known { AllByRecursion (λ wave. AllByRecursion (λ leaf. F.has fleet.old leaf) wave) waves.now }
     ensures same { (leaf : ℕ) → F.has fleet.old leaf → F.has fleet.new leaf }
     ensures drives { (calls : List FleetCall) × F.stands fleet.old calls fleet.new
-        × Drives waves.now (map (λ watch. held watch) watches.old.items) calls result (map (λ watch. held watch) watches.new.items) }
+        × Drives waves.now (map (λ watch. held watch) watches.old.items) calls result
+        (map (λ watch. held watch) watches.new.items) }
 {
     let rolled = roll_all(fleet, waves.as_slice(), watches);
     let _asked = tell_all(

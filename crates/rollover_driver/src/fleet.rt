@@ -16,13 +16,15 @@ pub trait Fleet {
     fn drain(&mut self, leaf: u32) -> Drained
         requires { has self.old leaf }
         ensures same { (other : ℕ) → has self.old other → has self.new other }
-        ensures goes { (first : Self) (calls : List FleetCall) → stands first calls self.old → stands first (calls ++ Drains leaf result ∷ []) self.new };
+        ensures goes { (first : Self) (calls : List FleetCall)
+            → stands first calls self.old → stands first (calls ++ Drains leaf result ∷ []) self.new };
 
     /// Starts a leaf.
     fn start(&mut self, leaf: u32) -> Started
         requires { has self.old leaf }
         ensures same { (other : ℕ) → has self.old other → has self.new other }
-        ensures goes { (first : Self) (calls : List FleetCall) → stands first calls self.old → stands first (calls ++ Starts leaf result ∷ []) self.new };
+        ensures goes { (first : Self) (calls : List FleetCall)
+            → stands first calls self.old → stands first (calls ++ Starts leaf result ∷ []) self.new };
 
     /// After no call it stands so to itself.
     ghost stays: { (fleet : Self) → stands fleet [] fleet };

@@ -16,7 +16,8 @@ fn tell(watch: &mut Box<dyn Watch>, event: &RollEvent) -> Wish
 /// Tells each watch the event, in the order of the list. A watch that wishes to leave is dropped at once. Returns
 /// whether one asked for a halt.
 pub fn tell_all(watches: &mut Vec<Box<dyn Watch>>, event: &RollEvent) -> bool
-    ensures told { AreTold event.now (map (λ watch. held watch) watches.old.items) (map (λ watch. held watch) watches.new.items) }
+    ensures told { AreTold event.now (map (λ watch. held watch) watches.old.items)
+        (map (λ watch. held watch) watches.new.items) }
     ensures halt { result ≡ is_halt_asked event.now (map (λ watch. held watch) watches.old.items) }
 {
     let mut halted = false;

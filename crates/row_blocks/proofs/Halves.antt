@@ -20,9 +20,6 @@ pub record AreHalved (times : List ℤ) (h : ℤ) (first past : ℕ) : Type 0 wh
   pub below : (i : ℕ) → i < first → int_le h (slice_index_or times i (pos 0)) ≡ false
   pub above : (i : ℕ) → past ≤ i → i < length times → int_le h (slice_index_or times i (pos 0)) ≡ true
 
-pub halves_begun : (times : List ℤ) (h : ℤ) → AreHalved times h 0 (length times)
-halves_begun times h = record { some = omega arith; within = omega arith; below = λ i to. absurd (omega (arith, to)); above = λ i from to. absurd (omega (arith, from, to)) }
-
 pub late_part : (times : List ℤ) (h : ℤ) (first past middle : ℕ) → NeverFall times → AreHalved times h first past → first ≤ middle → middle < past → int_le h (slice_index_or times middle (pos 0)) ≡ true → AreHalved times h first middle
 late_part times h first past middle order halved from to here = record {
   some = from;
@@ -41,13 +38,6 @@ old_part times h first past middle order halved from to here = record {
       let rise = order i middle (omega (arith, at)) (omega (arith, to, halved.within)) in
       false_from_ne_true (int_le h (slice_index_or times i (pos 0))) (λ late. omega (arith, ints, rise, here, late));
   above = halved.above;
-}
-
-pub all_halved : (times : List ℤ) (h : ℤ) (first past : ℕ) → AreHalved times h first past → past ≤ first → Parts times h first
-all_halved times h first past halved met = record {
-  within = omega (arith, met, halved.some, halved.within);
-  below = halved.below;
-  above = λ i at inside. halved.above i (omega (arith, at, met)) inside;
 }
 
 -- ---- how many there are

@@ -1,4 +1,4 @@
--- A block: columns of one number of cells, which mean rows.
+-- A block: columns with one number of cells, which mean rows.
 use Rattle.std.specs.Prelude.{◌≡◌, ℕ, ◌<◌, ◌≤◌, ◌==◌, List, [], ◌∷◌, map, slice_index_or, ℤ, pos, Option, Some, None, Bool, ◌&&◌, bytes_eq}
 use Rattle.std.specs.List.{range_with_len, flat_map, AllByRecursion}
 use Rattle.std.specs.List.Sorted.{IsStrictlySortedBy}
@@ -14,32 +14,32 @@ use Rattle.row_blocks.specs.declared.column.BlockColumn.{BlockColumn}
 use Rattle.row_blocks.specs.Columns.{cells_in, MeanCells}
 use Rattle.row_blocks.specs.Headings.{heading, heading_cmp, kind_place}
 
--- so many rows, and the columns, that of the times first
+-- the number of rows, and the columns; that of the times comes first
 pub record Block : Type 0 where
   pub rows : ℕ
   pub columns : List BlockColumn
 
 -- ---- its rows
 
--- the cell of a column at a place, or nothing where it is missing
+-- the cell of a column at place i; None if it is missing
 abbrev pub value_in : List ℕ → ℕ → Option Value
 value_in bytes i = slice_index_or (cells_in bytes) i None
 
--- what a column has at a place, under its name
+-- the cell of a column at a place, with its name
 abbrev pub cell_of : List ℕ → Option Value → List Cell
 cell_of name None = []
 cell_of name (Some value) = record { name = name; value = value } ∷ []
 
--- the cells at a place, in the order of the columns
+-- the cells at place i, in the order of the columns
 abbrev pub cells_at : ℕ → List BlockColumn → List Cell
 cells_at i columns = flat_map (λ (c : BlockColumn). cell_of c.name (value_in c.bytes i)) columns
 
--- the time that a cell is
+-- the time that a cell holds
 abbrev pub time_of : Option Value → ℤ
 time_of (Some (values.Int n)) = n
 time_of v = pos 0
 
--- the row at a place: the first column has its time, the others its cells
+-- the row at place i: the first column has its time, the others have its cells
 abbrev pub row_at : List BlockColumn → ℕ → Row
 row_at [] i = record { time = pos 0; cells = [] }
 row_at (times ∷ others) i = record { time = time_of (value_in times.bytes i); cells = cells_at i others }
@@ -49,25 +49,25 @@ rows_in b = map (row_at b.columns) (range_with_len 0 b.rows)
 
 -- ---- which columns are a block
 
--- the cell is a time
+-- the cell is there and is a time
 abbrev pub IsTimeCell : Option Value → Type 0
 IsTimeCell (Some (values.Int n)) = IsTime n
 IsTimeCell v = ⊥
 
--- integers named `time`, each there and a time
+-- a column of integers named `time`; each cell is there and is a time
 pub record AreTimes (rows : ℕ) (c : BlockColumn) : Type 0 where
   pub name : c.name ≡ time_name
   pub kind : kind_in c.bytes ≡ Ints
   pub cells : MeanCells c.bytes rows
   pub each : (i : ℕ) → i < rows → IsTimeCell (value_in c.bytes i)
 
--- a cell for each row, under a name that a cell may have
+-- a column with a cell for each row, under a name that a cell may have
 pub record IsOther (rows : ℕ) (c : BlockColumn) : Type 0 where
   pub name : IsCellName c.name
   pub cells : MeanCells c.bytes rows
 
--- 1 to 65,536 rows; the times first, the others ascending by name and of one name by kind; and what stands at each place is a row:
--- no two cells of one name, and at most 1,024
+-- a block: 1 to 65,536 rows; the column of the times first, the others ascending by name and then by kind; at each
+-- place at most 1,024 cells, no two with the same name
 pub record IsBlock (b : Block) : Type 0 where
   pub some : 0 < b.rows
   pub few : b.rows ≤ 65536
@@ -79,7 +79,7 @@ pub record IsBlock (b : Block) : Type 0 where
   pub ascend : IsStrictlySortedBy heading_cmp (map heading others)
   pub rows_are : AllByRecursion IsRow (rows_in b)
 
--- ---- what is asked of a block
+-- ---- what callers ask of a block
 
 abbrev pub times_of : List Row → List ℤ
 times_of rows = map (λ (row : Row). row.time) rows

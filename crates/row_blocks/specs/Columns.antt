@@ -1,4 +1,4 @@
--- What any bytes mean as a column: their fields decide, and no encoder is run.
+-- The meaning of any bytes as a column. Their fields decide it, not what an encoder would write.
 use Rattle.std.specs.Prelude.{◌≡◌, ℕ, ◌<◌, List, length, Option, None, IfSome, unwrap_or, slice_index, slice_index_or}
 use Rattle.leaf_model.specs.declared.rows.Value.{Value}
 use Rattle.leaf_model.specs.Values.{IsValue}
@@ -7,11 +7,11 @@ use Rattle.column_bytes.specs.declared.form.Form.TheVariants.{Offset}
 use Rattle.column_bytes.specs.Cells.{Coded, cells_of, kind_of}
 use Rattle.column_bytes.specs.Column.{HasCells, coded_in, form_at, kind_in}
 
--- the form that the first two bytes name
+-- the form that the first two bytes name; Offset if they name none
 abbrev pub form_in : List ℕ → Form
 form_in bytes = unwrap_or (form_at (slice_index bytes 0) (slice_index bytes 1)) Offset
 
--- the cells that the bytes mean, where they mean any
+-- the cells that the bytes mean, if they mean any
 unfoldable pub cells_in : List ℕ → List (Option Value)
 cells_in bytes = cells_of (coded_in (form_in bytes) bytes)
 
@@ -19,7 +19,7 @@ cells_in bytes = cells_of (coded_in (form_in bytes) bytes)
 unfoldable pub MeanCells : List ℕ → ℕ → Type 0
 MeanCells bytes n = HasCells bytes n (cells_in bytes)
 
--- what was read of the bytes is what they mean, and each cell that is there is a value
+-- the view has the cells that the bytes mean, and the kind of the column
 pub record IsSeen (view : Coded) (bytes : List ℕ) : Type 0 where
   pub mean : MeanCells bytes (length view.codes)
   pub cells : cells_of view ≡ cells_in bytes

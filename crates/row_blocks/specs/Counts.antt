@@ -1,8 +1,8 @@
--- Counts of the cells at each place, one column more.
+-- The counts of the cells at each place, after one more column.
 use Rattle.std.specs.Prelude.{◌≡◌, ℕ, ◌+◌, ◌<◌, ◌≤◌, Bool, true, List, length, slice_index}
 use Rattle.std.specs.Int.{from_bool}
 
--- at each place one more where the column has a cell, and no more than a row may have
+-- each count rises by one where the column has a cell, and none passes 1,024
 pub record AreCounted (has : ℕ → Bool) (old new : List ℕ) : Type 0 where
   pub each : (i : ℕ) → i < length old → slice_index new i ≡ slice_index old i + from_bool (has i)
   pub few : (i : ℕ) → i < length old → slice_index new i ≤ 1024

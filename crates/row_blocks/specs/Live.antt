@@ -1,4 +1,4 @@
--- Which rows of a block are at or after a horizon.
+-- The rows of a block at or after a horizon.
 use Rattle.std.specs.Prelude.{◌≡◌, ℕ, ◌<◌, length, slice_index_or, ℤ, pos, int_le, Some, Bool}
 use Rattle.std.specs.List.{list_any}
 use Rattle.leaf_model.specs.declared.rows.Value.TheVariants.{Int}
@@ -14,7 +14,7 @@ has_live horizon b = list_any (λ (row : Row). int_le horizon row.time) (rows_in
 abbrev pub time_at : Block → ℕ → ℤ
 time_at b place = slice_index_or (times_of (rows_in b)) place (pos 0)
 
--- what was read of a column are the times of the block
+-- the view of a column has the times of the block
 pub record AreTimesOf (view : Coded) (b : Block) : Type 0 where
   pub count : length view.codes ≡ b.rows
   pub each : (i : ℕ) → i < b.rows → cell_at view i ≡ Some (Int (time_at b i))

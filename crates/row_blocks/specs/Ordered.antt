@@ -1,22 +1,22 @@
--- Times that never fall, and what is at or after a horizon among them.
+-- Times that never fall, and the place of a horizon among them.
 use Rattle.std.specs.Prelude.{◌≡◌, ℕ, ◌<◌, ◌≤◌, true, false, List, length, slice_index_or, ℤ, pos, int_le, Option, IfSome, Vec, IsPermutation}
 use Rattle.std.specs.declared.alloc.Global.{Global}
 use Rattle.time_range.specs.Ranges.{NeverFall}
 use Rattle.row_blocks.specs.Blocks.{Block}
 use Rattle.row_blocks.specs.Live.{time_at}
 
--- of the rows from one place on, exactly those from another on are at or after the horizon
+-- from `skip` on, the rows before `place` are below the horizon, and the rows from `place` on are not
 pub record IsFirstLive (skip place : ℕ) (horizon : ℤ) (b : Block) : Type 0 where
   pub behind : skip ≤ place
   pub within : place ≤ b.rows
   pub below : (i : ℕ) → skip ≤ i → i < place → int_le horizon (time_at b i) ≡ false
   pub above : (i : ℕ) → place ≤ i → i < b.rows → int_le horizon (time_at b i) ≡ true
 
--- where there are times, they are these in their order
+-- if there are sorted times, they are a permutation of the times, and never fall
 abbrev pub AreSorted : List ℤ → Option (Vec ℤ Global) → Type 0
 AreSorted times sorted = IfSome sorted (λ v. IsPermutation times v.items × NeverFall v.items)
 
--- of some times, exactly those from a place on are at or after the horizon
+-- the times before `place` are below the horizon, and those from `place` on are not
 pub record Parts (times : List ℤ) (horizon : ℤ) (place : ℕ) : Type 0 where
   pub within : place ≤ length times
   pub below : (i : ℕ) → i < place → int_le horizon (slice_index_or times i (pos 0)) ≡ false

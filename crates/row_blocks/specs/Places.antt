@@ -1,4 +1,4 @@
--- What stands at one place of a block's columns, walked through from the first column to the last.
+-- The cells at one place of a block, column after column.
 use Rattle.std.specs.Prelude.{ℕ, ◌≤◌, Bool, not, List, [], ◌∷◌, length, map, Option, Some, None, is_some, if◌then◌else◌}
 use Rattle.std.specs.Option.{option_and_then}
 use Rattle.std.specs.List.{AllZip}
@@ -12,24 +12,24 @@ use Rattle.row_blocks.specs.declared.column.BlockColumn.{BlockColumn}
 use Rattle.row_blocks.specs.Columns.{IsSeen}
 use Rattle.row_blocks.specs.Blocks.{value_in}
 
--- the names of some cells
+-- the names of cells
 abbrev pub names_of : List Cell → List (List ℕ)
 names_of cells = map (λ (c : Cell). c.name) cells
 
--- at most 1,024 cells, under ascending names
+-- at most 1,024 cells, strictly ascending by name
 pub record FitARow (cells : List Cell) : Type 0 where
   pub few : length cells ≤ 1024
   pub ascending : IsStrictlySortedBy (slice_cmp nat_cmp) (names_of cells)
 
--- what was read of each column is what its bytes mean
+-- each view has what the bytes of its column mean
 abbrev pub AreSeen : List Coded → List BlockColumn → Type 0
 AreSeen views columns = AllZip (λ (v : Coded) (c : BlockColumn). IsSeen v c.bytes) views columns
 
--- what is said of a column past the last
+-- a placeholder for an index past the last column
 abbrev pub no_column : BlockColumn
 no_column = record { name = []; bytes = [] }
 
--- the name of the last cell so far and of one column more, unless the names do not ascend
+-- the name of the last cell so far, after one more column; None if the names do not ascend
 abbrev pub next_of : List ℕ → List ℕ → Bool → Option (List ℕ)
 next_of last name there = if not there then Some last else (if is_lt (text_cmp last name) then Some name else None)
 

@@ -1,4 +1,4 @@
--- What the tests of a block's columns tell.
+-- What the tests of a block's columns answer.
 use Rattle.std.specs.Prelude.{◌≡◌, ℕ, ◌<◌, List, length, map, slice_index_or, ℤ, pos, Option, Some, None}
 use Rattle.std.specs.List.{AllByRecursion}
 use Rattle.leaf_model.specs.declared.rows.Value.TheVariants.{Int}
@@ -13,12 +13,12 @@ pub record AreFound (view : Coded) (n : ℕ) (times : List ℤ) : Type 0 where
   pub same : length times ≡ n
   pub each : (i : ℕ) → i < n → (cell_at view i ≡ Some (Int (slice_index_or times i (pos 0)))) × IsTimeCell (Some (Int (slice_index_or times i (pos 0))))
 
--- the column is one of times and these are they, or it is none
+-- Some: the column is one of times, and these are they; None: it is no such column
 abbrev pub TellTimes : ℕ → BlockColumn → Option (List ℤ) → Type 0
 TellTimes rows c None = AreTimes rows c → ⊥
 TellTimes rows c (Some times) = AreTimes rows c × (cells_in c.bytes ≡ map (λ (t : ℤ). Some (Int t)) times)
 
--- each column is one of other cells, and this is what they mean; or some column is none
+-- Some: each column is one of other cells, and these are their meanings; None: one is no such column
 abbrev pub TellOthers : ℕ → List BlockColumn → Option (List Coded) → Type 0
 TellOthers rows columns None = AllByRecursion (IsOther rows) columns → ⊥
 TellOthers rows columns (Some views) = AllByRecursion (IsOther rows) columns × AreSeen views columns

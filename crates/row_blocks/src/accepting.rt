@@ -1,4 +1,4 @@
-// Columns taken for a block where they are one.
+// Tests whether columns are a block.
 ghost use Rattle.std.specs.Prelude.{◌∷◌};
 ghost use Rattle.row_blocks.specs.Deciding.{Decides};
 
@@ -30,7 +30,7 @@ fn range_of_parts(
     }
 }
 
-/// The range of the times of the block that these columns are.
+/// The range of the times of the block that these columns are. NoRows if they are no block.
 pub(crate) fn range_of_block(
     alloc: Global,
     rows: u32,

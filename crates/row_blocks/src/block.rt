@@ -17,7 +17,8 @@ use std::alloc::Global;
 use std::marker::Model;
 use time_range::TimeRange;
 
-/// 1 to 65,536 rows as columns, with their least and greatest time and whether their times never fall. Contracts see the number of rows and the columns.
+/// A block of 1 to 65,536 rows as columns, with its least and greatest time and whether its times never fall. Contracts
+/// see the number of rows and the columns.
 #[derive(Debug, Drop)]
 pub struct RowBlock {
     rows: u32,
@@ -39,7 +40,7 @@ impl Model for RowBlock {
 }
 
 impl RowBlock {
-    /// The block of these columns, with the range of the times of their rows.
+    /// Makes a block of columns that are known to be one; `range` is the range of their times.
     pub(crate) fn of(rows: u32, range: TimeRange, columns: BlockColumns) -> RowBlock
         requires block { IsBlock (record { rows = rows; columns = columns }) }
         requires range { IsRangeOf (times_of (rows_in (record { rows = rows; columns = columns }))) range }
@@ -53,21 +54,21 @@ impl RowBlock {
         }
     }
 
-    /// How many rows there are.
+    /// The number of rows.
     pub fn rows(&self) -> u32
         ensures { result ≡ self.now.rows }
     {
         self.rows
     }
 
-    /// What holds of every block.
+    /// No-op; states the invariant of a block.
     pub fn is_block(&self)
         ensures { IsBlock self.now }
     {
         let _ = &self.rows;
     }
 
-    /// The least and the greatest time.
+    /// The least and the greatest time, cut rows included.
     pub fn range(&self) -> (i64, i64)
         ensures { IsRange (times_of (rows_in self.now)) result.0 result.1 }
     {
@@ -81,9 +82,10 @@ impl RowBlock {
         self.range.in_order
     }
 
-    /// The times in their order, where they were sorted.
+    /// All times in ascending order. None unless they were sorted.
     pub(crate) fn sorted(&self) -> Option<&[i64]>
-        ensures { IfSome result (λ sorted. IsPermutation (times_of (rows_in self.now)) sorted.now × NeverFall sorted.now) }
+        ensures { IfSome result (λ sorted.
+            IsPermutation (times_of (rows_in self.now)) sorted.now × NeverFall sorted.now) }
     {
         match &self.order.sorted {
             Some(sorted) => Some(sorted.as_slice()),
@@ -91,7 +93,8 @@ impl RowBlock {
         }
     }
 
-    /// Sorts the times of a block whose times fall, once so many horizons have cut it, if there is memory.
+    /// Counts a horizon that cuts the block. After 8 of these, sorts the times of a block whose times fall, if there is
+    /// memory.
     pub fn note_horizon(&mut self, alloc: Global, horizon: i64)
         ensures { self.new ≡ self.old }
     {
@@ -105,21 +108,22 @@ impl RowBlock {
         self.order.sorted = sorted_times(alloc, self);
     }
 
-    /// The columns, that of the times first.
+    /// The columns; that of the times comes first.
     pub fn columns(&self) -> &[BlockColumn]
         ensures { result.now ≡ self.now.columns }
     {
         self.columns.as_slice()
     }
 
-    /// The bytes of the column of that name and kind, or None where there is no such column.
+    /// The bytes of the column of that name and kind. None if there is none.
     pub fn column(&self, name: &Text, kind: Kind) -> Option<&[u8]>
-        ensures { option_map (λ b. b.now) result ≡ option_map (λ (c : BlockColumn). c.bytes) (find (is_column name.now kind) self.now.columns) }
+        ensures { option_map (λ b. b.now) result
+            ≡ option_map (λ (c : BlockColumn). c.bytes) (find (is_column name.now kind) self.now.columns) }
     {
         column_named(self.columns.as_slice(), name, kind)
     }
 
-    /// The columns, in their order. It takes no memory.
+    /// Takes the columns out, in their order, without memory.
     pub fn into_columns(self) -> BlockColumns
         ensures columns { result ≡ self.columns }
         ensures block { IsBlock self }
@@ -127,7 +131,7 @@ impl RowBlock {
         self.columns
     }
 
-    /// The block that these columns are, whatever their bytes are. NoRows exactly where they break a rule of a block.
+    /// Makes a block of these columns, whatever their bytes are. NoRows exactly if they break a rule of a block.
     pub fn from_columns(
         alloc: Global,
         rows: u32,
@@ -151,7 +155,8 @@ fn is_column(column: &BlockColumn, name: &Text, kind: Kind) -> bool
 }
 
 fn column_named<'a>(columns: &'a [BlockColumn], name: &Text, kind: Kind) -> Option<&'a [u8]>
-    ensures { option_map (λ b. b.now) result ≡ option_map (λ (c : BlockColumn). c.bytes) (find (is_column name.now kind) columns.now) }
+    ensures { option_map (λ b. b.now) result
+        ≡ option_map (λ (c : BlockColumn). c.bytes) (find (is_column name.now kind) columns.now) }
 {
     for column in columns {
         if is_column(column, name, kind) {

@@ -1,4 +1,4 @@
-// Blocks in order.
+// A list of blocks.
 ghost use Rattle.std.specs.Prelude.{◌≡◌, ◌≤◌, ◌++◌, [], length, take, drop, filter, OnOk, OnErr};
 ghost use Rattle.row_blocks.specs.Live.{has_live};
 
@@ -6,7 +6,7 @@ use crate::block::RowBlock;
 use std::alloc::{AllocError, Global};
 use std::marker::Model;
 
-/// Blocks in order. Contracts see them as the list.
+/// The blocks of a table, in order. Contracts see them as the list.
 #[derive(Debug, Drop)]
 pub struct Blocks {
     inner: Vec<RowBlock>,
@@ -48,7 +48,7 @@ impl Blocks {
         self.inner
     }
 
-    /// Puts blocks behind those that are there.
+    /// Appends blocks. Err leaves the list as it was.
     pub fn append(&mut self, mut more: Vec<RowBlock>) -> Result<(), AllocError>
         ensures done { OnOk result (self.new ≡ self.old ++ more.items) }
         ensures kept { OnErr result (self.new ≡ self.old) }
@@ -56,14 +56,14 @@ impl Blocks {
         self.inner.append(&mut more)
     }
 
-    /// Leaves the first blocks, at most so many.
+    /// Keeps the first `count` blocks.
     pub fn truncate(&mut self, count: usize)
         ensures { self.new ≡ take count self.old }
     {
         self.inner.truncate(count);
     }
 
-    /// Lets go of the first blocks.
+    /// Removes the first `count` blocks.
     pub fn drop_first(&mut self, count: usize)
         requires { count ≤ length self.old }
         ensures { self.new ≡ drop count self.old }
@@ -73,14 +73,14 @@ impl Blocks {
         self.inner.truncate(left);
     }
 
-    /// Leaves the blocks of which some row is at or after the horizon. It takes no memory.
+    /// Keeps the blocks with a row at or after the horizon, without memory.
     pub fn retain_live(&mut self, horizon: i64)
         ensures { self.new ≡ filter (has_live horizon) self.old }
     {
         self.inner.retain(|block| block.has_live(horizon));
     }
 
-    /// Lets each block know of a horizon, so that it may sort its times. A block that finds no memory goes on without.
+    /// Notes a horizon in each block, which may then sort its times. A block that finds no memory stays as it is.
     pub fn note_horizon(&mut self, horizon: i64)
         ensures { self.new ≡ self.old }
     {

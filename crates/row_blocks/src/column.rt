@@ -1,4 +1,4 @@
-// The columns of a block, each under its name.
+// The columns of a block, each with its name.
 ghost use Rattle.std.specs.Prelude.{◌≡◌};
 
 use leaf_model::Text;
@@ -38,14 +38,14 @@ impl ColumnBytes {
     }
 }
 
-/// A column and its name.
+/// A column with its name.
 #[derive(Debug, Drop)]
 pub struct BlockColumn {
     pub name: Text,
     pub bytes: ColumnBytes,
 }
 
-/// The columns of a block in their order. Contracts see them as the list.
+/// The columns of a block, in order. Contracts see them as the list.
 #[derive(Debug, Drop)]
 pub struct BlockColumns {
     inner: Vec<BlockColumn>,

@@ -1,4 +1,4 @@
-// How many cells there are at each place of a block, counted column by column.
+// Counts the cells at each place of a block, column by column.
 ghost use Rattle.std.specs.Prelude.{◌≡◌, ◌↔◌, ℕ, ◌^◌, ◌<◌, ◌≤◌, length, IfOk, IsTrue, MatchBool, is_some, slice_index};
 ghost use Rattle.std.specs.List.{AllByRecursion};
 ghost use Rattle.column_bytes.specs.Cells.{cell_at};
@@ -19,12 +19,13 @@ fn no_counts(alloc: Global, rows: u32) -> Result<Vec<u32>, AllocError>
     vec![in alloc; 0u32; rows as usize]
 }
 
-/// Counts the cells of a column, each at its place. It stops with false at one more than a row may have.
+/// Adds the cells of a column to the counts of their places. False, and an early stop, if a count would pass 1,024.
 fn count_column(view: &ColumnView, counts: &mut [u32]) -> bool
     requires rows { length counts.old < 2 ^ 32 }
     requires same { length counts.old ≡ length view.now.codes }
     requires few { (i : ℕ) → i < length counts.old → slice_index counts.old i ≤ 1024 }
-    ensures { MatchBool result (AreCounted (λ i. is_some (cell_at view.now i)) counts.old counts.new) (IsOver (λ i. is_some (cell_at view.now i)) counts.old) }
+    ensures { MatchBool result (AreCounted (λ i. is_some (cell_at view.now i)) counts.old counts.new)
+        (IsOver (λ i. is_some (cell_at view.now i)) counts.old) }
 {
     let mut from = 0;
     while let Some(i) = view.next_cell(from) {
@@ -38,7 +39,7 @@ fn count_column(view: &ColumnView, counts: &mut [u32]) -> bool
     true
 }
 
-/// Whether there are at most 1,024 cells at each place, by counts that begin at 0.
+/// Whether no place has more than 1,024 cells. `counts` has a 0 for each row at the start.
 fn are_few(columns: &[BlockColumn], views: &[ColumnView], rows: u32, counts: &mut [u32]) -> bool
     requires each { AllByRecursion (IsOther rows) columns.now }
     requires seen { AreSeen views.now columns.now }
@@ -54,7 +55,7 @@ fn are_few(columns: &[BlockColumn], views: &[ColumnView], rows: u32, counts: &mu
     true
 }
 
-/// Whether there are at most 1,024 cells at each place.
+/// Whether no place has more than 1,024 cells. Err if memory runs out.
 pub(crate) fn have_few_cells(
     alloc: Global,
     columns: &[BlockColumn],

@@ -1,4 +1,4 @@
-// Columns that are taken off the rows: the cells at the fronts of the rows under one heading, in one walk.
+// Takes a column off the rows: in one walk, the first cell of each row, if it has the heading.
 ghost use Rattle.std.specs.Prelude.{◌≡◌, ℕ, ◌<◌, ◌≤◌, List, [], length, is_some, map, option_map, slice_index_or, IfOk, IfSome, OnOk};
 ghost use Rattle.leaf_model.specs.Lent.{each_cells, each_value, lent_cell, lent_cells, lent_value};
 ghost use Rattle.column_bytes.specs.Cells.{Entries};
@@ -18,14 +18,16 @@ use leaf_model::{LentCell, LentCells, LentValue, Text};
 use std::alloc::{AllocError, Global};
 use std::cmp::Ordering;
 
-/// The value of a row's first cell, where it comes under the heading of another cell, and the cells that are then left.
-/// None where the first cell comes under an earlier heading.
+/// The value of a row's first cell if it has the heading of `like`, and the cells that are then left. None if the first
+/// cell has an earlier heading.
 fn split_under<'a>(
     like: &LentCell,
     rest: &LentCells<'a>,
 ) -> Option<(Option<LentValue<'a>>, LentCells<'a>)>
-    ensures value { IfSome result (λ parts. option_map lent_value parts.0 ≡ front_value (heading_of (lent_cell like.now)) (lent_cells rest.now)) }
-    ensures rest { IfSome result (λ parts. lent_cells parts.1 ≡ rest_after (heading_of (lent_cell like.now)) (lent_cells rest.now)) }
+    ensures value { IfSome result (λ parts.
+        option_map lent_value parts.0 ≡ front_value (heading_of (lent_cell like.now)) (lent_cells rest.now)) }
+    ensures rest { IfSome result (λ parts.
+        lent_cells parts.1 ≡ rest_after (heading_of (lent_cell like.now)) (lent_cells rest.now)) }
     ensures first { IfSome result (λ _. IsNotBefore (heading_of (lent_cell like.now)) (lent_cells rest.now)) }
 {
     let Some((first, others)) = rest.split_first() else {
@@ -38,15 +40,15 @@ fn split_under<'a>(
     }
 }
 
-/// The integers of a column, one for each row, and which rows have one.
+/// A column of integers: one for each row, and which rows have one.
 #[derive(Drop)]
 struct Numbers {
     integers: Vec<i64>,
     present: Vec<bool>,
 }
 
-/// The integers under a heading, and in `nexts` what is then left of the rows' cells. None where a row has a cell
-/// under an earlier heading.
+/// The integers under the heading of `like`. `nexts` gets the cells that are then left of each row. None if a row has a
+/// cell with an earlier heading.
 fn numbers_under<'a>(
     alloc: Global,
     like: &LentCell,
@@ -56,9 +58,12 @@ fn numbers_under<'a>(
 ) -> Result<Option<Numbers>, AllocError>
     requires kind { AreOfKind kinds.Ints (fronts (heading_of (lent_cell like.now)) rests.now) }
     requires empty { nexts.old.items ≡ [] }
-    ensures integers { IfOk result (λ found. IfSome found (λ made. AreIntegers (fronts (heading_of (lent_cell like.now)) rests.now) made.integers.items)) }
-    ensures there { IfOk result (λ found. IfSome found (λ made. map is_some (fronts (heading_of (lent_cell like.now)) rests.now) ≡ made.present.items)) }
-    ensures passed { IfOk result (λ found. IfSome found (λ _. ArePassed (heading_of (lent_cell like.now)) (each_cells rests.now) (each_cells nexts.new.items))) }
+    ensures integers { IfOk result (λ found.
+        IfSome found (λ made. AreIntegers (fronts (heading_of (lent_cell like.now)) rests.now) made.integers.items)) }
+    ensures there { IfOk result (λ found.
+        IfSome found (λ made. map is_some (fronts (heading_of (lent_cell like.now)) rests.now) ≡ made.present.items)) }
+    ensures passed { IfOk result (λ found. IfSome found (λ _.
+        ArePassed (heading_of (lent_cell like.now)) (each_cells rests.now) (each_cells nexts.new.items))) }
 {
     let mut integers = Vec::with_capacity(alloc, rests.len())?;
     let mut present = Vec::with_capacity(alloc, rests.len())?;
@@ -75,15 +80,15 @@ fn numbers_under<'a>(
     Ok(Some(Numbers { integers, present }))
 }
 
-/// The codes of a column of texts, one for each row, and which rows have one.
+/// A column of text codes: one for each row, and which rows have one.
 #[derive(Drop)]
 struct TextCodes {
     codes: Vec<u64>,
     present: Vec<bool>,
 }
 
-/// The codes of the texts under a heading, and in `nexts` what is then left of the rows' cells. None where a row has a
-/// cell under an earlier heading.
+/// The codes of the texts under the heading of `like`. `nexts` gets the cells that are then left of each row. None if a
+/// row has a cell with an earlier heading.
 fn codes_under<'a>(
     alloc: Global,
     like: &LentCell,
@@ -94,11 +99,14 @@ fn codes_under<'a>(
     requires kind { AreOfKind kinds.Texts (fronts (heading_of (lent_cell like.now)) rests.now) }
     requires empty { nexts.old.items ≡ [] }
     requires none { set.old ≡ [] }
-    ensures coding { IfOk result (λ found. IfSome found (λ made. IsCoding (fronts (heading_of (lent_cell like.now)) rests.now) made.codes.items (Entries set.new))) }
+    ensures coding { IfOk result (λ found. IfSome found (λ made.
+        IsCoding (fronts (heading_of (lent_cell like.now)) rests.now) made.codes.items (Entries set.new))) }
     ensures texts { IfOk result (λ found. AreTexts set.new) }
     ensures few { IfOk result (λ found. length set.new ≤ length rests.now) }
-    ensures there { IfOk result (λ found. IfSome found (λ made. map is_some (fronts (heading_of (lent_cell like.now)) rests.now) ≡ made.present.items)) }
-    ensures passed { IfOk result (λ found. IfSome found (λ _. ArePassed (heading_of (lent_cell like.now)) (each_cells rests.now) (each_cells nexts.new.items))) }
+    ensures there { IfOk result (λ found.
+        IfSome found (λ made. map is_some (fronts (heading_of (lent_cell like.now)) rests.now) ≡ made.present.items)) }
+    ensures passed { IfOk result (λ found. IfSome found (λ _.
+        ArePassed (heading_of (lent_cell like.now)) (each_cells rests.now) (each_cells nexts.new.items))) }
 {
     let mut codes = Vec::with_capacity(alloc, rests.len())?;
     let mut present = Vec::with_capacity(alloc, rests.len())?;
@@ -115,8 +123,8 @@ fn codes_under<'a>(
     Ok(Some(TextCodes { codes, present }))
 }
 
-/// The values under a heading, and in `nexts` what is then left of the rows' cells. None where a row has a cell under
-/// an earlier heading.
+/// The values under the heading of `like`. `nexts` gets the cells that are then left of each row. None if a row has a
+/// cell with an earlier heading.
 fn values_under<'a>(
     alloc: Global,
     like: &LentCell,
@@ -124,8 +132,10 @@ fn values_under<'a>(
     nexts: &mut Vec<LentCells<'a>>,
 ) -> Result<Option<Vec<Option<LentValue<'a>>>>, AllocError>
     requires { nexts.old.items ≡ [] }
-    ensures values { IfOk result (λ found. IfSome found (λ values. each_value values.items ≡ fronts (heading_of (lent_cell like.now)) rests.now)) }
-    ensures passed { IfOk result (λ found. IfSome found (λ _. ArePassed (heading_of (lent_cell like.now)) (each_cells rests.now) (each_cells nexts.new.items))) }
+    ensures values { IfOk result (λ found.
+        IfSome found (λ values. each_value values.items ≡ fronts (heading_of (lent_cell like.now)) rests.now)) }
+    ensures passed { IfOk result (λ found. IfSome found (λ _.
+        ArePassed (heading_of (lent_cell like.now)) (each_cells rests.now) (each_cells nexts.new.items))) }
 {
     let mut values = Vec::with_capacity(alloc, rests.len())?;
     for rest in rests {
@@ -138,7 +148,7 @@ fn values_under<'a>(
     Ok(Some(values))
 }
 
-/// The column of the integers under a heading.
+/// The column of the integers under the heading of `like`. None if a row has a cell with an earlier heading.
 fn integer_column<'a>(
     alloc: Global,
     like: &LentCell,
@@ -150,9 +160,11 @@ fn integer_column<'a>(
     requires few { length rests.now ≤ 65536 }
     requires kind { AreOfKind kinds.Ints (fronts (heading_of (lent_cell like.now)) rests.now) }
     requires empty { nexts.old.items ≡ [] }
-    ensures cells { IfOk result (λ found. IfSome found (λ column. HasCells column (length rests.now) (fronts (heading_of (lent_cell like.now)) rests.now))) }
+    ensures cells { IfOk result (λ found. IfSome found (λ column.
+        HasCells column (length rests.now) (fronts (heading_of (lent_cell like.now)) rests.now))) }
     ensures kind { IfOk result (λ found. IfSome found (λ column. kind_in column ≡ kinds.Ints)) }
-    ensures passed { IfOk result (λ found. IfSome found (λ _. ArePassed (heading_of (lent_cell like.now)) (each_cells rests.now) (each_cells nexts.new.items))) }
+    ensures passed { IfOk result (λ found. IfSome found (λ _.
+        ArePassed (heading_of (lent_cell like.now)) (each_cells rests.now) (each_cells nexts.new.items))) }
 {
     let Some(made) = numbers_under(alloc, like, from, rests, nexts)? else {
         return Ok(None);
@@ -161,7 +173,7 @@ fn integer_column<'a>(
     Ok(Some(column))
 }
 
-/// The column of the texts under a heading.
+/// The column of the texts under the heading of `like`. None if a row has a cell with an earlier heading.
 fn text_column<'a>(
     alloc: Global,
     like: &LentCell,
@@ -172,9 +184,11 @@ fn text_column<'a>(
     requires few { length rests.now ≤ 65536 }
     requires kind { AreOfKind kinds.Texts (fronts (heading_of (lent_cell like.now)) rests.now) }
     requires empty { nexts.old.items ≡ [] }
-    ensures cells { IfOk result (λ found. IfSome found (λ column. HasCells column (length rests.now) (fronts (heading_of (lent_cell like.now)) rests.now))) }
+    ensures cells { IfOk result (λ found. IfSome found (λ column.
+        HasCells column (length rests.now) (fronts (heading_of (lent_cell like.now)) rests.now))) }
     ensures kind { IfOk result (λ found. IfSome found (λ column. kind_in column ≡ kinds.Texts)) }
-    ensures passed { IfOk result (λ found. IfSome found (λ _. ArePassed (heading_of (lent_cell like.now)) (each_cells rests.now) (each_cells nexts.new.items))) }
+    ensures passed { IfOk result (λ found. IfSome found (λ _.
+        ArePassed (heading_of (lent_cell like.now)) (each_cells rests.now) (each_cells nexts.new.items))) }
 {
     let mut set = TextSet::new(alloc);
     let Some(made) = codes_under(alloc, like, rests, nexts, &mut set)? else {
@@ -184,7 +198,7 @@ fn text_column<'a>(
     Ok(Some(column))
 }
 
-/// The column of the sets under a heading.
+/// The column of the sets under the heading of `like`. None if a row has a cell with an earlier heading.
 fn set_column<'a>(
     alloc: Global,
     like: &LentCell,
@@ -195,9 +209,11 @@ fn set_column<'a>(
     requires few { length rests.now ≤ 65536 }
     requires kind { AreOfKind kinds.Sets (fronts (heading_of (lent_cell like.now)) rests.now) }
     requires empty { nexts.old.items ≡ [] }
-    ensures cells { IfOk result (λ found. IfSome found (λ column. HasCells column (length rests.now) (fronts (heading_of (lent_cell like.now)) rests.now))) }
+    ensures cells { IfOk result (λ found. IfSome found (λ column.
+        HasCells column (length rests.now) (fronts (heading_of (lent_cell like.now)) rests.now))) }
     ensures kind { IfOk result (λ found. IfSome found (λ column. kind_in column ≡ kinds.Sets)) }
-    ensures passed { IfOk result (λ found. IfSome found (λ _. ArePassed (heading_of (lent_cell like.now)) (each_cells rests.now) (each_cells nexts.new.items))) }
+    ensures passed { IfOk result (λ found. IfSome found (λ _.
+        ArePassed (heading_of (lent_cell like.now)) (each_cells rests.now) (each_cells nexts.new.items))) }
 {
     let Some(values) = values_under(alloc, like, rests, nexts)? else {
         return Ok(None);
@@ -206,7 +222,7 @@ fn set_column<'a>(
     Ok(Some(column))
 }
 
-/// The column under the heading of a cell.
+/// The column under the heading of `like`, by its kind. None if a row has a cell with an earlier heading.
 fn column_under<'a>(
     alloc: Global,
     like: &LentCell<'a>,
@@ -215,11 +231,15 @@ fn column_under<'a>(
 ) -> Result<Option<Column>, AllocError>
     requires some { 0 < length rests.now }
     requires few { length rests.now ≤ 65536 }
-    requires kind { AreOfKind (heading_of (lent_cell like.now)).kind (fronts (heading_of (lent_cell like.now)) rests.now) }
+    requires kind { AreOfKind (heading_of (lent_cell like.now)).kind
+        (fronts (heading_of (lent_cell like.now)) rests.now) }
     requires empty { nexts.old.items ≡ [] }
-    ensures cells { IfOk result (λ found. IfSome found (λ column. HasCells column (length rests.now) (fronts (heading_of (lent_cell like.now)) rests.now))) }
-    ensures kind { IfOk result (λ found. IfSome found (λ column. kind_in column ≡ kind_of (lent_value like.now.value))) }
-    ensures passed { IfOk result (λ found. IfSome found (λ _. ArePassed (heading_of (lent_cell like.now)) (each_cells rests.now) (each_cells nexts.new.items))) }
+    ensures cells { IfOk result (λ found. IfSome found (λ column.
+        HasCells column (length rests.now) (fronts (heading_of (lent_cell like.now)) rests.now))) }
+    ensures kind { IfOk result (λ found.
+        IfSome found (λ column. kind_in column ≡ kind_of (lent_value like.now.value))) }
+    ensures passed { IfOk result (λ found. IfSome found (λ _.
+        ArePassed (heading_of (lent_cell like.now)) (each_cells rests.now) (each_cells nexts.new.items))) }
 {
     match &like.value {
         LentValue::Int(first) => integer_column(alloc, like, *first, rests, nexts),
@@ -228,7 +248,7 @@ fn column_under<'a>(
     }
 }
 
-/// A column and its name.
+/// A column with its name, which is copied.
 fn with_name(alloc: Global, name: &str, column: Column) -> Result<BlockColumn, AllocError>
     ensures name { IfOk result (λ made. made.name ≡ name.now) }
     ensures bytes { IfOk result (λ made. made.bytes ≡ column) }
@@ -239,8 +259,8 @@ fn with_name(alloc: Global, name: &str, column: Column) -> Result<BlockColumn, A
     })
 }
 
-/// The column under the heading of a first cell, and in `nexts` what is then left of the rows' cells. None where a row
-/// has a cell under an earlier heading.
+/// The column under the heading of `like`, with its name. `nexts` gets the cells that are then left of each row. None
+/// if a row has a cell with an earlier heading.
 fn take_column<'a>(
     alloc: Global,
     like: &LentCell<'a>,
@@ -249,7 +269,8 @@ fn take_column<'a>(
 ) -> Result<Option<BlockColumn>, AllocError>
     requires some { 0 < length rests.now }
     requires few { length rests.now ≤ 65536 }
-    requires cells { (i : ℕ) → i < length (each_cells rests.now) → AreCells (slice_index_or (each_cells rests.now) i []) }
+    requires cells { (i : ℕ) → i < length (each_cells rests.now)
+        → AreCells (slice_index_or (each_cells rests.now) i []) }
     requires front { HasFront (lent_cell like.now) (each_cells rests.now) }
     ensures { IfOk result (λ found. IfSome found (IsNext (each_cells rests.now) (each_cells nexts.new.items))) }
 {
@@ -260,7 +281,7 @@ fn take_column<'a>(
     Ok(Some(with_name(alloc, like.name, column)?))
 }
 
-/// The first cell of the first row that has one.
+/// The first cell of the first row that has a cell.
 fn first_of<'a>(rests: &[LentCells<'a>]) -> Option<LentCell<'a>>
     ensures { IfSome result (λ like. HasFront (lent_cell like) (each_cells rests.now)) }
 {
@@ -272,9 +293,10 @@ fn first_of<'a>(rests: &[LentCells<'a>]) -> Option<LentCell<'a>>
     None
 }
 
-/// The first cell of a row, where it comes under an earlier heading than the one so far, if there is one.
+/// Replaces `earliest` by the first cell of a row, if that has an earlier heading.
 fn look<'a>(earliest: &mut Option<LentCell<'a>>, rest: &LentCells<'a>)
-    ensures { option_map lent_cell earliest.new ≡ earlier (option_map lent_cell earliest.old) (front (lent_cells rest.now)) }
+    ensures { option_map lent_cell earliest.new
+        ≡ earlier (option_map lent_cell earliest.old) (front (lent_cells rest.now)) }
 {
     let Some((first, _others)) = rest.split_first() else {
         return;
@@ -289,7 +311,7 @@ fn look<'a>(earliest: &mut Option<LentCell<'a>>, rest: &LentCells<'a>)
     }
 }
 
-/// A first cell under the earliest heading, or None where no cells are left.
+/// A first cell with the earliest heading. None if no cells are left.
 fn earliest_of<'a>(rests: &[LentCells<'a>]) -> Option<LentCell<'a>>
     ensures { IsEarliest (option_map lent_cell result) (each_cells rests.now) }
 {
@@ -300,7 +322,7 @@ fn earliest_of<'a>(rests: &[LentCells<'a>]) -> Option<LentCell<'a>>
     earliest
 }
 
-/// The next column, where a walk over all rows finds the earliest heading first.
+/// The next column, if a first walk over all rows has to find the earliest heading.
 fn search_column<'a>(
     alloc: Global,
     rests: &[LentCells<'a>],
@@ -308,7 +330,8 @@ fn search_column<'a>(
 ) -> Result<Option<BlockColumn>, AllocError>
     requires some { 0 < length rests.now }
     requires few { length rests.now ≤ 65536 }
-    requires cells { (i : ℕ) → i < length (each_cells rests.now) → AreCells (slice_index_or (each_cells rests.now) i []) }
+    requires cells { (i : ℕ) → i < length (each_cells rests.now)
+        → AreCells (slice_index_or (each_cells rests.now) i []) }
     ensures { IfOk result (λ found. IfSome found (IsNext (each_cells rests.now) (each_cells nexts.new.items))) }
 {
     let Some(like) = earliest_of(rests) else {
@@ -317,9 +340,9 @@ fn search_column<'a>(
     take_column(alloc, &like, rests, nexts)
 }
 
-/// The next column of the rows, and in `nexts` what is then left of their cells. None where nothing was taken.
-/// The heading that is met first is mostly the earliest: the walk begins with it, and ends at a row that has an
-/// earlier one.
+/// The next column. `nexts` gets the cells that are then left of each row. None if no cell was left. The first cell
+/// that is met mostly has the earliest heading. So a walk begins with its heading, and ends at a row with an earlier
+/// one.
 pub(crate) fn next_column<'a>(
     alloc: Global,
     rests: &[LentCells<'a>],
@@ -327,7 +350,8 @@ pub(crate) fn next_column<'a>(
 ) -> Result<Option<BlockColumn>, AllocError>
     requires some { 0 < length rests.now }
     requires few { length rests.now ≤ 65536 }
-    requires cells { (i : ℕ) → i < length (each_cells rests.now) → AreCells (slice_index_or (each_cells rests.now) i []) }
+    requires cells { (i : ℕ) → i < length (each_cells rests.now)
+        → AreCells (slice_index_or (each_cells rests.now) i []) }
     ensures { IfOk result (λ found. IfSome found (IsNext (each_cells rests.now) (each_cells nexts.new.items))) }
 {
     let Some(like) = first_of(rests) else {

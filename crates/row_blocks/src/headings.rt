@@ -1,4 +1,4 @@
-// What tells the columns of a block apart: a name and a kind.
+// A heading tells a column of a block from the others: its name and kind.
 ghost use Rattle.std.specs.Prelude.{◌≡◌, ◌==◌};
 ghost use Rattle.column_bytes.specs.Column.{kind_in};
 ghost use Rattle.leaf_model.specs.Lent.{lent_cell, lent_value};
@@ -10,7 +10,7 @@ use column_bytes::Kind;
 use leaf_model::{LentCell, LentValue};
 use std::cmp::Ordering;
 
-/// The kind of the column that a value belongs in.
+/// The kind of the column of a value.
 pub(crate) fn kind_of(value: &LentValue) -> Kind
     ensures { result ≡ kind_of (lent_value value.now) }
 {
@@ -21,7 +21,7 @@ pub(crate) fn kind_of(value: &LentValue) -> Kind
     }
 }
 
-/// The kind of a column.
+/// The kind of a column, by its bytes.
 pub(crate) fn kind_in(bytes: &[u8]) -> Kind
     ensures { result ≡ kind_in bytes.now }
 {
@@ -37,7 +37,7 @@ pub(crate) fn kind_in(bytes: &[u8]) -> Kind
     }
 }
 
-/// Where a kind stands among the columns of one name.
+/// The rank of a kind among the columns of one name.
 fn kind_place(kind: Kind) -> u8
     ensures { result ≡ kind_place kind }
 {
@@ -48,7 +48,7 @@ fn kind_place(kind: Kind) -> u8
     }
 }
 
-/// Whether two kinds are one.
+/// Whether two kinds are equal.
 pub(crate) fn is_kind(a: Kind, b: Kind) -> bool
     ensures { result ≡ (kind_place a == kind_place b) }
 {
@@ -61,7 +61,7 @@ fn compare_kinds(a: Kind, b: Kind) -> Ordering
     kind_place(a).cmp(&kind_place(b))
 }
 
-/// The order of the columns that two cells belong in.
+/// Compares the headings of two cells.
 pub(crate) fn compare_cells(a: &LentCell, b: &LentCell) -> Ordering
     ensures { result ≡ heading_cmp (heading_of (lent_cell a.now)) (heading_of (lent_cell b.now)) }
 {
@@ -72,7 +72,7 @@ pub(crate) fn compare_cells(a: &LentCell, b: &LentCell) -> Ordering
     }
 }
 
-/// The order of two columns.
+/// Compares the headings of two columns.
 pub(crate) fn compare_columns(a: &BlockColumn, b: &BlockColumn) -> Ordering
     ensures { result ≡ heading_cmp (heading a.now) (heading b.now) }
 {

@@ -1,4 +1,4 @@
-// The times of a block in their order, for horizons that cut it often.
+// The sorted times of a block, for a table whose horizon rises often.
 ghost use Rattle.std.specs.Prelude.{◌≡◌, ◌<◌, ◌≤◌, ℕ, length, take, pos, slice_index_or, int_le, false, true, None, IfOk, IfSome, IsPermutation};
 ghost use Rattle.row_blocks.specs.Blocks.{rows_in, times_of};
 ghost use Rattle.row_blocks.specs.Held.{live_rows};
@@ -12,10 +12,10 @@ use column_bytes::ColumnView;
 use std::alloc::{AllocError, Global};
 use time_range::range_of;
 
-/// So many horizons may cut a block before its times are sorted, since a sort takes as long as some walks.
+/// The horizons that may cut a block before its times are sorted. A sort costs as much as some walks.
 pub(crate) const FEW_CUTS: u32 = 8;
 
-/// The times of a block whose times fall: in their order, once horizons have cut it often.
+/// The sorted times of a block whose times fall; they are made once horizons have cut it often.
 #[derive(Debug, Drop)]
 pub(crate) struct TimeOrder {
     pub(crate) cuts: u32,
@@ -23,7 +23,7 @@ pub(crate) struct TimeOrder {
 }
 
 impl TimeOrder {
-    /// No horizon has cut the block.
+    /// No horizon has cut the block yet.
     pub(crate) fn new() -> TimeOrder
         ensures { result.sorted ≡ None }
     {
@@ -34,7 +34,7 @@ impl TimeOrder {
     }
 }
 
-/// The times of the rows.
+/// The times of all rows, in the order of the rows.
 fn all_times(alloc: Global, block: &RowBlock, view: &ColumnView) -> Result<Vec<i64>, AllocError>
     requires times { AreTimesOf view.now block.now }
     ensures { IfOk result (λ times. times.items ≡ times_of (rows_in block.now)) }
@@ -48,7 +48,7 @@ fn all_times(alloc: Global, block: &RowBlock, view: &ColumnView) -> Result<Vec<i
     Ok(times)
 }
 
-/// The times of the rows in their order. Where there is no memory there are none.
+/// The times of all rows, ascending. None if memory runs out.
 pub(crate) fn sorted_times(alloc: Global, block: &RowBlock) -> Option<Vec<i64>>
     ensures { AreSorted (times_of (rows_in block.now)) result }
 {
@@ -62,7 +62,7 @@ pub(crate) fn sorted_times(alloc: Global, block: &RowBlock) -> Option<Vec<i64>>
     Some(times)
 }
 
-/// The first of some times in order that is at the horizon or behind it.
+/// The place of the first time at or after the horizon. If there is none, the number of times.
 pub(crate) fn first_from(sorted: &[i64], horizon: i64) -> usize
     requires order { NeverFall sorted.now }
     ensures { Parts sorted.now horizon result }

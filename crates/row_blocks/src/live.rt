@@ -1,4 +1,4 @@
-// The rows of a block that are at or after a horizon, counted and found without memory.
+// Counts and finds the rows of a block that are at or after a horizon, without memory.
 ghost use Rattle.std.specs.Prelude.{◌≡◌, ◌-◌, ◌<◌, ◌≤◌, length, drop, int_le};
 ghost use Rattle.row_blocks.specs.Blocks.{rows_in, times_of};
 ghost use Rattle.row_blocks.specs.Held.{live_rows};
@@ -11,7 +11,7 @@ use crate::in_order::first_from;
 use crate::reading::view_of;
 use column_bytes::{ColumnView, ValueRef};
 
-/// The times of the rows, as they are read.
+/// The column of the times, read.
 pub(crate) fn times_view(block: &RowBlock) -> ColumnView<'_>
     ensures { AreTimesOf result block.now }
 {
@@ -25,7 +25,7 @@ pub(crate) fn times_view(block: &RowBlock) -> ColumnView<'_>
     }
 }
 
-/// The time of the row at a place.
+/// The time of row `place`.
 pub(crate) fn time_at(block: &RowBlock, times: &ColumnView, place: u32) -> i64
     requires times { AreTimesOf times.now block.now }
     requires place { place < block.now.rows }
@@ -45,7 +45,8 @@ fn is_live(block: &RowBlock, times: &ColumnView, place: u32, horizon: i64) -> bo
     horizon <= time_at(block, times, place)
 }
 
-/// The time at a place of a walk that begins at `skip`, given the time before it: the first is decoded alone, each other one from that before it.
+/// The time of row `place` on a walk from `skip` on, given the time of the row before. The first is decoded alone, each
+/// other one from the one before.
 #[inline(always)]
 pub(crate) fn walked_time(
     block: &RowBlock,
@@ -81,7 +82,7 @@ fn count_from(block: &RowBlock, times: &ColumnView, skip: u32, horizon: i64) -> 
     live
 }
 
-/// The same, by a look at the times in their order where they were sorted and none is cut away.
+/// The same. It looks into the sorted times, if there are any and no row is cut off.
 fn count_out_of_order(block: &RowBlock, skip: u32, horizon: i64) -> u32
     requires skip { skip ≤ block.now.rows }
     ensures { result ≡ length (live_rows skip horizon block.now) }
@@ -113,8 +114,8 @@ fn place_from(block: &RowBlock, times: &ColumnView, skip: u32, horizon: i64, n: 
     unreachable!()
 }
 
-/// The first place behind the first `skip` whose row is at or after the horizon, or the number of rows where there is none.
-/// It halves the places that are left, so the times must be in order.
+/// The first place from `skip` on whose row is at or after the horizon. If there is none, the number of rows. It is a
+/// binary search, so the times must never fall.
 fn first_live(block: &RowBlock, times: &ColumnView, skip: u32, horizon: i64) -> u32
     requires times { AreTimesOf times.now block.now }
     requires skip { skip ≤ block.now.rows }
@@ -135,14 +136,14 @@ fn first_live(block: &RowBlock, times: &ColumnView, skip: u32, horizon: i64) -> 
 }
 
 impl RowBlock {
-    /// Whether some row is at or after the horizon.
+    /// Whether some row of the block is at or after the horizon, cut rows included.
     pub fn has_live(&self, horizon: i64) -> bool
         ensures { result ≡ has_live horizon self.now }
     {
         horizon <= self.range().1
     }
 
-    /// How many of the rows behind the first `skip` are at or after the horizon. It takes no memory.
+    /// How many rows from place `skip` on are at or after the horizon. It takes no memory.
     pub fn count_live(&self, skip: u32, horizon: i64) -> u32
         requires { skip ≤ self.now.rows }
         ensures { result ≡ length (live_rows skip horizon self.now) }
@@ -156,7 +157,7 @@ impl RowBlock {
         }
     }
 
-    /// The place behind the first n of the rows that are behind the first `skip` and at or after the horizon. It takes no memory.
+    /// The place after the first n rows that stand from `skip` on and are at or after the horizon. It takes no memory.
     pub fn place_behind(&self, skip: u32, horizon: i64, n: u32) -> u32
         requires { n < length (live_rows skip horizon self.now) }
         ensures place { result < self.now.rows }

@@ -1,4 +1,4 @@
-// Rows taken apart into columns: their times, and the cells that are left of each.
+// Takes rows apart: their times, and the cells of each.
 ghost use Rattle.std.specs.Prelude.{◌≡◌, [], length, IfOk, IfSome};
 ghost use Rattle.leaf_model.specs.Lent.{each_cells, lent_rows};
 ghost use Rattle.row_blocks.specs.Blocks.{times_of};
@@ -7,7 +7,7 @@ ghost use Rattle.row_blocks.specs.Merging.{AreBare, cells_of_rows};
 use leaf_model::{LentCells, LentRows, LentValue};
 use std::alloc::{AllocError, Global};
 
-/// The time of each row, and the cells of each.
+/// The times of the rows, and the cells of each. Err if memory runs out.
 pub(crate) fn parts_of<'a>(
     alloc: Global,
     rows: &LentRows<'a>,
@@ -26,7 +26,7 @@ pub(crate) fn parts_of<'a>(
     Ok((times, cells))
 }
 
-/// The times of the rows, where none of them has a cell.
+/// The times of the rows. None if a row has a cell.
 pub(crate) fn bare_times(alloc: Global, rows: &LentRows) -> Result<Option<Vec<i64>>, AllocError>
     ensures times { IfOk result (λ found. IfSome found (λ times. times.items ≡ times_of (lent_rows rows.now))) }
     ensures bare { IfOk result (λ found. IfSome found (λ _. AreBare (lent_rows rows.now))) }
@@ -43,7 +43,7 @@ pub(crate) fn bare_times(alloc: Global, rows: &LentRows) -> Result<Option<Vec<i6
     Ok(Some(times))
 }
 
-/// A place for the value of each row, of which none is lent.
+/// A None for each row.
 pub(crate) fn no_values<'a>(
     alloc: Global,
     rows: usize,

@@ -1,4 +1,4 @@
-// Whether what stands at each place of a block is a row.
+// Tests whether the cells at each place of a block are those of a row.
 ghost use Rattle.std.specs.Prelude.{◌≡◌, ◌↔◌, ℕ, ◌<◌, ◌≤◌, [], length, IfOk, IsTrue, is_some, option_map, slice_index_or};
 ghost use Rattle.std.specs.List.{AllByRecursion};
 ghost use Rattle.row_blocks.specs.Blocks.{IsOther, cells_at, value_in};
@@ -11,7 +11,7 @@ use column_bytes::ColumnView;
 use leaf_model::MAX_CELLS;
 use std::alloc::{AllocError, Global};
 
-/// Whether a column has a cell at a place.
+/// Whether column k has a cell at place i.
 fn has_cell(columns: &[BlockColumn], views: &[ColumnView], k: usize, i: u32, rows: u32) -> bool
     requires each { AllByRecursion (IsOther rows) columns.now }
     requires seen { AreSeen views.now columns.now }
@@ -22,7 +22,7 @@ fn has_cell(columns: &[BlockColumn], views: &[ColumnView], k: usize, i: u32, row
     views[k].has_cell(i)
 }
 
-/// The name of the last cell so far and of one column more, unless the names do not ascend.
+/// The name of the last cell so far, after one more column. None if the names do not ascend.
 fn next_name<'a>(last: &'a [u8], column: &'a BlockColumn, has_cell: bool) -> Option<&'a [u8]>
     ensures { option_map (λ n. n.now) result ≡ next_of last.now column.now.name has_cell }
 {
@@ -36,7 +36,7 @@ fn next_name<'a>(last: &'a [u8], column: &'a BlockColumn, has_cell: bool) -> Opt
     }
 }
 
-/// Whether the names of the cells at a place ascend.
+/// Whether the names of the cells at place i ascend.
 fn do_names_ascend(columns: &[BlockColumn], views: &[ColumnView], i: u32, rows: u32) -> bool
     requires each { AllByRecursion (IsOther rows) columns.now }
     requires seen { AreSeen views.now columns.now }
@@ -54,7 +54,7 @@ fn do_names_ascend(columns: &[BlockColumn], views: &[ColumnView], i: u32, rows: 
     true
 }
 
-/// How many cells there are at a place.
+/// The number of cells at place i.
 fn count_at(columns: &[BlockColumn], views: &[ColumnView], i: u32, rows: u32) -> usize
     requires each { AllByRecursion (IsOther rows) columns.now }
     requires seen { AreSeen views.now columns.now }
@@ -68,7 +68,7 @@ fn count_at(columns: &[BlockColumn], views: &[ColumnView], i: u32, rows: u32) ->
     count
 }
 
-/// Whether the cells at a place are those of a row.
+/// Whether the cells at place i are those of a row.
 fn fit_a_row(columns: &[BlockColumn], views: &[ColumnView], i: u32, rows: u32) -> bool
     requires each { AllByRecursion (IsOther rows) columns.now }
     requires seen { AreSeen views.now columns.now }
@@ -78,7 +78,7 @@ fn fit_a_row(columns: &[BlockColumn], views: &[ColumnView], i: u32, rows: u32) -
     count_at(columns, views, i, rows) <= MAX_CELLS && do_names_ascend(columns, views, i, rows)
 }
 
-/// Whether the cells at each place are those of a row, place by place.
+/// Whether the cells at each place are those of a row, tested place by place.
 fn fit_each_row(columns: &[BlockColumn], views: &[ColumnView], rows: u32) -> bool
     requires each { AllByRecursion (IsOther rows) columns.now }
     requires seen { AreSeen views.now columns.now }
@@ -92,7 +92,8 @@ fn fit_each_row(columns: &[BlockColumn], views: &[ColumnView], rows: u32) -> boo
     true
 }
 
-/// Whether the cells at each place are those of a row. Where no two columns have one name, only how many there are is asked.
+/// Whether the cells at each place are those of a row. If no two columns have the same name, only the numbers of cells
+/// are tested.
 pub(crate) fn fit_rows(
     alloc: Global,
     columns: &[BlockColumn],

@@ -1,4 +1,4 @@
-// Columns read by callers that count no steps.
+// Reads a column for a caller that counts no steps.
 ghost use Rattle.std.specs.Prelude.{◌≡◌, ◌<◌, ℕ, List, length, Option, IfSome, IsSome, option_map};
 ghost use Rattle.leaf_model.specs.declared.rows.Value.{Value};
 ghost use Rattle.column_bytes.specs.Cells.{cells_of, kind_of};
@@ -25,7 +25,7 @@ fn view_counted<L: Ledger>(bytes: &[u8], blank: Blank) -> Option<ColumnView<'_>>
     }
 }
 
-/// The column that the bytes are, or None where they are none.
+/// Reads the bytes as a column. None exactly if they mean none.
 pub(crate) fn view_of(bytes: &[u8]) -> Option<ColumnView<'_>>
     ensures seen { IfSome result (λ view. IsSeen view bytes.now) }
     ensures exact { (n : ℕ) → MeanCells bytes.now n → IsSome result }

@@ -1,4 +1,4 @@
-// Values and cells of their own, as those that a column lends.
+// Owned values and cells, copied from what a column lends.
 ghost use Rattle.std.specs.Prelude.{◌≡◌, ◌<◌, ◌++◌, length, IfOk};
 ghost use Rattle.column_bytes.specs.Cells.{cell_at, value_of};
 ghost use Rattle.row_blocks.specs.Blocks.{cell_of};
@@ -18,7 +18,7 @@ fn own_texts(alloc: Global, members: &SetRef) -> Result<Texts, AllocError>
     Ok(Texts::of(texts))
 }
 
-/// A value of its own, as one that a column lends.
+/// An owned copy of a value that a column lends.
 pub fn own_value(alloc: Global, value: &ValueRef) -> Result<Value, AllocError>
     ensures { IfOk result (λ own. own ≡ value_of value.now) }
 {
@@ -35,7 +35,7 @@ pub fn own_value(alloc: Global, value: &ValueRef) -> Result<Value, AllocError>
     }
 }
 
-/// Adds the cell of a column at a place, under its name, where there is one.
+/// Appends the cell of a column at `place`, under `name`, if there is one.
 pub fn push_cell(
     alloc: Global,
     name: &Text,

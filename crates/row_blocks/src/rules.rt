@@ -1,4 +1,4 @@
-// The rules of a block, as tests of its columns.
+// The rules of a block, as tests of columns.
 ghost use Rattle.std.specs.Prelude.{◌≡◌, ◌↔◌, ℕ, ◌<◌, ◌≤◌, List, length, map, ℤ, pos, false, Some, None, IfOk, IsTrue, MatchOption, option_map, slice_index_or, if◌then◌else◌};
 ghost use Rattle.std.specs.List.{AllByRecursion};
 ghost use Rattle.std.specs.List.Sorted.{IsStrictlySortedBy};
@@ -30,17 +30,19 @@ fn is_cell_name(name: &Text) -> bool
     !name.is_empty() && name.len() <= MAX_NAME && name != "time"
 }
 
-/// What the bytes mean, where they are a column of so many cells.
+/// Reads the bytes as a column of `rows` cells. None if they mean none.
 fn view_of_rows(rows: u32, bytes: &[u8]) -> Option<ColumnView<'_>>
-    ensures { MatchOption result (MeanCells bytes.now rows → ⊥) (λ view. MeanCells bytes.now rows × IsSeen view bytes.now × (length view.codes ≡ rows)) }
+    ensures { MatchOption result (MeanCells bytes.now rows → ⊥) (λ view.
+        MeanCells bytes.now rows × IsSeen view bytes.now × (length view.codes ≡ rows)) }
 {
     let view = view_of(bytes)?;
     if view.len() == rows { Some(view) } else { None }
 }
 
-/// What a column other than the times means, where it is one.
+/// Reads a column other than that of the times. None if it is no such column.
 fn view_of_other(rows: u32, column: &BlockColumn) -> Option<ColumnView<'_>>
-    ensures { MatchOption result (IsOther rows column.now → ⊥) (λ view. IsOther rows column.now × IsSeen view column.now.bytes) }
+    ensures { MatchOption result (IsOther rows column.now → ⊥) (λ view.
+        IsOther rows column.now × IsSeen view column.now.bytes) }
 {
     if !is_cell_name(&column.name) {
         return None;
@@ -48,7 +50,7 @@ fn view_of_other(rows: u32, column: &BlockColumn) -> Option<ColumnView<'_>>
     view_of_rows(rows, column.bytes.as_slice())
 }
 
-/// What the columns behind the times mean, where each is one.
+/// Reads all columns other than that of the times. None if one of them is no such column.
 pub(crate) fn views_of_others(
     alloc: Global,
     rows: u32,
@@ -71,15 +73,17 @@ fn fill_times(view: &ColumnView, codes: &mut [u64], present: &mut [bool], times:
     requires codes { length codes.old ≡ length view.now.codes }
     requires present { length present.old ≡ length view.now.codes }
     requires times { length times.old ≡ length view.now.codes }
-    ensures { (i : ℕ) → i < length view.now.codes → cell_at view.now i ≡ (if slice_index_or present.new i false then Some (Int (slice_index_or times.new i (pos 0))) else None) }
+    ensures { (i : ℕ) → i < length view.now.codes → cell_at view.now i
+        ≡ (if slice_index_or present.new i false then Some (Int (slice_index_or times.new i (pos 0))) else None) }
 {
     view.integers(codes, present, times);
 }
 
-/// Whether the cell at each place is there and a time.
+/// Whether each cell is there and is a time.
 fn are_times(present: &[bool], times: &[i64]) -> bool
     requires { length present.now ≡ length times.now }
-    ensures { IsTrue result ↔ ((i : ℕ) → i < length times.now → IsTimeCell (if slice_index_or present.now i false then Some (Int (slice_index_or times.now i (pos 0))) else None)) }
+    ensures { IsTrue result ↔ ((i : ℕ) → i < length times.now → IsTimeCell
+        (if slice_index_or present.now i false then Some (Int (slice_index_or times.now i (pos 0))) else None)) }
 {
     for i in 0..times.len() {
         if !is_time(present[i], times[i]) {
@@ -95,10 +99,13 @@ fn is_time(present: bool, time: i64) -> bool
     present && time >= 0
 }
 
-/// The times of a column, where each cell is one. All are decoded in order, so that each difference is added once.
+/// The times of a column of integers. None if a cell is missing or no time. All are decoded in order, so each
+/// difference is added once.
 fn times_in(alloc: Global, view: &ColumnView) -> Result<Option<Vec<i64>>, AllocError>
     requires { kind_of view.now.book ≡ Ints }
-    ensures { IfOk result (λ found. MatchOption found (((i : ℕ) → i < length view.now.codes → IsTimeCell (cell_at view.now i)) → ⊥) (λ times. AreFound view.now (length view.now.codes) times.items)) }
+    ensures { IfOk result (λ found.
+        MatchOption found (((i : ℕ) → i < length view.now.codes → IsTimeCell (cell_at view.now i)) → ⊥) (λ times.
+        AreFound view.now (length view.now.codes) times.items)) }
 {
     let count = view.len() as usize;
     let mut codes = vec![in alloc; 0u64; count]?;
@@ -117,7 +124,7 @@ fn times_in(alloc: Global, view: &ColumnView) -> Result<Option<Vec<i64>>, AllocE
     }
 }
 
-/// The times of a column of integers under the name of times, where each cell is one.
+/// The times of a column of integers that is named `time`. None if it may not be the first column of a block.
 fn times_of_integers(
     alloc: Global,
     rows: u32,
@@ -137,7 +144,7 @@ fn times_of_integers(
     }
 }
 
-/// The times of the column that stands first in a block, where it may.
+/// The times of the first column of a block. None if it may not be the first.
 pub(crate) fn times_of_column(
     alloc: Global,
     rows: u32,
@@ -157,7 +164,7 @@ pub(crate) fn times_of_column(
     }
 }
 
-/// Whether the headings ascend.
+/// Whether the headings strictly ascend.
 pub(crate) fn do_ascend(columns: &[BlockColumn]) -> bool
     ensures { IsTrue result ↔ IsStrictlySortedBy heading_cmp (map heading columns.now) }
 {
@@ -169,7 +176,7 @@ pub(crate) fn do_ascend(columns: &[BlockColumn]) -> bool
     true
 }
 
-/// Whether the names ascend.
+/// Whether the names strictly ascend.
 pub(crate) fn have_own_names(columns: &[BlockColumn]) -> bool
     ensures { IsTrue result → IsStrictlySortedBy (slice_cmp nat_cmp) (map (λ (c : BlockColumn). c.name) columns.now) }
 {

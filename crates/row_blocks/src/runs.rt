@@ -1,4 +1,4 @@
-// Cells in the order of their headings: those at the front under one heading are the values of a column.
+// Cells sorted by heading: a run of equal headings is a column.
 ghost use Rattle.std.specs.Prelude.{◌≡◌, ℕ, ◌<◌, ◌≤◌, ◌==◌, ◌++◌, [], length, None, IfOk, OnOk, option_map, slice_index_or, if◌then◌else◌};
 ghost use Rattle.std.specs.List.{All, prefix_len};
 ghost use Rattle.std.specs.List.Sorted.{IsStrictlySortedBy};
@@ -21,13 +21,14 @@ pub(crate) struct PlacedCell<'a> {
     pub cell: LentCell<'a>,
 }
 
-/// Adds the cells of the row at a place.
+/// Appends the cells of the row at `place`.
 fn push_row<'a>(
     place: usize,
     rest: &LentCells<'a>,
     cells: &mut Vec<PlacedCell<'a>>,
 ) -> Result<(), AllocError>
-    ensures { OnOk result ((i : ℕ) → row_cells i cells.new.items ≡ row_cells i cells.old.items ++ (if place == i then lent_cells rest.now else [])) }
+    ensures { OnOk result ((i : ℕ) → row_cells i cells.new.items ≡ row_cells i cells.old.items
+        ++ (if place == i then lent_cells rest.now else [])) }
 {
     let mut left = *rest;
     while let Some((cell, others)) = left.split_first() {
@@ -37,7 +38,7 @@ fn push_row<'a>(
     Ok(())
 }
 
-/// The cells that are left of each row, one row after another.
+/// The cells that are left of each row, row after row.
 fn placed_cells<'a>(
     alloc: Global,
     rests: &[LentCells<'a>],
@@ -51,7 +52,7 @@ fn placed_cells<'a>(
     Ok(cells)
 }
 
-/// Puts cells into the order of their headings. The cells of a row are in order before.
+/// Sorts cells by heading. The cells of each row are sorted already.
 fn sort(cells: &mut Vec<PlacedCell>) -> Result<(), AllocError>
     requires { (i : ℕ) → IsStrictlySortedBy (slice_cmp nat_cmp) (names_of (row_cells i cells.old.items)) }
     ensures rise { OnOk result (Rise cells.new.items) }
@@ -60,12 +61,13 @@ fn sort(cells: &mut Vec<PlacedCell>) -> Result<(), AllocError>
     cells.sort_by(|a, b| compare_cells(&a.cell, &b.cell))
 }
 
-/// The cells that are left of the rows, in the order of their headings.
+/// The cells that are left of all rows, sorted by heading.
 pub(crate) fn in_order<'a>(
     alloc: Global,
     rests: &[LentCells<'a>],
 ) -> Result<Vec<PlacedCell<'a>>, AllocError>
-    requires { (i : ℕ) → IsStrictlySortedBy (slice_cmp nat_cmp) (names_of (slice_index_or (each_cells rests.now) i [])) }
+    requires { (i : ℕ)
+        → IsStrictlySortedBy (slice_cmp nat_cmp) (names_of (slice_index_or (each_cells rests.now) i [])) }
     ensures rise { IfOk result (λ cells. Rise cells.items) }
     ensures cells { IfOk result (λ cells. HoldRests (each_cells rests.now) cells.items) }
 {
@@ -74,7 +76,7 @@ pub(crate) fn in_order<'a>(
     Ok(cells)
 }
 
-/// How many cells at the front come under the heading of a cell.
+/// The length of the first run: how many cells at the start have the heading of `like`.
 pub(crate) fn run_len(like: &LentCell, cells: &[PlacedCell]) -> usize
     ensures { result ≡ prefix_len (comes_under (heading_of (lent_cell like.now))) cells.now }
 {
@@ -86,7 +88,7 @@ pub(crate) fn run_len(like: &LentCell, cells: &[PlacedCell]) -> usize
     cells.len()
 }
 
-/// Takes the values back that were lent from a place on.
+/// Sets the values from place `from` to place `to` to None.
 fn forget(values: &mut [Option<LentValue>], from: usize, to: usize)
     requires order { from ≤ to }
     requires within { to ≤ length values.old }
@@ -99,11 +101,12 @@ fn forget(values: &mut [Option<LentValue>], from: usize, to: usize)
     }
 }
 
-/// Lends the values of these cells, each at its row's place, and none at any other.
+/// Writes each value of a run to the place of its row, and None to all other places.
 pub(crate) fn lend_run<'a>(cells: &[PlacedCell<'a>], values: &mut [Option<LentValue<'a>>])
     requires { All (λ (p : PlacedCell). p.place < length values.old) cells.now }
     ensures same { length values.new ≡ length values.old }
-    ensures values { (i : ℕ) → i < length values.old → option_map lent_value (slice_index_or values.new i None) ≡ last_value (row_cells i cells.now) }
+    ensures values { (i : ℕ) → i < length values.old
+        → option_map lent_value (slice_index_or values.new i None) ≡ last_value (row_cells i cells.now) }
 {
     forget(values, 0, values.len());
     for placed in cells {

@@ -1,4 +1,4 @@
-// Sealing rows into a block: the times first, and then column by column what is left of the rows' cells.
+// Seals rows into a block: first the column of the times, then column by column the cells that are left of the rows.
 ghost use Rattle.std.specs.Prelude.{◌≡◌, ◌<◌, ◌≤◌, length, map, replicate, true, ℤ, Some, IfOk, OnOk};
 ghost use Rattle.std.specs.List.{AllByRecursion};
 ghost use Rattle.leaf_model.specs.declared.rows.Value.TheVariants.{Int};
@@ -26,7 +26,7 @@ use std::alloc::{AllocError, Global};
 use std::mem::swap;
 use time_range::range_of;
 
-/// The column of the times.
+/// The column of the times, named `time`.
 fn times_column(alloc: Global, times: &[i64]) -> Result<BlockColumn, AllocError>
     requires some { 0 < length times.now }
     requires few { length times.now ≤ 65536 }
@@ -43,14 +43,14 @@ fn times_column(alloc: Global, times: &[i64]) -> Result<BlockColumn, AllocError>
     })
 }
 
-/// A mark for each of so many cells, which are all there.
+/// `count` times true: each cell is there.
 fn all_there(alloc: Global, count: usize) -> Result<Vec<bool>, AllocError>
     ensures { IfOk result (λ marks. marks.items ≡ replicate count true) }
 {
     Ok(vec![in alloc; true; count]?)
 }
 
-/// The column of these values, under the heading of a cell.
+/// The column of these values, with the heading of `like`.
 fn column_like(
     alloc: Global,
     like: &LentCell,
@@ -70,7 +70,8 @@ fn column_like(
     })
 }
 
-/// How many walks over all rows cost no more than a sort of their cells, which looks at a cell once for each binary digit of their number.
+/// How many walks over all rows cost at most as much as to sort the cells. A sort looks at a cell once for each binary
+/// digit of the number of cells.
 fn walks_worth(rests: &[LentCells]) -> usize {
     let mut cells = 0usize;
     for rest in rests {
@@ -80,7 +81,7 @@ fn walks_worth(rests: &[LentCells]) -> usize {
     cells.saturating_mul(digits as usize) / rests.len().max(1)
 }
 
-/// The first columns of the rows' cells, each taken in a walk over all rows, and what is left of the cells.
+/// The first columns, each taken off the rows in a walk over all, and the cells that are then left.
 fn walked_columns<'a>(
     alloc: Global,
     rows: &LentRows,
@@ -105,8 +106,8 @@ fn walked_columns<'a>(
     Ok((columns, rests))
 }
 
-/// Puts the columns of the cells that are left of the rows, in the order of their headings, behind those that were
-/// taken. The values of one after another are lent in a list with a place for each row.
+/// Appends the columns of the cells that are left, which are sorted by heading. `values` is scratch space with a place
+/// for each row.
 fn sorted_columns<'a>(
     alloc: Global,
     rows: &LentRows,
@@ -132,8 +133,8 @@ fn sorted_columns<'a>(
     Ok(())
 }
 
-/// The columns of the rows' cells, in their order: each is taken in a walk over all rows while that pays, and then from
-/// the cells that are left, which are sorted.
+/// The columns of all cells, in order. Each is taken in a walk over all rows while that is cheaper, and then the cells
+/// that are left are sorted.
 fn other_columns<'a>(
     alloc: Global,
     rows: &LentRows,
@@ -155,7 +156,7 @@ fn other_columns<'a>(
     Ok(columns)
 }
 
-/// The block of rows with these times, and the columns of their cells.
+/// The block of rows, given their times and the columns of their cells.
 fn seal_with(
     alloc: Global,
     rows: &LentRows,
@@ -179,8 +180,8 @@ fn seal_with(
     Ok(RowBlock::of(rows.len() as u32, range, BlockColumns::of(columns)))
 }
 
-/// The block of 1 to 65,536 rows: at most one column for each row and each cell. Of rows without cells nothing is laid
-/// out but their times.
+/// Seals 1 to 65,536 rows into a block of at most one column for each row and each cell. Rows without cells are not
+/// copied, but for their times. Err if memory runs out.
 pub fn seal(alloc: Global, rows: &LentRows) -> Result<RowBlock, AllocError>
     requires some { 0 < length (lent_rows rows.now) }
     requires few { length (lent_rows rows.now) ≤ 65536 }

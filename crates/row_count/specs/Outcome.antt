@@ -1,4 +1,4 @@
--- What a count leaves, and which status its text decides.
+-- What a count leaves, and which status the text decides.
 use Rattle.std.specs.Prelude.{◌≡◌, ◌≢◌, ℕ, List, [], ◌∷◌, ◌++◌, length, Option, Result, Ok, Err, IfSome, codes, decimal}
 use Rattle.std.specs.Io.KnownBytes.{Appends, Consumes}
 use Rattle.berth_face.specs.Streams.{ReadsAll, TakesAtMost, WritesFront}
@@ -12,48 +12,48 @@ use Rattle.row_count.specs.declared.count.CountError.TheVariants.{Fault, NoMemor
 use Rattle.row_count.specs.declared.count.LineFault.{LineFault}
 use Rattle.row_count.specs.declared.count.Range.{Range}
 
--- the line that tells a count
+-- the printed line of a count
 abbrev pub count_line : ℕ → List ℕ
 count_line n = codes "count " ++ decimal n ++ 10 ∷ []
 
--- the source was read to its end, and so many rows of its text have a time in the range
+-- the source was read to its end, and this many rows of its text are in the range
 abbrev pub IsCountOf : Range → Option (List ℕ) → Option (List ℕ) → ℕ → Type 0
 IsCountOf range before after count = (text : List ℕ) × ReadsAll before after text × (count_of range text ≡ Ok count)
 
--- the count was taken, and its line was written
+-- the rows were counted, and the line was written
 abbrev pub IsCounted : Range → Option (List ℕ) → Option (List ℕ) → Option (List ℕ) → Option (List ℕ) → Type 0
 IsCounted range before after was now = (count : ℕ) × IsCountOf range before after count × Appends was now (count_line count)
 
--- the count was taken, and a front of its line was written
+-- the rows were counted, and a prefix of the line was written
 abbrev pub IsCutShort : Range → Option (List ℕ) → Option (List ℕ) → Option (List ℕ) → Option (List ℕ) → Type 0
 IsCutShort range before after was now = (count : ℕ) × IsCountOf range before after count × WritesFront was now (count_line count)
 
 -- ---- which status the text decides
 
--- the status of a text whose rows were counted, or have a first fault
+-- the status of a text, by the count of its rows or its first fault
 abbrev pub status_of : Result ℕ LineFault → Status
 status_of (Ok count) = Status.Done
 status_of (Err found) = Status.Script found.line (why.Row found.fault)
 
--- the status of a text whose rows are counted
+-- the status that the text of a count decides
 abbrev pub count_verdict : Range → List ℕ → Status
 count_verdict range text = if_short text (status_of (count_of range text))
 
 -- ---- a text that is not read to its end, or not counted
 
--- the status of a text that was not counted
+-- the status of a count that stopped
 abbrev pub error_status : CountError → Status
 error_status (Fault found) = Status.Script found.line (why.Row found.fault)
 error_status NoMemory = Status.NoMemory
 
--- so many bytes of a text were taken, and a fault is theirs whatever follows them
+-- of a text `taken` bytes were read, and they have this fault, whatever follows
 pub record IsAtFault (range : Range) (before now : Option (List ℕ)) (taken : ℕ) (error : CountError) : Type 0 where
   pub text : List ℕ
   pub bytes : Consumes before now text
   pub size : length text ≡ taken
   pub refused : (more : List ℕ) → IfFault error (λ found. count_of range (text ++ more) ≡ Err found)
 
--- what holds of the status of a source that was not counted
+-- the status of a count that stopped, and what it implies of the source
 pub record IsStopped (range : Range) (before after : Option (List ℕ)) (status : Status) : Type 0 where
   pub not_done : status ≢ Status.Done
   pub not_words : status ≢ Status.Words

@@ -1,4 +1,4 @@
-// The rows of a source whose time is in a range.
+// Counts the rows of a source whose time is in a range.
 ghost use Rattle.std.specs.Prelude.{◌≡◌, ◌≢◌, ◌+◌, ◌<◌, ◌≤◌, ◌^◌, ℕ, List, Option, length, drop, vec_len, Ok, Err, IfOk, IfErr, IfSome, OnOk};
 ghost use Rattle.std.specs.Borrow.{Bor};
 ghost use Rattle.std.specs.List.{AllZip};
@@ -24,14 +24,14 @@ use std::thread::Threads;
 use text_faults::Why;
 use text_lines::{cut_line, is_blank, last_end, parts_of, without_return};
 
-/// The times from `from` to `to`.
+/// The times in `from..=to`.
 #[derive(Clone, Copy)]
 pub struct Range {
     pub from: i64,
     pub to: i64,
 }
 
-/// A line that is no row: its number, from 1, and its first fault.
+/// A line that is no row: its number, from 1 on, and its first fault.
 #[derive(Debug, Drop)]
 pub struct LineFault {
     pub line: u64,
@@ -52,14 +52,14 @@ impl From<AllocError> for CountError {
     }
 }
 
-/// What was counted of a part of a text: its lines, and its rows that are in the range.
+/// The count of a part of a text: its lines, and its rows in the range.
 #[derive(Clone, Copy)]
 pub struct PartCount {
     pub lines: u64,
     pub rows: u64,
 }
 
-/// Reads a source, counts its rows that are in the range, and writes the line that tells the count.
+/// Reads a source, counts its rows in the range, and writes the line `count N`.
 #[tactic(auto, using(crate::proofs::Pieces::unless_written))]
 pub fn count_source<R: Threads + Sync, S: Source, K: Sink>(
     rt: &R,
@@ -68,7 +68,8 @@ pub fn count_source<R: Threads + Sync, S: Source, K: Sink>(
     source: &mut S,
     sink: &mut K,
 ) -> Status
-    ensures done { result ≡ Status.Done → IsCounted range (S.left source.old) (S.left source.new) (K.written sink.old) (K.written sink.new) }
+    ensures done { result ≡ Status.Done
+        → IsCounted range (S.left source.old) (S.left source.new) (K.written sink.old) (K.written sink.new) }
     ensures known_words { result ≢ Status.Words }
     ensures script { IfScript result (IsRefused (count_verdict range) (S.left source.old) (S.left source.new)) }
     ensures read_fault { result ≡ Status.ReadFault → Rose (S.faults source.old) (S.faults source.new) }
@@ -77,7 +78,8 @@ pub fn count_source<R: Threads + Sync, S: Source, K: Sink>(
     ensures takes { TakesAtMost (S.left source.old) (S.left source.new) most_taken }
     ensures too_long { TakesText result (S.left source.old) (S.left source.new) }
     ensures unwritten { UnlessWritten result (sink.new ≡ sink.old) }
-    ensures cut_short { result ≡ Status.WriteFault → IsCutShort range (S.left source.old) (S.left source.new) (K.written sink.old) (K.written sink.new) }
+    ensures cut_short { result ≡ Status.WriteFault
+        → IsCutShort range (S.left source.old) (S.left source.new) (K.written sink.old) (K.written sink.new) }
 {
     let count = match count_text(rt, alloc, range, source) {
         Ok(count) => count,
@@ -92,8 +94,8 @@ pub fn count_source<R: Threads + Sync, S: Source, K: Sink>(
     }
 }
 
-/// How many rows of a source's text are in the range. The text is counted while it is read: of each piece the lines that
-/// have their end, and last what is left. The bytes that are counted make room for the next piece.
+/// The number of rows of a source in the range. A text is counted while it is read: of each piece the whole lines, and
+/// the rest at the end. The bytes that were counted make room for the next piece.
 fn count_text<R: Threads + Sync, S: Source>(
     rt: &R,
     alloc: Global,
@@ -104,7 +106,8 @@ fn count_text<R: Threads + Sync, S: Source>(
     ensures exact { OnOk result (IfSome (S.left source.old) (λ text. Status.Done ≡ count_verdict range text)) }
     ensures takes { OnOk result (TakesAtMost (S.left source.old) (S.left source.new) longest_text) }
     ensures stopped { IfErr result (λ status. IsStopped range (S.left source.old) (S.left source.new) status) }
-    ensures failed { IfErr result (λ status. status ≡ Status.ReadFault → Rose (S.faults source.old) (S.faults source.new)) }
+    ensures failed { IfErr result (λ status.
+        status ≡ Status.ReadFault → Rose (S.faults source.old) (S.faults source.new)) }
 {
     let mut text = Vec::new(alloc);
     let mut passed = 0usize;
@@ -135,11 +138,12 @@ fn count_text<R: Threads + Sync, S: Source>(
     }
 }
 
-/// The status of a text, of which so many bytes were taken, and which has this fault. A text that is too long and a source
-/// that fails come first, so the text is read to its end.
+/// The status of a text with this fault, of which `taken` bytes were read. A text that is too long, or a source that
+/// fails, comes before the fault. So the source is read to its end.
 fn refusal<S: Source>(alloc: Global, source: &mut S, taken: usize, error: CountError) -> Status
     requires { taken ≤ LONGEST_TEXT }
-    ensures stopped { (range : Range) (before : Option (List ℕ)) → IsAtFault range before (S.left source.old) taken error → IsStopped range before (S.left source.new) result }
+    ensures stopped { (range : Range) (before : Option (List ℕ))
+        → IsAtFault range before (S.left source.old) taken error → IsStopped range before (S.left source.new) result }
     ensures failed { result ≡ Status.ReadFault → Rose (S.faults source.old) (S.faults source.new) }
     ensures later { S.faults source.old ≤ S.faults source.new }
 {
@@ -161,7 +165,7 @@ fn status_of(error: CountError) -> Status
     }
 }
 
-/// Drops so many bytes at the front of a text. The room that they had stays.
+/// Drops the first `count` bytes. Their room stays allocated.
 fn drop_front(text: &mut Vec<u8>, count: usize) -> Result<(), AllocError>
     requires { count ≤ vec_len text.old }
     ensures { OnOk result (text.new.items ≡ drop count text.old.items) }
@@ -171,7 +175,7 @@ fn drop_front(text: &mut Vec<u8>, count: usize) -> Result<(), AllocError>
     text.append(&mut rest)
 }
 
-/// What was counted before a text, and of the text.
+/// Counts a part, and adds it to the count of what is before it.
 fn count_behind<R: Threads + Sync>(
     rt: &R,
     alloc: Global,
@@ -192,8 +196,8 @@ fn count_behind<R: Threads + Sync>(
     }
 }
 
-/// How many lines a text has, and how many of its rows are in the range. Its parts are read by threads side by side; the first
-/// fault in the order of the lines decides, whichever part is read first.
+/// Counts the lines of a text, and its rows in the range. Threads read its parts. The first fault in the order of the
+/// lines decides, whichever part ends first.
 fn count_rows<R: Threads + Sync>(
     rt: &R,
     alloc: Global,
@@ -220,14 +224,15 @@ fn count_rows<R: Threads + Sync>(
     Ok(PartCount { lines, rows })
 }
 
-/// The count of each part, in order, by as many threads as there are processors.
+/// The count of each part, in order. As many threads as there are processors count them.
 fn count_each<R: Threads + Sync>(
     rt: &R,
     alloc: Global,
     range: &Range,
     parts: &[&[u8]],
 ) -> Result<Vec<Result<PartCount, CountError>>, AllocError>
-    ensures { IfOk result (λ counts. AllZip (λ (part : Bor (List ℕ)) count. IsPartCounted range.now part.now count) parts.now counts.items) }
+    ensures { IfOk result (λ counts.
+        AllZip (λ (part : Bor (List ℕ)) count. IsPartCounted range.now part.now count) parts.now counts.items) }
 {
     parts
         .par_iter()
@@ -246,8 +251,8 @@ fn count_one(alloc: Global, range: &Range, part: &[u8]) -> Result<PartCount, Cou
     count_part(alloc, *range, part)
 }
 
-/// How many lines a part has, and how many of its rows are in the range. The line of a fault is counted from the part's
-/// first, which is 1.
+/// Counts the lines of a part, and its rows in the range. The line of a fault is counted from the first of the part,
+/// which is 1.
 fn count_part(alloc: Global, range: Range, part: &[u8]) -> Result<PartCount, CountError>
     ensures lines { IfOk result (λ count. count.lines ≡ length (lines_of part.now)) }
     ensures rows { IfOk result (λ count. count_of range part.now ≡ Ok count.rows) }
@@ -278,7 +283,7 @@ fn count_part(alloc: Global, range: Range, part: &[u8]) -> Result<PartCount, Cou
     })
 }
 
-/// The error of a part behind so many lines: a fault's line is counted from the first of all.
+/// The error of a part that follows `lines` lines: the line of a fault is counted from the first of all.
 fn error_behind(lines: u64, error: CountError) -> CountError
     requires { IfFault error (λ found. lines + found.line < 2 ^ 64) }
     ensures { result ≡ error_behind lines error }
@@ -292,14 +297,15 @@ fn error_behind(lines: u64, error: CountError) -> CountError
     }
 }
 
-/// The time of the row that the line of this number is. Most rows are seen to be rows without being built.
+/// The time of the row on a line. Most rows are accepted without being built.
 fn read_time(
     alloc: Global,
     room: &mut RowRoom,
     line: &[u8],
     line_number: u64,
 ) -> Result<i64, CountError>
-    ensures read { IfOk result (λ time. (cells : List Cell) × (row_of line.now ≡ Ok (record { time = time; cells = cells }))) }
+    ensures read { IfOk result (λ time.
+        (cells : List Cell) × (row_of line.now ≡ Ok (record { time = time; cells = cells }))) }
     ensures refused { IfErr result (λ e. IfFault e (λ f. row_of line.now ≡ Err f.fault)) }
     ensures place { IfErr result (λ e. IfFault e (λ f. f.line ≡ line_number)) }
 {
@@ -312,7 +318,7 @@ fn read_time(
     }
 }
 
-/// The row that the line of this number is.
+/// The row on a line.
 fn read_row(alloc: Global, line: &[u8], line_number: u64) -> Result<Row, CountError>
     ensures read { IfOk result (λ row. row_of line.now ≡ Ok row) }
     ensures refused { IfErr result (λ e. IfFault e (λ f. row_of line.now ≡ Err f.fault)) }

@@ -1,4 +1,4 @@
-//! Counting rows: a whole source, its rows in a range and the line that tells their number.
+//! Counts the rows of a whole source in a range, and writes the line that tells their number.
 #![tactic(auto)]
 
 mod count;

@@ -6,7 +6,7 @@ use Rattle.std.proofs.lemmas.Int.{ints, to_z-of_z, to_z_pos}
 use Rattle.std.specs.Prelude.{FitsSigned, IfSome, slice_index}
 use Rattle.std.specs.Char.{is_ascii_digit, digit_value}
 use Rattle.std.specs.Str.Parse.{AllDigits, digits_value}
-use Rattle.std.proofs.lemmas.Bool.{or_parts, or_cases, not-true, eqb-true, false≢true}
+use Rattle.std.proofs.lemmas.Bool.{or_parts, or_cases, not-true, eqb-true}
 use Rattle.std.proofs.lemmas.List.{drop_more, drop_all, length-drop, take_all}
 use Rattle.std.proofs.lemmas.Int.Digits.{digits_more, digits_value_more}
 use Rattle.std.proofs.lemmas.Str.{digit_value_digit}
@@ -93,13 +93,6 @@ quoted_read text inside len k some opens behind is less closes enough =
     ap (lex between) whole ∙ quoted_lexed inside len is less closes ∙ ap (λ (r : List ℕ). token (json.string (take len inside)) ∷ lex between r) (sym all)
 
 -- ---- what stands behind a value
-
-pub ended_some : (t : List ℕ) → is_ended t ≡ true → (0 < length t) × ((get_or t 0 0 ≡ 44) ⊎ (get_or t 0 0 ≡ 125))
-ended_some [] h = absurd (false≢true h)
-ended_some (x ∷ xs) h = elim (or_cases (x == 44) (x == 125) h) [
-  | inl e ↦ (omega arith, inl (eqb-true x 44 e))
-  | inr e ↦ (omega arith, inr (eqb-true x 125 e))
-]
 
 pub ended_word : (t : List ℕ) → is_ended t ≡ true → ends_word t ≡ true
 ended_word [] h = refl
@@ -278,9 +271,6 @@ negated n small =
     ap (λ (z : ℤ). to_z w64 (of_z w64 (pos 0 -ℤ z))) (to_z_pos w64 n small) ∙ ap (λ (z : ℤ). to_z w64 (of_z w64 z)) (negated_is n) ∙ to_z-of_z w64 (neg_ℤ (pos n)) fits
 
 -- ---- digits, one more at a time
-
-pub digits_begun : (text : List ℕ) → HasDigits text 0 0
-digits_begun text = record { inside = omega arith; digits = tt; is = refl; small = omega arith }
 
 pub digits_next : (text : List ℕ) (n at digit : ℕ) → HasDigits text n at → at < length text → 48 ≤ get_or text at 0 → get_or text at 0 ≤ 57 → digit + 48 ≡ get_or text at 0 → n * 10 + digit < 2 ^ 63 → HasDigits text (n * 10 + digit) (at + 1)
 digits_next text n at digit h inside least most is small =

@@ -1,4 +1,4 @@
--- What a row and each fault say of a text, in terms of the members of its object.
+-- Which texts are rows, and what each fault means, by the members of the text's object.
 use Rattle.std.specs.Prelude.{◌≡◌, ◌≢◌, ◌⊎◌, ℕ, [], ◌∷◌, ◌<◌, ◌≤◌, ◌≤ℤ◌, ℤ, pos, List, length, true, false, Some, None, option_and_then, Contains, IsUtf8}
 use Rattle.std.specs.Cmp.Lexicographic.{slice_cmp}
 use Rattle.std.specs.List.{AllByRecursion}
@@ -19,7 +19,7 @@ use Rattle.row_json.specs.declared.object.RowFault.{RowFault}
 use Rattle.row_json.specs.declared.object.RowFault.TheVariants.{Json, NotObject, NoTime, TooMany, Name, NoMemory}
 use Rattle.row_json.specs.declared.object.RowFault.TheVariants as fault
 
--- the text is this object; where it repeats a name, the last value counts
+-- the text is this object; of members with the same name the last counts
 pub record IsObject (text : List ℕ) (all : Members) : Type 0 where
   pub utf8 : IsUtf8 text
   pub reads : read text ≡ Some (object all)
@@ -28,21 +28,22 @@ pub record IsObject (text : List ℕ) (all : Members) : Type 0 where
 abbrev pub Has : Members → List ℕ → Data → Type 0
 Has all name d = get_member name all ≡ Some d
 
--- the JSON value is this integer, which is an i64
+-- the JSON value is this integer, an i64
 abbrev pub IsInteger : Data → ℤ → Type 0
 IsInteger d z = option_and_then as_i64 (as_number d) ≡ Some z
 
--- the JSON value is this text, which has at most 65,535 bytes
+-- the JSON value is this text, of at most 65,535 bytes
 abbrev pub IsTextValue : Data → List ℕ → Type 0
 IsTextValue d t = (as_str d ≡ Some t) × (length t ≤ 65535)
 
--- the items of an array are these texts
+-- the items of an array are exactly these texts
 abbrev pub AreTexts : Items → List (List ℕ) → Type 0
 AreTexts no_items texts = texts ≡ []
 AreTexts (item (string t) rest) texts = (others : List (List ℕ)) × (texts ≡ t ∷ others) × AreTexts rest others
 AreTexts (item other rest) texts = ⊥
 
--- the JSON value is an array of at most 1,024 texts; these are its texts, each once and in order, and have at most 65,535 bytes together
+-- the JSON value is an array of at most 1,024 texts; `members` are its distinct texts, ascending, at most 65,535 bytes
+-- together
 pub record IsSetValue (d : Data) (members : List (List ℕ)) : Type 0 where
   pub items : Items
   pub is : d ≡ array items
@@ -53,13 +54,13 @@ pub record IsSetValue (d : Data) (members : List (List ℕ)) : Type 0 where
   pub same : (t : List ℕ) → is_among members t ≡ is_among texts t
   pub together : bytes_in members ≤ 65535
 
--- a cell holds what the JSON value says: an integer, a text or a set
+-- a cell value is the meaning of the JSON value: an integer, a text or a set
 abbrev pub HoldsValue : Data → Value → Type 0
 HoldsValue d (Int z) = IsInteger d z
 HoldsValue d (Text t) = IsTextValue d t
 HoldsValue d (Set members) = IsSetValue d members
 
--- the object's member `time` is this integer, from 0 on
+-- the member `time` of the object is this integer, at least 0
 pub record IsTimeOf (all : Members) (time : ℤ) : Type 0 where
   pub value : Data
   pub has : Has all time_name value
@@ -76,13 +77,13 @@ pub record IsOther (all : Members) (name : List ℕ) (d : Data) : Type 0 where
   pub other : name ≢ time_name
   pub there : d ≢ null
 
--- the row of an object: its time, and each member that is neither `time` nor null is a cell, and each cell is such a member
+-- the row of an object: its time, and a cell for each member that is neither `time` nor null, and no other cell
 pub record IsRowOf (all : Members) (row : Row) : Type 0 where
   pub time : IsTimeOf all row.time
   pub whole : (name : List ℕ) (d : Data) → IsOther all name d → (v : Value) × Contains row.cells (named_cell name v) × HoldsValue d v
   pub only : AllByRecursion (λ cell. (d : Data) × IsOther all cell.name d × HoldsValue d cell.value) row.cells
 
--- a row may have this member: its name is that of a cell, and it is null or a value
+-- a row may have this member: a cell may have the name, and the value is null or one that a cell can hold
 abbrev pub IsFine : List ℕ → Data → Type 0
 IsFine name d = (is_bad_name name ≡ false) × ((d ≡ null) ⊎ ((v : Value) × HoldsValue d v))
 
@@ -92,7 +93,7 @@ IsFaultOf name d (Name n) = (n ≡ name) × (is_bad_name name ≡ true)
 IsFaultOf name d (fault.Value n) = (n ≡ name) × (is_bad_name name ≡ false) × (d ≢ null) × ((v : Value) → ¬ HoldsValue d v)
 IsFaultOf name d other = ⊥
 
--- the fault of the member that is the first to have one, in the order of the names
+-- the fault of the first member by name that has one
 pub record IsFirstFault (all : Members) (found : RowFault) : Type 0 where
   pub name : List ℕ
   pub value : Data
@@ -101,20 +102,20 @@ pub record IsFirstFault (all : Members) (found : RowFault) : Type 0 where
   pub is : IsFaultOf name value found
   pub first : (k : List ℕ) (d : Data) → Has all k d → k ≢ time_name → slice_cmp nat_cmp k name ≡ Less → IsFine k d
 
--- the object has a time and few enough members, of which the first fault is this
+-- the object has a time and at most 1,024 cells, and this is the first fault of a member
 pub record HasFault (all : Members) (found : RowFault) : Type 0 where
   pub time : HasTime all
   pub few : cell_count all ≤ 1024
   pub fault : IsFirstFault all found
 
--- the text is this row
+-- the text means this row
 pub record IsThisRow (text : List ℕ) (row : Row) : Type 0 where
   pub all : Members
   pub object : IsObject text all
   pub few : cell_count all ≤ 1024
   pub is : IsRowOf all row
 
--- the text is no row, for this cause
+-- the text is no row, for this reason
 abbrev pub Refuses : List ℕ → RowFault → Type 0
 Refuses text Json = IsUtf8 text → read text ≡ None
 Refuses text NotObject = IsUtf8 text × ((d : Data) × (read text ≡ Some d) × (as_object d ≡ None))

@@ -1,4 +1,4 @@
--- Rows of the plainest form, as their bytes come.
+-- Rows in plain form, byte by byte.
 use Rattle.std.specs.Prelude.{◌≡◌, ◌≢◌, ◌⊎◌, ℕ, ◌<◌, ◌≤◌, ◌^◌, ◌∷◌, ◌||◌, ◌==◌, List, length, take, slice_index, Bool, true, Some}
 use Rattle.std.specs.Str.Parse.{AllDigits, digits_value}
 use Rattle.json.specs.Token.{Token}
@@ -7,22 +7,22 @@ use Rattle.json.specs.Lex.{Place, fresh, after_value, may_begin, punctuate, betw
 use Rattle.serde_json.specs.Data.{Data}
 use Rattle.row_json.specs.Quick.{data_of}
 
--- the tokens of a text that stands at this place among commas and colons
+-- the tokens of a text, given its place among commas and colons
 abbrev pub tokens_from : Place → List ℕ → List Token
 tokens_from p text = punctuate p (lex between text)
 
--- a comma or a closing brace comes first
+-- the text begins with a comma or a closing brace
 abbrev pub is_ended : List ℕ → Bool
 is_ended text = (slice_index text 0 == 44) || (slice_index text 0 == 125)
 
--- the first bytes are digits, so many, and write this number
+-- the first `len` bytes are digits, and write the number n
 pub record HasDigits (text : List ℕ) (n len : ℕ) : Type 0 where
   pub inside : len ≤ length text
   pub digits : AllDigits 10 (take len text)
   pub is : digits_value 10 (take len text) ≡ n
   pub small : n < 2 ^ 63
 
--- the text is this number, as JSON writes it
+-- the text writes the number n as JSON does
 pub record IsNatural (text : List ℕ) (n : ℕ) : Type 0 where
   pub digits : AllDigits 10 text
   pub some : 0 < length text
@@ -30,12 +30,12 @@ pub record IsNatural (text : List ℕ) (n : ℕ) : Type 0 where
   pub is : digits_value 10 text ≡ n
   pub small : n < 2 ^ 63
 
--- the text begins with the one token of this value, and the rest stands behind it
+-- the text begins with the one token of this value, and `rest` follows
 pub record Reads (text rest : List ℕ) (d : Data) : Type 0 where
   pub token : Token
   pub first : tokens_from fresh text ≡ token ∷ tokens_from after_value rest
   pub is : data_of token ≡ Some d
 
--- where a key may stand, the text begins with this one and its colon
+-- if a key may stand here, the text begins with this name and its colon, and `rest` follows
 abbrev pub ReadsKey : List ℕ → List ℕ → List ℕ → Type 0
 ReadsKey text name rest = (p : Place) → may_begin p ≡ true → tokens_from p text ≡ json.key name ∷ tokens_from fresh rest

@@ -1,4 +1,4 @@
--- Members that can be seen to be fine one by one, as they come.
+-- Members that are tested one by one, as they come.
 use Rattle.std.specs.Prelude.{◌≡◌, ℕ, ◌≤◌, ℤ, List, Option, Some, None, option_map, option_and_then, Ok, IfSome}
 use Rattle.json.specs.Token.{Token}
 use Rattle.serde_json.specs.Data.{Data, null, number, string, object, Members, no_members, member, put}
@@ -7,31 +7,31 @@ use Rattle.serde_json.specs.Read.{number_of}
 use Rattle.leaf_model.specs.declared.rows.Cell.{Cell}
 use Rattle.row_json.specs.Row.{cell_of, cell_count, not_negative, time_of}
 
--- what a token stands for that is a number, a string or null
+-- the value of a token that is a number, a string or null
 abbrev pub data_of : Token → Option Data
 data_of (Token.number s) = option_map number (number_of s)
 data_of (Token.string s) = Some (string s)
 data_of Token.null = Some null
 data_of other = None
 
--- the integer that a value is, from 0 on
+-- the integer that a value is, if it is at least 0
 abbrev pub natural_of : Data → Option ℤ
 natural_of d = option_and_then not_negative (option_and_then as_i64 (as_number d))
 
--- the member is a cell, or the time, or nothing
+-- the member is the time, a cell or a null, but no fault
 abbrev pub IsFine : List ℕ → Data → Type 0
 IsFine name d = (cell : Option Cell) × (cell_of name d ≡ Ok cell)
 
--- each member is fine
+-- no member is a fault
 abbrev pub AreFine : Members → Type 0
 AreFine no_members = Unit {0}
 AreFine (member name d rest) = IsFine name d × AreFine rest
 
--- where a time is known, it is that of the members
+-- if a time is known, it is that of the members
 abbrev pub Knows : Option ℤ → Members → Type 0
 Knows time all = IfSome time (λ t. time_of (object all) ≡ Some t)
 
--- the members are those of a row of this time
+-- the members are those of a row with this time
 pub record AreOfRow (time : ℤ) (all : Members) : Type 0 where
   pub known : time_of (object all) ≡ Some time
   pub fine : AreFine all

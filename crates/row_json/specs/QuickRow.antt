@@ -1,4 +1,4 @@
--- Cells that are put in one by one, as the members of a row come.
+-- Cells that are inserted one by one, as the members come.
 use Rattle.std.specs.Prelude.{◌≡◌, ℕ, [], ◌∷◌, ◌≤◌, List, map, Option, Some, None, Ok, false, length, take, drop}
 use Rattle.std.specs.Cmp.Lexicographic.{slice_cmp}
 use Rattle.std.specs.List.{AllByRecursion}
@@ -18,34 +18,34 @@ names_of (member k d ms) = k ∷ names_of ms
 abbrev pub cell_names : List Cell → List (List ℕ)
 cell_names cs = map (λ (c : Cell). c.name) cs
 
--- the first name comes before the second
+-- name a is less than name b
 abbrev pub Below : List ℕ → List ℕ → Type 0
 Below a b = slice_cmp nat_cmp a b ≡ Less
 
--- the names of the members ascend
+-- the names of the members strictly ascend
 abbrev pub Ascending : Members → Type 0
 Ascending ms = IsStrictlySortedBy (slice_cmp nat_cmp) (names_of ms)
 
--- the names of the cells ascend
+-- the names of the cells strictly ascend
 abbrev pub Ascend : List Cell → Type 0
 Ascend cs = IsStrictlySortedBy (slice_cmp nat_cmp) (cell_names cs)
 
--- a cell of this name has its place behind so many of the cells, and none of them has the name
+-- a cell of this name goes after the first `place` cells, and no cell has the name
 pub record IsPlace (cells : List Cell) (name : List ℕ) (place : ℕ) : Type 0 where
   pub inside : place ≤ length cells
   pub lesser : AllByRecursion (λ cell. Below cell.name name) (take place cells)
   pub greater : AllByRecursion (λ cell. Below name cell.name) (drop place cells)
 
--- what a cell would hold of the JSON value, which is null where that is nothing
+-- the value that a cell holds of a JSON value; None of null
 abbrev pub Means : Data → Option Value → Type 0
 Means d None = d ≡ null
 Means d (Some v) = (is_missing d ≡ false) × (value_of d ≡ Some v)
 
--- where the members have the cells before, they have the cells after once this one is put among them
+-- if the members had the cells `before`, they have the cells `after` once this member is put
 abbrev pub Puts : List ℕ → Data → List Cell → List Cell → Type 0
 Puts name d before after = (old : Members) → Ascending old → cells_of old ≡ Ok before → cells_of (put name d old) ≡ Ok after
 
--- the row is that of the members
+-- the row of these members
 pub record IsMadeOf (all : Members) (row : Row) : Type 0 where
   pub time : time_of (object all) ≡ Some row.time
   pub cells : cells_of all ≡ Ok row.cells

@@ -1,4 +1,4 @@
-//! Rows of JSON: which row a text is, or what is wrong with it first.
+//! Rows in JSON: the row that a text means, or its first fault.
 #![tactic(auto)]
 
 mod object;

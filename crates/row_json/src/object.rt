@@ -1,4 +1,4 @@
-// A row from its JSON text.
+// Reads a row from its JSON text.
 ghost use Rattle.std.specs.Prelude.{◌≡◌, ◌≢◌, ◌↔◌, ◌≤ℤ◌, ℕ, List, [], nat_lt, Ok, Err, IfOk, IfErr, IfSome, option_map, pos, string_bytes, string_cmp};
 ghost use Rattle.std.specs.List.{AllByRecursion};
 ghost use Rattle.std.specs.List.Sorted.{IsStrictlySortedBy};
@@ -28,8 +28,8 @@ pub enum RowFault {
 
 type Members = BTreeMap<String, serde_json::Value>;
 
-/// The row that a text of JSON is, or its first fault: `Json`, `NotObject`, `NoTime`, `TooMany`,
-/// and then `Name` and `Value` of the first member at fault. `NoMemory` may come at any place.
+/// Reads a text of JSON as a row, or gives its first fault. The order is `Json`, `NotObject`, `NoTime`, `TooMany`, and
+/// then `Name` or `Value` of the first member at fault by name. `NoMemory` may come at any point.
 pub fn row(alloc: Global, text: &[u8]) -> Result<Row, RowFault>
     ensures exact { result ≢ Err RowFault.NoMemory → result ≡ row_of text.now }
     ensures is_row { IfOk result IsRow }
@@ -46,7 +46,7 @@ pub fn row(alloc: Global, text: &[u8]) -> Result<Row, RowFault>
     }
 }
 
-/// Law: what is a row, and what each fault means, in terms of the members of the text's object.
+/// No-op; states which texts are rows, and what each fault means, by the members of the text's object.
 #[tactic(auto, using(crate::proofs::Meaning::rows_meaning, crate::proofs::Meaning::faults_meaning))]
 pub fn row_meaning()
     ensures rows { (text : List ℕ) → (row : Row) → row_of text ≡ Ok row → IsThisRow text row }
@@ -86,7 +86,7 @@ fn row_of_members(alloc: Global, time: Option<i64>, members: Members) -> Result<
     })
 }
 
-/// The time of an object, which is not below 0.
+/// The time of an object. None if it has none, or a negative one.
 fn time_of(value: &serde_json::Value) -> Option<i64>
     ensures exact { result ≡ time_of (view value.now) }
     ensures not_negative { IfSome result (λ t. pos 0 ≤ℤ t) }
@@ -95,7 +95,7 @@ fn time_of(value: &serde_json::Value) -> Option<i64>
     if time < 0 { None } else { Some(time) }
 }
 
-/// Whether there are more cells than a row may have. Most objects have not even so many members.
+/// Whether the object has more cells than a row may have. Most objects have fewer members than that.
 #[tactic(auto, using(crate::proofs::Few::cells_at_most))]
 fn has_too_many(members: &Members) -> bool
     ensures { result ≡ nat_lt 1024 (cell_count (members_view members.now.entries)) }
@@ -103,7 +103,7 @@ fn has_too_many(members: &Members) -> bool
     members.len() > MAX_CELLS && cell_count(members) > MAX_CELLS
 }
 
-/// How many members are neither the time nor null.
+/// The number of members other than the time that are not null.
 fn cell_count(members: &Members) -> usize
     ensures { result ≡ cell_count (members_view members.now.entries) }
 {
@@ -116,7 +116,7 @@ fn cell_count(members: &Members) -> usize
     count
 }
 
-/// The cells of an object, in the order of their names.
+/// The cells of an object, ascending by name, or the first fault.
 #[tactic(auto, using(crate::proofs::Rows::before_append, crate::proofs::Order::are_cells_with))]
 fn cells(alloc: Global, members: Members) -> Result<Vec<Cell>, RowFault>
     ensures exact { result ≢ Err RowFault.NoMemory → items_of result ≡ cells_of (members_view members.entries) }
@@ -134,7 +134,7 @@ fn cells(alloc: Global, members: Members) -> Result<Vec<Cell>, RowFault>
     Ok(cells)
 }
 
-/// Room for as many cells as there are members beside the time, since a row that is kept keeps its room.
+/// A list with room for a cell for each member other than the time. A row that is kept keeps this room.
 fn room_for_cells(alloc: Global, members: &Members) -> Result<Vec<Cell>, RowFault>
     ensures none { IfOk result (λ cells. cells.items ≡ []) }
     ensures refused { IfErr result (λ fault. fault ≡ RowFault.NoMemory) }
@@ -145,7 +145,7 @@ fn room_for_cells(alloc: Global, members: &Members) -> Result<Vec<Cell>, RowFaul
     }
 }
 
-/// The cell that a member is, where it is one.
+/// The cell of a member. None if it is the time or null.
 fn cell_of(alloc: Global, name: String, value: serde_json::Value) -> Result<Option<Cell>, RowFault>
     ensures exact { result ≢ Err RowFault.NoMemory → result ≡ cell_of (string_bytes name) (view value) }
     ensures is_cell { IfOk result (λ found. IfSome found IsCell) }
@@ -167,7 +167,7 @@ fn cell_of(alloc: Global, name: String, value: serde_json::Value) -> Result<Opti
     }
 }
 
-/// What a member holds, where a cell can hold it.
+/// The value of a member. None if a cell cannot hold it.
 fn value_of(alloc: Global, value: serde_json::Value) -> Result<Option<Value>, RowFault>
     ensures exact { IfOk result (λ found. found ≡ value_of (view value)) }
     ensures refused { IfErr result (λ fault. fault ≡ RowFault.NoMemory) }
@@ -183,7 +183,7 @@ fn value_of(alloc: Global, value: serde_json::Value) -> Result<Option<Value>, Ro
     }
 }
 
-/// The value that an integer is.
+/// The value of an integer.
 fn integer_of(integer: Option<i64>) -> Option<Value>
     ensures exact { result ≡ option_map Int integer }
     ensures is_value { IfSome result IsValue }
@@ -194,7 +194,7 @@ fn integer_of(integer: Option<i64>) -> Option<Value>
     }
 }
 
-/// The value that a text is, where it is short enough.
+/// The value of a text. None if it has more than 65,535 bytes.
 fn text_of(text: String) -> Option<Value>
     ensures exact { result ≡ text_of (string_bytes text) }
     ensures is_value { IfSome result IsValue }

@@ -1,4 +1,4 @@
-// The time of a row whose members can all be seen to be fine as they come: no value is built.
+// Reads the time of a row whose members all are valid as they come. No value is built.
 ghost use Rattle.std.specs.Prelude.{◌≡◌, ◌<◌, ◌==◌, ℕ, ℤ, List, length, Some, None, Ok, Option, IfSome, slice_index, IsTrue, false, true};
 ghost use Rattle.json.specs.Json.{members, value};
 ghost use Rattle.json.specs.Reads.{token_of};
@@ -16,11 +16,11 @@ use json::{Reader, Scratch, Token};
 use leaf_model::{MAX_CELLS, MAX_NAME, MAX_TEXT};
 use std::alloc::Global;
 
-/// The room that reading a text takes. One is kept from text to text.
+/// The memory that reading a text takes. It is used again for each text.
 #[derive(Drop)]
 pub struct RowRoom {
     pub(crate) scratch: Scratch,
-    /// How many cells the row before had, since the next is likely to have as many.
+    /// The number of cells of the row before. The next one is likely to have as many.
     pub(crate) cells: usize,
 }
 
@@ -58,7 +58,7 @@ fn has_minus(bytes: &[u8]) -> bool
     !bytes.is_empty() && bytes[0] == b'-'
 }
 
-/// The integer that a number's text is, where it is an i64.
+/// The integer that the text of a number means. None if it is no i64.
 pub(crate) fn integer(text: &str) -> Option<i64>
     ensures { IfSome result (λ z. (num : Num) × (number_of text.now ≡ Some num) × (as_i64 num ≡ Some z)) }
 {
@@ -70,7 +70,7 @@ pub(crate) fn integer(text: &str) -> Option<i64>
     }
 }
 
-/// The time that a token is.
+/// The time that a token means. None if it means none.
 pub(crate) fn time_in(token: Token<'_>) -> Option<i64>
     ensures { IfSome result (λ t. (d : Data) × (data_of (token_of token.entry) ≡ Some d) × (natural_of d ≡ Some t)) }
 {
@@ -83,7 +83,7 @@ pub(crate) fn time_in(token: Token<'_>) -> Option<i64>
     }
 }
 
-/// Something where a cell of this name may hold what the token is.
+/// Tests whether a cell of this name can hold the token's value, or the token is null.
 fn cell_in(name: &str, token: Token<'_>) -> Option<()>
     requires { is_time name.now ≡ false }
     ensures { IfSome result (λ _. (d : Data) × (data_of (token_of token.entry) ≡ Some d) × IsFine name.now d) }
@@ -108,9 +108,10 @@ fn cell_in(name: &str, token: Token<'_>) -> Option<()>
     }
 }
 
-/// The time behind one member more, where that is fine.
+/// The known time after one more member. None if that member is not valid.
 fn with_member(time: Option<i64>, name: &str, token: Token<'_>) -> Option<Option<i64>>
-    ensures { IfSome result (λ now. (d : Data) × (data_of (token_of token.entry) ≡ Some d) × IsFine name.now d × ((old : Members) → Knows time old → Knows now (put name.now d old))) }
+    ensures { IfSome result (λ now. (d : Data) × (data_of (token_of token.entry) ≡ Some d)
+        × IsFine name.now d × ((old : Members) → Knows time old → Knows now (put name.now d old))) }
 {
     if name == "time" {
         let now = time_in(token)?;
@@ -120,9 +121,11 @@ fn with_member(time: Option<i64>, name: &str, token: Token<'_>) -> Option<Option
     Some(time)
 }
 
-/// The time of the members up to the brace that closes their object, where each is fine and they are at most 1,024.
+/// Reads the members up to the closing brace, and gives their time. None unless each is valid and they are at most
+/// 1,024.
 fn members_time(reader: &mut Reader<'_>) -> Option<i64>
-    ensures { IfSome result (λ time. (all : Members) × (converted (λ ms. of_members ms no_members) (members (value 126) (length reader.old) reader.old) ≡ Some (all, reader.new)) × AreOfRow time all) }
+    ensures { IfSome result (λ time. (all : Members) × (converted (λ ms. of_members ms no_members)
+        (members (value 126) (length reader.old) reader.old) ≡ Some (all, reader.new)) × AreOfRow time all) }
 {
     let mut time = None;
     let mut count = 0usize;
@@ -140,7 +143,7 @@ fn members_time(reader: &mut Reader<'_>) -> Option<i64>
     None
 }
 
-/// The time of the row that a text of JSON is.
+/// The time of the row that a JSON text means. None if that is not seen.
 fn text_time(text: &str, scratch: &mut Scratch) -> Option<i64>
     ensures { IfSome result (λ time. (all : Members) × (read text.now ≡ Some (object all)) × AreOfRow time all) }
 {
@@ -157,7 +160,7 @@ fn text_time(text: &str, scratch: &mut Scratch) -> Option<i64>
     Some(time)
 }
 
-/// The same, where most rows are of the plainest form.
+/// The same. It tries the plain form first, which most rows have.
 fn utf8_time(text: &str, scratch: &mut Scratch) -> Option<i64>
     ensures { IfSome result (λ time. (all : Members) × (read text.now ≡ Some (object all)) × AreOfRow time all) }
 {
@@ -167,9 +170,10 @@ fn utf8_time(text: &str, scratch: &mut Scratch) -> Option<i64>
     }
 }
 
-/// The time of the row that a text is, where that is seen as its members come; None says nothing of the text.
+/// The time of the row that a text means, if each member is valid as it comes. None says nothing of the text.
 pub fn quick_time(room: &mut RowRoom, text: &[u8]) -> Option<i64>
-    ensures { IfSome result (λ time. (cells : List Cell) × (row_of text.now ≡ Ok (record { time = time; cells = cells }))) }
+    ensures { IfSome result (λ time.
+        (cells : List Cell) × (row_of text.now ≡ Ok (record { time = time; cells = cells }))) }
 {
     match simdutf8::basic::from_utf8(text) {
         Ok(text) => utf8_time(text, &mut room.scratch),

@@ -1,4 +1,4 @@
-// The row whose members can all be seen to be fine as they come: its cells are made at once.
+// Reads a row whose members all are valid as they come. Its cells are built at once.
 ghost use Rattle.std.specs.Prelude.{◌≡◌, ◌≤ℤ◌, pos, length, Some, Ok, IfSome, IsTrue};
 ghost use Rattle.std.specs.List.{AllByRecursion};
 ghost use Rattle.json.specs.Json.{members, value};
@@ -16,7 +16,7 @@ use leaf_model::{Cell, Cells, MAX_CELLS, MAX_NAME, MAX_TEXT, Row, Text, Value};
 use std::alloc::Global;
 use std::cmp::Ordering;
 
-/// How many cells a cell may be put in front of, so that the time grows no faster than the row.
+/// The most cells that a new one is moved in front of: the time then grows only linearly with the row.
 const MAX_STEPS: usize = 64;
 
 /// Whether a cell may have the name.
@@ -26,7 +26,7 @@ fn is_cell_name(name: &str) -> bool
     name != "time" && !name.is_empty() && name.len() <= MAX_NAME
 }
 
-/// A copy of the text.
+/// A copy of the text. None if memory runs out.
 fn own(alloc: Global, text: &str) -> Option<Text>
     ensures { IfSome result (λ copy. copy ≡ text.now) }
 {
@@ -36,7 +36,7 @@ fn own(alloc: Global, text: &str) -> Option<Text>
     }
 }
 
-/// What a cell may hold of a token, which is nothing of a null.
+/// The value that a cell holds of a token: none of a null. The outer None: a cell cannot hold it, or memory ran out.
 fn value_in(alloc: Global, token: Token<'_>) -> Option<Option<Value>>
     ensures exact { IfSome result (λ found. (d : Data) × (data_of (token_of token.entry) ≡ Some d) × Means d found) }
     ensures is_value { IfSome result (λ found. IfSome found IsValue) }
@@ -58,7 +58,7 @@ fn value_in(alloc: Global, token: Token<'_>) -> Option<Option<Value>>
     }
 }
 
-/// The place of a cell of this name. None where it lies in front of many cells, or where one of them has the name.
+/// The place for a cell of this name. None if it is far from the end, or a cell has the name.
 fn place_of(cells: &[Cell], name: &str) -> Option<usize>
     requires { Ascend cells.now }
     ensures { IfSome result (λ place. IsPlace cells.now name.now place) }
@@ -75,7 +75,7 @@ fn place_of(cells: &[Cell], name: &str) -> Option<usize>
     if place == 0 { Some(place) } else { None }
 }
 
-/// Puts a cell in at its place, where there is a value. None where a cell has the name.
+/// Inserts a cell at its place, if there is a value. None if it has no place, or memory ran out.
 fn put_cell(alloc: Global, cells: &mut Vec<Cell>, name: &str, value: Option<Value>) -> Option<()>
     requires name { IsCellName name.now }
     requires value { IfSome value IsValue }
@@ -95,7 +95,7 @@ fn put_cell(alloc: Global, cells: &mut Vec<Cell>, name: &str, value: Option<Valu
     Some(())
 }
 
-/// The time behind one member more, where that is fine. Its cell is put among the cells.
+/// The known time after one more member, whose cell is inserted. None if the member is not valid.
 fn put_member(
     alloc: Global,
     time: Option<i64>,
@@ -105,7 +105,8 @@ fn put_member(
 ) -> Option<Option<i64>>
     requires ordered { Ascend cells.old.items }
     requires cells { AllByRecursion IsCell cells.old.items }
-    ensures exact { IfSome result (λ now. (d : Data) × (data_of (token_of token.entry) ≡ Some d) × ((old : Members) → Knows time old → Knows now (put name.now d old)) × Puts name.now d cells.old.items cells.new.items) }
+    ensures exact { IfSome result (λ now. (d : Data) × (data_of (token_of token.entry) ≡ Some d) × ((old : Members)
+        → Knows time old → Knows now (put name.now d old)) × Puts name.now d cells.old.items cells.new.items) }
     ensures are_cells { IfSome result (λ _. AllByRecursion IsCell cells.new.items) }
 {
     if name == "time" {
@@ -120,7 +121,7 @@ fn put_member(
     Some(time)
 }
 
-/// The row of this time and these cells, which keep no more room than they take.
+/// The row of this time and these cells, which give their spare room back.
 fn row_with(time: Option<i64>, mut cells: Vec<Cell>) -> Option<Row>
     requires { IfSome time (λ t. pos 0 ≤ℤ t) }
     ensures exact { IfSome result (λ row. (time ≡ Some row.time) × (row.cells ≡ cells.items)) }
@@ -134,9 +135,10 @@ fn row_with(time: Option<i64>, mut cells: Vec<Cell>) -> Option<Row>
     })
 }
 
-/// The row of the members up to the brace that closes their object. Room for so many cells is taken first.
+/// Reads the members up to the closing brace as a row. Room for `room` cells is taken first.
 fn members_row(alloc: Global, reader: &mut Reader<'_>, room: usize) -> Option<Row>
-    ensures exact { IfSome result (λ row. (all : Members) × (converted (λ ms. of_members ms no_members) (members (value 126) (length reader.old) reader.old) ≡ Some (all, reader.new)) × IsMadeOf all row) }
+    ensures exact { IfSome result (λ row. (all : Members) × (converted (λ ms. of_members ms no_members)
+        (members (value 126) (length reader.old) reader.old) ≡ Some (all, reader.new)) × IsMadeOf all row) }
     ensures is_row { IfSome result IsRow }
 {
     let Ok(mut cells) = Vec::with_capacity(alloc, room) else {
@@ -156,7 +158,7 @@ fn members_row(alloc: Global, reader: &mut Reader<'_>, room: usize) -> Option<Ro
     None
 }
 
-/// The row that a text of JSON is.
+/// The row that a JSON text means. None if that is not seen.
 fn text_row(alloc: Global, text: &str, scratch: &mut Scratch, room: usize) -> Option<Row>
     ensures exact { IfSome result (λ row. (all : Members) × (read text.now ≡ Some (object all)) × IsMadeOf all row) }
     ensures is_row { IfSome result IsRow }
@@ -174,7 +176,7 @@ fn text_row(alloc: Global, text: &str, scratch: &mut Scratch, room: usize) -> Op
     Some(row)
 }
 
-/// The row that a text is, where that is seen as its members come; None says nothing of the text.
+/// The row that a text means, if each member is valid as it comes. None says nothing of the text.
 pub fn quick_row(alloc: Global, room: &mut RowRoom, text: &[u8]) -> Option<Row>
     ensures exact { IfSome result (λ row. row_of text.now ≡ Ok row) }
     ensures is_row { IfSome result IsRow }

@@ -1,4 +1,4 @@
-// The set that an array of JSON is.
+// Reads an array of JSON as a set.
 ghost use Rattle.std.specs.Prelude.{◌≡◌, ◌≤◌, ℕ, List, [], length, map, Some, IfOk, IfErr, IfSome, option_map, option_and_then, string_bytes, string_cmp};
 ghost use Rattle.std.specs.List.Sorted.{IsStrictlySortedBy};
 ghost use Rattle.serde_json.specs.View.{items_view};
@@ -11,13 +11,14 @@ use leaf_model::{MAX_MEMBERS, Text, Texts, Value};
 use std::alloc::Global;
 use std::collections::BTreeSet;
 
-/// The texts of an array in order, each once. None where an item is no text.
+/// The distinct texts of an array, ascending. None if an item is no text.
 #[tactic(auto, using(crate::proofs::SetItems::text_put, crate::proofs::SetItems::put_length))]
 fn texts_in(
     alloc: Global,
     items: Vec<serde_json::Value>,
 ) -> Result<Option<BTreeSet<String>>, RowFault>
-    ensures exact { IfOk result (λ found. option_map (λ texts. map string_bytes texts.keys) found ≡ texts_with [] (items_view items.items)) }
+    ensures exact { IfOk result (λ found.
+        option_map (λ texts. map string_bytes texts.keys) found ≡ texts_with [] (items_view items.items)) }
     ensures refused { IfErr result (λ fault. fault ≡ RowFault.NoMemory) }
     ensures few { IfOk result (λ found. IfSome found (λ texts. length texts.keys ≤ length items.items)) }
 {
@@ -56,12 +57,13 @@ fn own_texts(alloc: Global, strings: BTreeSet<String>) -> Result<Vec<Text>, RowF
     Ok(texts)
 }
 
-/// The set that an array is, where a cell can hold it.
+/// The set of an array. None if a cell cannot hold it.
 pub(crate) fn set_in(
     alloc: Global,
     items: Vec<serde_json::Value>,
 ) -> Result<Option<Value>, RowFault>
-    ensures exact { IfOk result (λ found. found ≡ option_and_then (set_of (item_count (items_view items.items))) (texts_with [] (items_view items.items))) }
+    ensures exact { IfOk result (λ found. found
+        ≡ option_and_then (set_of (item_count (items_view items.items))) (texts_with [] (items_view items.items))) }
     ensures refused { IfErr result (λ fault. fault ≡ RowFault.NoMemory) }
     ensures is_value { IfOk result (λ found. IfSome found IsValue) }
 {

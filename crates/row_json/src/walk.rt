@@ -1,4 +1,5 @@
-// The time of a row of the plainest form: no blanks, no escapes, and texts, integers and nulls alone. It is seen in one walk over the bytes.
+// Reads the time of a row in plain form: no blanks, no escapes, and only texts, integers and nulls. It walks over the
+// bytes once.
 ghost use Rattle.std.specs.Prelude.{◌≡◌, ◌<◌, ◌≤◌, ◌++◌, ◌∷◌, [], ℕ, List, length, Some, Ok, IfSome, IsTrue, false, true, slice_index, ◌==◌};
 ghost use Rattle.std.specs.List.{prefix_len};
 ghost use Rattle.json.specs.Json.{members, value};
@@ -16,10 +17,10 @@ ghost use Rattle.row_json.specs.Plain.{HasDigits, IsNatural, Reads, ReadsKey, is
 
 use leaf_model::{MAX_CELLS, MAX_NAME, MAX_TEXT};
 
-/// Digits are read while their number is below this, so that one more leaves it an i64.
+/// Digits are read while their number is below this: one more digit still gives an i64.
 const MOST: u64 = 100_000_000_000_000_000;
 
-/// How many bytes at the front of a text stand in a string as they are.
+/// The number of bytes at the start of a text that stand for themselves in a string.
 fn plain_len(text: &[u8]) -> usize
     ensures value { result ≡ prefix_len is_plain text.now }
     ensures bound { result ≤ length text.now }
@@ -31,7 +32,7 @@ fn plain_len(text: &[u8]) -> usize
     at
 }
 
-/// The string without escapes that a text begins with, and what stands behind it.
+/// Reads a string without escapes at the start of the text. Gives its bytes and the text after it.
 #[inline(always)]
 fn quoted(text: &[u8]) -> Option<(&[u8], &[u8])>
     ensures { IfSome result (λ cut. lex between text.now ≡ token (string cut.0.now) ∷ lex between cut.1.now) }
@@ -47,7 +48,7 @@ fn quoted(text: &[u8]) -> Option<(&[u8], &[u8])>
     Some((&inside[..len], &inside[len + 1..]))
 }
 
-/// The name that a member begins with, and what stands behind its colon.
+/// Reads a member's name. Gives it and the text after its colon.
 #[inline(always)]
 fn name_at(text: &[u8]) -> Option<(&[u8], &[u8])>
     ensures { IfSome result (λ cut. ReadsKey text.now cut.0.now cut.1.now) }
@@ -59,7 +60,7 @@ fn name_at(text: &[u8]) -> Option<(&[u8], &[u8])>
     Some((name, &rest[1..]))
 }
 
-/// Whether a value that stands before the text has ended.
+/// Whether the text begins with a comma or a closing brace, so that a value before it has ended.
 #[inline(always)]
 fn is_ended(text: &[u8]) -> bool
     ensures { result ≡ is_ended text.now }
@@ -67,7 +68,7 @@ fn is_ended(text: &[u8]) -> bool
     !text.is_empty() && (text[0] == b',' || text[0] == b'}')
 }
 
-/// The text that a member holds, and what stands behind it.
+/// Reads a text value. Gives it and the text after it.
 #[inline(always)]
 fn text_at(text: &[u8]) -> Option<(&[u8], &[u8])>
     ensures { IfSome result (λ cut. Reads text.now cut.1.now (held.string cut.0.now)) }
@@ -79,7 +80,7 @@ fn text_at(text: &[u8]) -> Option<(&[u8], &[u8])>
     Some((inside, rest))
 }
 
-/// What stands behind a null.
+/// Reads a null. Gives the text after it.
 #[inline(always)]
 fn null_at(text: &[u8]) -> Option<&[u8]>
     ensures { IfSome result (λ rest. Reads text.now rest.now null) }
@@ -94,7 +95,7 @@ fn null_at(text: &[u8]) -> Option<&[u8]>
     Some(rest)
 }
 
-/// The number that the first digits of a text write, and how many they are.
+/// The number that the first digits write, and how many they are.
 #[inline(always)]
 fn digits(text: &[u8]) -> (u64, usize)
     ensures { HasDigits text.now result.0 result.1 }
@@ -108,7 +109,7 @@ fn digits(text: &[u8]) -> (u64, usize)
     (number, at)
 }
 
-/// The number that a text begins with, and what stands behind it.
+/// Reads a natural number. Gives it and the text after it.
 #[inline(always)]
 fn natural_at(text: &[u8]) -> Option<(u64, &[u8])>
     ensures ended { IfSome result (λ cut. is_ended cut.1.now ≡ true) }
@@ -125,7 +126,7 @@ fn natural_at(text: &[u8]) -> Option<(u64, &[u8])>
     Some((number, rest))
 }
 
-/// The integer that a member holds, and what stands behind it.
+/// Reads an integer value. Gives it and the text after it.
 #[inline(always)]
 fn integer_at(text: &[u8]) -> Option<(i64, &[u8])>
     ensures { IfSome result (λ cut. (num : Num) × Reads text.now cut.1.now (number num) × (as_i64 num ≡ Some cut.0)) }
@@ -141,7 +142,7 @@ fn integer_at(text: &[u8]) -> Option<(i64, &[u8])>
     Some((-(number as i64), rest))
 }
 
-/// What stands behind what a cell of this name may hold.
+/// Reads a value that a cell of this name can hold, or a null. Gives the text after it.
 #[inline(always)]
 fn cell_at<'a>(name: &[u8], text: &'a [u8]) -> Option<&'a [u8]>
     requires other { is_time name.now ≡ false }
@@ -171,7 +172,7 @@ fn is_time(name: &[u8]) -> bool
     name == b"time".as_slice()
 }
 
-/// The time that the row's time is, and what stands behind it.
+/// Reads the row's time. Gives it and the text after it.
 #[inline(always)]
 fn time_at(text: &[u8]) -> Option<(i64, &[u8])>
     ensures { IfSome result (λ cut. (d : Data) × Reads text.now cut.1.now d × (natural_of d ≡ Some cut.0)) }
@@ -183,10 +184,12 @@ fn time_at(text: &[u8]) -> Option<(i64, &[u8])>
     Some((time, rest))
 }
 
-/// The time behind the member of this name more, and what stands behind it, where it is fine.
+/// Reads the value of the member of this name. Gives the known time after it, and the text that follows. None if the
+/// value is not valid.
 #[inline(always)]
 fn member_at<'a>(time: Option<i64>, name: &[u8], text: &'a [u8]) -> Option<(Option<i64>, &'a [u8])>
-    ensures { IfSome result (λ cut. (d : Data) × Reads text.now cut.1.now d × IsFine name.now d × ((old : Members) → Knows time old → Knows cut.0 (put name.now d old))) }
+    ensures { IfSome result (λ cut. (d : Data) × Reads text.now cut.1.now d
+        × IsFine name.now d × ((old : Members) → Knows time old → Knows cut.0 (put name.now d old))) }
 {
     if is_time(name) {
         let (now, rest) = time_at(text)?;
@@ -199,9 +202,11 @@ fn member_at<'a>(time: Option<i64>, name: &[u8], text: &'a [u8]) -> Option<(Opti
     Some((time, rest))
 }
 
-/// The time of the members up to the brace that closes their object and ends the text, where each is fine and they are at most 1,024.
+/// Reads the members up to the closing brace, which ends the text, and gives their time. None unless each is valid and
+/// they are at most 1,024.
 fn members_time(text: &[u8]) -> Option<i64>
-    ensures { IfSome result (λ time. (all : Members) × (converted (λ ms. of_members ms no_members) (members (value 126) (length (tokens_from fresh text.now)) (tokens_from fresh text.now)) ≡ Some (all, [])) × AreOfRow time all) }
+    ensures { IfSome result (λ time. (all : Members) × (converted (λ ms. of_members ms no_members) (members (value 126)
+        (length (tokens_from fresh text.now)) (tokens_from fresh text.now)) ≡ Some (all, [])) × AreOfRow time all) }
 {
     let mut rest = text;
     let mut time = None;
@@ -226,7 +231,7 @@ fn members_time(text: &[u8]) -> Option<i64>
     None
 }
 
-/// The time of the row of the plainest form that a text is; None says nothing of the text.
+/// The time of the row that a text in plain form means. None says nothing of the text.
 pub(crate) fn plain_time(text: &[u8]) -> Option<i64>
     ensures { IfSome result (λ time. (all : Members) × (read text.now ≡ Some (object all)) × AreOfRow time all) }
 {

@@ -168,9 +168,11 @@ fn record_of(alloc: Global, bytes: &[u8]) -> Result<Flush, ReadError>
 /// Reads all of the bytes as one record: its table and its writes. None if they are no record.
 pub fn read_record(alloc: Global, bytes: &[u8]) -> Result<Option<Flush>, AllocError>
     // The bytes spell the record that is read.
-    ensures found { IfOk result (λ found. IfSome found (λ flush. IsRecord (record_is flush) × (bytes.now ≡ record_bytes (record_is flush)))) }
+    ensures found { IfOk result (λ found.
+        IfSome found (λ flush. IsRecord (record_is flush) × (bytes.now ≡ record_bytes (record_is flush)))) }
     // A record that the bytes spell is read, unless memory runs out.
-    ensures only { (r : LogRecord) → IsRecord r → bytes.now ≡ record_bytes r → IfOk result (λ found. option_map record_is found ≡ Some r) }
+    ensures only { (r : LogRecord) → IsRecord r
+        → bytes.now ≡ record_bytes r → IfOk result (λ found. option_map record_is found ≡ Some r) }
 {
     match record_of(alloc, bytes) {
         Ok(flush) => Ok(Some(flush)),

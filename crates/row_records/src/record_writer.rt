@@ -104,7 +104,8 @@ fn put_behind(out: &mut Vec<u8>, write: &Write) -> Result<(), AllocError>
 fn put_more(bytes: &mut Vec<u8>, write: &Write) -> Result<(), AllocError>
     requires gate { 0 < length bytes.old.items }
     requires write { IsWrite write.now }
-    ensures put { OnOk result (bytes.new.items ≡ take (length bytes.old.items - 1) bytes.old.items ++ write_kind write.now ∷ (said_bytes write.now ++ 0 ∷ [])) }
+    ensures put { OnOk result (bytes.new.items ≡ take
+        (length bytes.old.items - 1) bytes.old.items ++ write_kind write.now ∷ (said_bytes write.now ++ 0 ∷ [])) }
     ensures kept { OnErr result (bytes.new.items ≡ bytes.old.items) }
 {
     let gate = bytes.len() - 1;
@@ -117,7 +118,8 @@ fn put_more(bytes: &mut Vec<u8>, write: &Write) -> Result<(), AllocError>
 fn renumber(bytes: &mut [u8], name_len: usize, count: u64)
     requires { name_len + 18 ≤ length bytes.old }
     ensures len { length bytes.new ≡ length bytes.old }
-    ensures fields { (len head number writes : List ℕ) → bytes.old ≡ len ++ (head ++ (number ++ writes)) → length len ≡ 8 → length head ≡ name_len + 2 → length number ≡ 8
+    ensures fields { (len head number writes : List ℕ) → bytes.old ≡ len ++ (head ++ (number ++ writes))
+        → length len ≡ 8 → length head ≡ name_len + 2 → length number ≡ 8
         → bytes.new ≡ u64_bytes (length bytes.old - 9) ++ (head ++ (u64_bytes count ++ writes)) }
 {
     let len = bytes.len() as u64 - 9;
@@ -134,7 +136,8 @@ pub(crate) fn add_write(
 ) -> Result<(), AllocError>
     requires write { IsWrite write.now }
     requires room { name_len + 19 ≤ length bytes.old.items }
-    ensures added { (r : LogRecord) → bytes.old.items ≡ pending_bytes (Some r) → name_len ≡ length r.name → count ≡ length r.writes + 1 → OnOk result (bytes.new.items ≡ pending_bytes (Some (with_write write.now r))) }
+    ensures added { (r : LogRecord) → bytes.old.items ≡ pending_bytes (Some r) → name_len ≡ length r.name
+        → count ≡ length r.writes + 1 → OnOk result (bytes.new.items ≡ pending_bytes (Some (with_write write.now r))) }
     ensures kept { OnErr result (bytes.new.items ≡ bytes.old.items) }
 {
     put_more(bytes, write)?;

@@ -27,7 +27,8 @@ pub fn read_rows(
     // The rows that are read stand at the start of the bytes.
     ensures found { IfOk result (λ found. IfSome found (λ read. StandsInFront count bytes.now read.0 read.1)) }
     // Rows that stand there are read, unless memory runs out.
-    ensures only { (rows : List Row) (rest : List ℕ) → AllByRecursion IsRow rows → length rows ≡ count → bytes.now ≡ rows_bytes rows ++ rest
+    ensures only { (rows : List Row) (rest : List ℕ)
+        → AllByRecursion IsRow rows → length rows ≡ count → bytes.now ≡ rows_bytes rows ++ rest
         → IfOk result (λ found. MatchOption found ⊥ (λ read. (read.0 ≡ rows) × (read.1 ≡ length (rows_bytes rows)))) }
     // Each row takes ten bytes at least.
     ensures far { length bytes.now < 10 * count → result ≡ Ok None }

@@ -28,9 +28,6 @@ pub count_more : (a b c : Option (List ℕ)) (old new : List ℕ) (n k room all 
 count_more a b c old new n k room all so_far more is =
     (so_far.0 ++ more.bytes, consumes_more a b c so_far.0 more.bytes so_far.1 more.taken, length-append so_far.0 more.bytes ∙ omega (arith, so_far.2, more.count, is))
 
-pub count_kept : (a b c : Option (List ℕ)) (n : ℕ) → TakesCount a b n → Keeps b c → TakesCount a c n
-count_kept a b c n so_far kept = (so_far.0, consumes_kept a b c so_far.0 so_far.1 kept, so_far.2)
-
 -- one byte more than may be taken, behind a text of k bytes
 pub one_too_much : (before mid now : Option (List ℕ)) (old text new : List ℕ) (passed most k n room : ℕ) → k ≡ length old → Took before mid old text → TookMore mid now text new n room
     → passed + length text ≤ most → room ≤ most + 1 - passed - length text → most < passed + length new → TakesCount before now (most + 1 - passed - k)

@@ -1,4 +1,4 @@
--- What a status says to the one who ran the program.
+-- The text of a status.
 use Rattle.std.specs.Prelude.{ℕ, ◌==◌, List, [], ◌++◌, decimal, codes, if◌then◌else◌}
 use Rattle.serde_json.specs.Data.{string}
 use Rattle.serde_json.specs.Written.{compact_text}
@@ -10,11 +10,11 @@ use Rattle.text_faults.specs.declared.fault.Why.{Why}
 use Rattle.text_faults.specs.declared.fault.Why.TheVariants as why
 use Rattle.run_ends.specs.declared.status.Status.{Status}
 
--- a name of a cell as a JSON string, so that the text is one line whatever the name is
+-- the name of a cell as a JSON string: the text stays one line whatever the name is
 abbrev pub quoted : List ℕ → List ℕ
 quoted name = compact_text (string name)
 
--- what a cell may be
+-- the rule of a cell's value
 abbrev pub value_rule : List ℕ
 value_rule = codes " has no value that a cell may have; a cell is an integer of 64 bits, a text of at most 65535 bytes, or an array of at most 1024 texts"
 
@@ -28,7 +28,7 @@ row_cause (fault.Name name) = codes "no cell may have the name " ++ quoted name
 row_cause (fault.Value name) = quoted name ++ value_rule
 row_cause fault.NoMemory = codes "out of memory"
 
--- where in the text of a query
+-- the place in the text of a query
 abbrev pub at_byte : ℕ → List ℕ
 at_byte at = decimal at ++ codes " of its text, from 0"
 
@@ -39,7 +39,7 @@ query_cause query.NoTime = codes "the query has no range `time >= A AND time <= 
 query_cause (query.TooLarge at) = codes "the query has an integer out of its range at byte " ++ at_byte at
 query_cause query.NoMemory = codes "out of memory"
 
--- the forms of the commands
+-- the cause, and the forms of all commands
 abbrev pub with_forms : List ℕ → List ℕ
 with_forms cause = cause ++ codes "; the commands are fleet M P T.., add L T N, expire L T H, keep L T N, tail K T N, query TEXT, standing L TEXT, tell S, flush L T, drain L [stop N], kill L, start L, rollover [P], burst, lane, end"
 
@@ -59,11 +59,11 @@ cause_of (why.Row f) = row_cause f
 cause_of (why.Query f) = query_cause f
 cause_of why.NoBerth = codes "the fleet has more leaves than there are berths"
 
--- the line, where there is one, and the cause
+-- the cause, after the number of the line if there is one
 abbrev pub at_line : ℕ → List ℕ → List ℕ
 at_line line cause = if line == 0 then cause else codes "line " ++ (decimal line ++ (codes ": " ++ cause))
 
--- what the words may be
+-- the rule of the words
 abbrev pub words_rule : List ℕ
 words_rule = codes "the words are none of `scuba DIR count FROM TO`, `scuba DIR play`, `scuba DIR soak SEED ROWS` and `scuba DIR inspect L`; DIR is `mem` or a folder, FROM and TO are at most 9223372036854775807, ROWS is 8 to 800000, L is at most 255"
 

@@ -1,4 +1,4 @@
-// A status as one line for people.
+// The line on standard error that tells a status.
 ghost use Rattle.std.specs.Prelude.{◌≡◌, ◌≢◌, IfOk, string_bytes};
 ghost use Rattle.row_json.specs.declared.object.RowFault.TheVariants as fault;
 ghost use Rattle.run_ends.specs.Faults.{at_line, cause_of, fault_text, query_cause, quoted, row_cause, with_forms};
@@ -10,7 +10,7 @@ use serde_json::Value;
 use std::alloc::{AllocError, Global};
 use text_faults::Why;
 
-/// What a status other than Done says to the one who ran the program: one line, without its end.
+/// The text of a status other than Done: one line, without its line end. Err if memory runs out.
 pub fn fault_text(alloc: Global, status: &Status) -> Result<Text, AllocError>
     requires { status.now ≢ Status.Done }
     ensures { IfOk result (λ text. text ≡ fault_text status.now) }
@@ -29,7 +29,7 @@ pub fn fault_text(alloc: Global, status: &Status) -> Result<Text, AllocError>
     Ok(Text::of(text?))
 }
 
-/// The line, where there is one, and the cause.
+/// The cause, after the number of the line if there is one.
 fn at_line(alloc: Global, line: u64, cause: String) -> Result<String, AllocError>
     ensures { IfOk result (λ text. string_bytes text ≡ at_line line (string_bytes cause)) }
 {
@@ -69,7 +69,7 @@ fn cause_of(alloc: Global, why: &Why) -> Result<String, AllocError>
     }
 }
 
-/// A cause with the forms of the commands, for one who typed none of them.
+/// A cause, followed by the forms of all commands.
 fn with_forms(alloc: Global, cause: &str) -> Result<String, AllocError>
     ensures { IfOk result (λ text. string_bytes text ≡ with_forms cause.now) }
 {
@@ -102,7 +102,7 @@ fn row_cause(alloc: Global, fault: &RowFault) -> Result<String, AllocError>
     }
 }
 
-/// What is wrong with a query. Its bytes are counted from 0.
+/// What is wrong with a query. Bytes are counted from 0.
 fn query_cause(alloc: Global, fault: QueryFault) -> Result<String, AllocError>
     ensures { IfOk result (λ text. string_bytes text ≡ query_cause fault) }
 {

@@ -1,4 +1,4 @@
-//! How a run ends: its status and what that says to people, a source that is read whole, and a piece that is written whole.
+//! How a run ends: its status, the text of the status, and how a source is read whole and bytes are written whole.
 #![tactic(auto)]
 
 mod faults;

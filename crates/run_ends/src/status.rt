@@ -1,4 +1,4 @@
-// How a run ended.
+// The status of a run.
 ghost use Rattle.std.specs.Prelude.{◌≡◌};
 ghost use Rattle.run_ends.specs.Outcome.{read_status};
 ghost use Rattle.run_ends.specs.declared.status.Status.TheVariants.{NoMemory};
@@ -7,14 +7,14 @@ use crate::stream::ReadError;
 use std::alloc::AllocError;
 use text_faults::Why;
 
-/// How a run ended.
+/// The status of a run: Done, or the first cause that stopped it.
 #[derive(Debug, Drop)]
 pub enum Status {
-    /// All was read, done and written.
+    /// All was read, played and written.
     Done,
-    /// The words of the command line are no command.
+    /// The words of the command line are no request.
     Words,
-    /// The source's text is refused at a line, counted from 1; as too long at line 0.
+    /// The text of the source is refused at a line, from 1 on; at line 0 if it is too long.
     Script { line: u64, why: Why },
     /// The source failed.
     ReadFault,

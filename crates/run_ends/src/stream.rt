@@ -1,4 +1,4 @@
-// The whole of a source, and a whole piece into a sink.
+// Reads a whole source, and writes bytes whole.
 ghost use Rattle.std.specs.Prelude.{◌≡◌, ◌≤◌, ◌<◌, ◌+◌, ◌-◌, length, vec_len, IfOk, OnOk, OnErr, IsErrOf, IsTrue};
 ghost use Rattle.std.specs.Io.KnownBytes.{Appends, IsAtEnd, Keeps};
 ghost use Rattle.berth_face.specs.Causes.{Rose, HasCause};
@@ -8,13 +8,13 @@ ghost use Rattle.run_ends.specs.Source.{PassesAll, Took, TookMore};
 use berth_face::{Failed, Sink, Source};
 use std::alloc::{AllocError, Global};
 
-/// The most bytes that a source may have.
+/// The most bytes of a source.
 pub const LONGEST_TEXT: usize = 16_777_216;
 
-/// A piece of a text has so many bytes: a thread for each processor is then worth its start.
+/// The bytes of a piece: enough to make a thread for each processor worth its start.
 pub const PIECE: usize = 2_097_152;
 
-/// So many bytes are asked for at a time.
+/// The most bytes of one read.
 const CHUNK: usize = 65_536;
 
 #[derive(Clone, Copy, Debug, PartialEq, Eq)]
@@ -30,12 +30,14 @@ fn make_chunk(alloc: Global) -> Result<Vec<u8>, AllocError>
     vec![in alloc; 0u8; CHUNK]
 }
 
-/// All bytes of a source, unless they are too many. It stops at the first byte that is too much.
+/// Reads all bytes of a source. TooLong once it has a byte too many; it takes no byte after that.
 pub fn read_all<S: Source>(alloc: Global, source: &mut S) -> Result<Vec<u8>, ReadError>
     ensures read { IfOk result (λ text. ReadsAll (S.left source.old) (S.left source.new) text.items) }
     ensures small { IfOk result (λ text. vec_len text ≤ LONGEST_TEXT) }
-    ensures too_long { IsErrOf result ReadError.TooLong → TakesCount (S.left source.old) (S.left source.new) (LONGEST_TEXT + 1) }
-    ensures takes { ¬ IsErrOf result ReadError.TooLong → TakesAtMost (S.left source.old) (S.left source.new) LONGEST_TEXT }
+    ensures too_long { IsErrOf result ReadError.TooLong
+        → TakesCount (S.left source.old) (S.left source.new) (LONGEST_TEXT + 1) }
+    ensures takes { ¬ IsErrOf result ReadError.TooLong
+        → TakesAtMost (S.left source.old) (S.left source.new) LONGEST_TEXT }
     ensures failed { IsErrOf result ReadError.Failed → Rose (S.faults source.old) (S.faults source.new) }
     ensures later { S.faults source.old ≤ S.faults source.new }
 {
@@ -56,8 +58,8 @@ pub fn read_all<S: Source>(alloc: Global, source: &mut S) -> Result<Vec<u8>, Rea
     Err(ReadError::TooLong)
 }
 
-/// Adds the next bytes of a source to a text, behind so many that were taken before: a piece, or all that are left. It
-/// answers whether nothing is left, and stops at the first byte that is too much.
+/// Appends the next bytes of a source to `text`: a piece, or all that are left. `passed` bytes were taken before. Gives
+/// whether the source is at its end. TooLong once it has a byte too many; it takes no byte after that.
 pub fn read_piece<S: Source>(
     alloc: Global,
     source: &mut S,
@@ -69,8 +71,10 @@ pub fn read_piece<S: Source>(
     ensures ended { IfOk result (λ ended. IsTrue ended → IsAtEnd (S.left source.new)) }
     ensures more { IfOk result (λ ended. ¬ IsTrue ended → vec_len text.old + PIECE ≤ vec_len text.new) }
     ensures small { IfOk result (λ _. passed + vec_len text.new ≤ LONGEST_TEXT) }
-    ensures too_long { IsErrOf result ReadError.TooLong → TakesCount (S.left source.old) (S.left source.new) (LONGEST_TEXT + 1 - passed - vec_len text.old) }
-    ensures takes { ¬ IsErrOf result ReadError.TooLong → TakesAtMost (S.left source.old) (S.left source.new) (LONGEST_TEXT - passed - vec_len text.old) }
+    ensures too_long { IsErrOf result ReadError.TooLong
+        → TakesCount (S.left source.old) (S.left source.new) (LONGEST_TEXT + 1 - passed - vec_len text.old) }
+    ensures takes { ¬ IsErrOf result ReadError.TooLong
+        → TakesAtMost (S.left source.old) (S.left source.new) (LONGEST_TEXT - passed - vec_len text.old) }
     ensures failed { IsErrOf result ReadError.Failed → Rose (S.faults source.old) (S.faults source.new) }
     ensures later { S.faults source.old ≤ S.faults source.new }
 {
@@ -94,12 +98,14 @@ pub fn read_piece<S: Source>(
     Ok(false)
 }
 
-/// Takes what a source has left, behind so many bytes that were taken before, and keeps none of it.
+/// Reads a source to its end, and drops the bytes. `passed` bytes were taken before.
 pub fn pass_rest<S: Source>(alloc: Global, source: &mut S, passed: usize) -> Result<(), ReadError>
     requires { passed ≤ LONGEST_TEXT }
     ensures read { OnOk result (PassesAll (S.left source.old) (S.left source.new) (LONGEST_TEXT - passed)) }
-    ensures too_long { IsErrOf result ReadError.TooLong → TakesCount (S.left source.old) (S.left source.new) (LONGEST_TEXT + 1 - passed) }
-    ensures takes { ¬ IsErrOf result ReadError.TooLong → TakesAtMost (S.left source.old) (S.left source.new) (LONGEST_TEXT - passed) }
+    ensures too_long { IsErrOf result ReadError.TooLong
+        → TakesCount (S.left source.old) (S.left source.new) (LONGEST_TEXT + 1 - passed) }
+    ensures takes { ¬ IsErrOf result ReadError.TooLong
+        → TakesAtMost (S.left source.old) (S.left source.new) (LONGEST_TEXT - passed) }
     ensures failed { IsErrOf result ReadError.Failed → Rose (S.faults source.old) (S.faults source.new) }
     ensures later { S.faults source.old ≤ S.faults source.new }
 {
@@ -123,14 +129,15 @@ pub fn pass_rest<S: Source>(alloc: Global, source: &mut S, passed: usize) -> Res
     Err(ReadError::TooLong)
 }
 
-/// Takes the next bytes of a source, and adds them to a text. Memory comes first, so that no byte is lost.
+/// Appends the bytes of one read to `text`. Memory is taken first, so that no byte is lost.
 fn take_more<S: Source>(
     source: &mut S,
     room: &mut [u8],
     text: &mut Vec<u8>,
 ) -> Result<usize, ReadError>
     requires { 0 < length room.old }
-    ensures took { IfOk result (λ n. TookMore (S.left source.old) (S.left source.new) text.old.items text.new.items n (length room.old)) }
+    ensures took { IfOk result (λ n.
+        TookMore (S.left source.old) (S.left source.new) text.old.items text.new.items n (length room.old)) }
     ensures end { IfOk result (λ n. n ≡ 0 → IsAtEnd (S.left source.new)) }
     ensures err { OnErr result (Keeps (S.left source.old) (S.left source.new)) }
     ensures not_long { ¬ IsErrOf result ReadError.TooLong }
@@ -147,7 +154,7 @@ fn take_more<S: Source>(
     Ok(count)
 }
 
-/// Writes a whole piece.
+/// Writes all bytes. After Err a prefix of them was written.
 pub fn write_all<K: Sink>(piece: &[u8], sink: &mut K) -> Result<(), Failed>
     ensures written { OnOk result (Appends (K.written sink.old) (K.written sink.new) piece.now) }
     ensures front { WritesFront (K.written sink.old) (K.written sink.new) piece.now }

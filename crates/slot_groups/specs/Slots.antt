@@ -1,4 +1,4 @@
--- Rows that stand in slots.
+-- Rows in slots.
 use Rattle.std.specs.Prelude.{ℕ, zero, suc, nat_lt, ◌==◌, List, [], ◌∷◌, filter}
 use Rattle.leaf_model.specs.declared.rows.Row.{Row}
 use Rattle.leaf_model.specs.declared.queries.Query.{Query}
@@ -11,16 +11,16 @@ use Rattle.group_table.specs.Joined.{joined}
 abbrev pub below : (Row → ℕ) → ℕ → List Row → List Row
 below slot n rows = filter (λ row. nat_lt (slot row) n) rows
 
--- the rows in one slot
+-- the rows in slot n
 abbrev pub in_slot : (Row → ℕ) → ℕ → List Row → List Row
 in_slot slot n rows = filter (λ row. slot row == n) rows
 
--- the groups of the first n slots, joined one after another
+-- the groups of each of the first n slots, joined
 abbrev pub classes : Query → (Row → ℕ) → List Row → ℕ → List Group
 classes q slot rows zero = []
 classes q slot rows (suc n) = joined (classes q slot rows n) (groups q (in_slot slot n rows))
 
--- the one group of rows that have one list of keys, or none where there are no rows
+-- the group of rows with these keys; none if there are no rows
 abbrev pub class_group : Query → List Key → List Row → List Group
 class_group q keys [] = []
 class_group q keys (row ∷ rows) = group_of q keys (row ∷ rows) ∷ []

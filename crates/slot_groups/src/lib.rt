@@ -1,4 +1,4 @@
-//! Law of slots: the groups of rows that stand in slots are those of each slot, joined.
+//! The law of slots: the groups of rows are those of the rows in each slot, joined.
 #![tactic(auto)]
 
 mod laws;

@@ -1,14 +1,14 @@
--- The cells of hosts, which stand ready for the rows.
+-- The cells of all hosts, made once for all rows.
 use Rattle.std.specs.Prelude.{◌≡◌, ℕ, ◌+◌, ◌*◌, ◌<◌, ℤ, pos, List, [], length, slice_index_or, codes}
 use Rattle.leaf_model.specs.declared.rows.Cell.{Cell}
 use Rattle.leaf_model.specs.declared.rows.Value.TheVariants.{Int}
 use Rattle.soak.specs.Soak.{host_cell}
 
--- a cell of a code
+-- the cell of a code
 abbrev pub coded : ℤ → Cell
 coded n = record { name = codes "code"; value = Int n }
 
--- of each of so many hosts a cell of some code, and its own
+-- for each host a cell of some code, and the cell of the host
 pub record AreFirst (hosts : ℕ) (cells : List Cell) : Type 0 where
   pub counted : length cells ≡ 2 * hosts
   pub code : (k : ℕ) → k < hosts → (slice_index_or cells (2 * k) (coded (pos 0))).name ≡ codes "code"

@@ -17,11 +17,11 @@ use Rattle.script_text.specs.declared.script.Script.{Script}
 abbrev pub events : List ℕ
 events = codes "events"
 
--- the generator that a seed starts
+-- the generator of a seed
 abbrev pub generator : ℕ → Lcg
 generator seed = started 64 multiplier_64 seed (increment_of 64 0)
 
--- the generator behind k of its words
+-- the generator after k words
 abbrev pub generator_behind : ℕ → ℕ → Lcg
 generator_behind seed k = advance 64 multiplier_64 k (generator seed)
 
@@ -29,19 +29,19 @@ generator_behind seed k = advance 64 multiplier_64 k (generator seed)
 abbrev pub word : ℕ → ℕ → ℕ
 word seed k = (pcg32 (generator_behind seed k)).0
 
--- a row's code, by its second word: every fourth word leaves it out
+-- the code of a row, by its second word v; a multiple of 4 leaves it out
 abbrev pub code_cells : ℕ → List Cell
 code_cells v = if v % 4 == 0 then [] else record { name = codes "code"; value = Int (pos (v % 600)) } ∷ []
 
--- a row's host, by its first word
+-- the host of a row, by its first word u
 abbrev pub host_cell : ℕ → Cell
 host_cell u = record { name = codes "host"; value = Text (codes "h" ++ decimal (u % 50)) }
 
--- row i, of its two words
+-- row i, by its two words
 abbrev pub row_with : ℕ → ℕ → ℕ → Row
 row_with i u v = record { time = pos i; cells = code_cells v ++ host_cell u ∷ [] }
 
--- row i of a seed: each row before it has drawn two words
+-- row i of a seed: each row before it took two words
 unfoldable pub row_at : ℕ → ℕ → Row
 row_at seed i = row_with i (word seed (2 * i)) (word seed (2 * i + 1))
 
@@ -49,11 +49,11 @@ row_at seed i = row_with i (word seed (2 * i)) (word seed (2 * i + 1))
 abbrev pub rows_between : ℕ → ℕ → ℕ → List Row
 rows_between seed from to = map (row_at seed) (range_with_len from (to - from))
 
--- the number of the first of so many rows that is not a leaf's before this one, of eight
+-- the number of the first row of a leaf, if eight leaves share these rows
 abbrev pub first_row : ℕ → ℕ → ℕ
 first_row rows leaf = leaf * rows / 8
 
--- the add of a leaf's share of so many rows
+-- the add of a leaf's share of the rows
 abbrev pub add_of : ℕ → ℕ → ℕ → Item
 add_of seed rows leaf = One (command.Add leaf 0 (rows_between seed (first_row rows leaf) (first_row rows (leaf + 1))))
 
@@ -73,8 +73,8 @@ both_queries z = One (command.Query (count_query z)) ∷ One (command.Query (hos
 abbrev pub fleet : Item
 fleet = One (command.Fleet 2 4 (events ∷ []))
 
--- Each leaf gets its share of the rows, both queries are asked, every leaf is restarted in waves of at most half of them, and both are asked again.
--- The last row's time is the greatest.
+-- Each of eight leaves gets its share of the rows. Both queries are asked, all leaves are restarted in waves of at most
+-- half of them, and both queries are asked again. The time of the last row is the greatest.
 unfoldable pub soak_script : ℕ → ℕ → Script
 soak_script seed rows =
     record { fleet_line = 0; items = fleet ∷ map (add_of seed rows) (range_with_len 0 8) ++ both_queries (rows - 1) ++ One (command.Rollover 50) ∷ both_queries (rows - 1); standings = 0 }

@@ -1,4 +1,4 @@
-// Rows that are drawn one after another.
+// Draws the rows of a soak, one after another.
 ghost use Rattle.std.specs.Prelude.{◌≡◌, ◌+◌, ◌-◌, ◌*◌, ◌^◌, ◌<◌, ◌≤◌, IfOk};
 ghost use Rattle.soak.specs.Hosts.{AreHosts};
 ghost use Rattle.soak.specs.Soak.{generator_behind, row_at, row_with, rows_between};
@@ -9,7 +9,7 @@ use rand_core::utils::NextWord;
 use rand_pcg::Lcg64Xsh32;
 use std::alloc::{AllocError, Global};
 
-/// The rows of a seed in their order: what the generator is behind those that were drawn, and the number of the next one.
+/// The rows of a seed: the number of the next row, and the generator after the words of the rows before it.
 #[derive(Drop)]
 pub struct Draw {
     seed: u64,
@@ -30,7 +30,7 @@ impl Draw {
         }
     }
 
-    /// The two words of the next row, which counts as drawn.
+    /// The two words of the next row, which then counts as drawn.
     fn words(&mut self) -> (u32, u32)
         requires { self.old.next + 1 < 2 ^ 32 }
         ensures seed { self.new.seed ≡ self.old.seed }
@@ -43,7 +43,7 @@ impl Draw {
         (host, code)
     }
 
-    /// The same, where the cells of each host stand ready.
+    /// Draws the rows up to but without row `end`. `cells` has the cells of each host.
     fn drawn(
         &mut self,
         alloc: Global,
@@ -65,7 +65,7 @@ impl Draw {
         Ok(rows)
     }
 
-    /// The rows from the next one up to but without the row of this number.
+    /// Draws the rows from the next one up to but without row `end`. Err if memory runs out.
     pub fn rows(&mut self, alloc: Global, end: u32) -> Result<Rows, AllocError>
         requires order { self.old.next ≤ end }
         requires few { end - self.old.next ≤ 100000 }

@@ -1,4 +1,4 @@
-//! The script of a soak, which a seed decides.
+//! The script of a soak, which a seed and a number of rows decide.
 #![tactic(auto)]
 
 mod draw;

@@ -1,4 +1,4 @@
-// The script of a soak.
+// Makes the script of a soak.
 ghost use Rattle.std.specs.Prelude.{◌≡◌, ◌++◌, ◌+◌, ◌≤◌, ◌∷◌, [], IfOk, map};
 ghost use Rattle.std.specs.List.{range_with_len};
 ghost use Rattle.script_text.specs.Fits.{IsScript};
@@ -10,17 +10,17 @@ use crate::texts::one_name;
 use script_text::{Command, Item, Items, Script};
 use std::alloc::{AllocError, Global};
 
-/// How many machines the fleet has.
+/// The machines of the fleet.
 const MACHINES: u32 = 2;
 
-/// How many leaves each machine has.
+/// The leaves of each machine.
 const PER_MACHINE: u32 = 4;
 
-/// The most percent of the leaves that restart in one wave.
+/// The most leaves that restart in one wave, in percent.
 const PERCENT: u32 = 50;
 
-/// The script that a soak of this seed plays, with so many rows: an add for each of eight leaves, and two queries before a
-/// rollover and after it. It stands on no line of a text. Fails only for want of memory.
+/// The script of a soak with this seed: an add to each of eight leaves, `rows` rows in all, and two queries before and
+/// after a rollover. No command has a line of a text. Err if memory runs out.
 pub fn script(alloc: Global, seed: u64, rows: u32) -> Result<Script, AllocError>
     requires some { 8 ≤ rows }
     requires few { rows ≤ 800000 }
@@ -38,7 +38,7 @@ pub fn script(alloc: Global, seed: u64, rows: u32) -> Result<Script, AllocError>
     })
 }
 
-/// The fleet, and the add of each leaf.
+/// The fleet, and an add to each leaf.
 fn adds(alloc: Global, seed: u64, rows: u32) -> Result<Vec<Item>, AllocError>
     requires { rows ≤ 800000 }
     ensures { IfOk result (λ items. items.items ≡ fleet ∷ map (add_of seed rows) (range_with_len 0 8)) }
@@ -61,7 +61,7 @@ fn adds(alloc: Global, seed: u64, rows: u32) -> Result<Vec<Item>, AllocError>
     Ok(items)
 }
 
-/// The number of the first row that is none of the leaves' before this one.
+/// The number of the first row of this leaf.
 fn first_row(rows: u32, leaf: u32) -> u32
     requires rows { rows ≤ 800000 }
     requires leaf { leaf ≤ 8 }

@@ -7,10 +7,10 @@ use leaf_model::{Agg, Aggs, Conds, Names, Query};
 use script_text::{Command, Item};
 use std::alloc::{AllocError, Global};
 
-/// The most lines of an answer, where a query does not say.
+/// The most lines of an answer, if a query names no limit.
 const USUAL_LIMIT: u32 = 100_000;
 
-/// The items, and both queries over the times from 0 to this one.
+/// Appends both queries, over the times from 0 to `last`.
 pub fn push_queries(alloc: Global, items: &mut Vec<Item>, last: u32) -> Result<(), AllocError>
     ensures { IfOk result (λ _. items.new.items ≡ items.old.items ++ both_queries last) }
 {
@@ -19,7 +19,7 @@ pub fn push_queries(alloc: Global, items: &mut Vec<Item>, last: u32) -> Result<(
     Ok(())
 }
 
-/// How many rows there are, and the least and the greatest time.
+/// Asks for the number of rows, the least and the greatest time.
 fn count_query(alloc: Global, last: u32) -> Result<Query, AllocError>
     ensures { IfOk result (λ query. query ≡ count_query last) }
 {
@@ -39,7 +39,7 @@ fn count_query(alloc: Global, last: u32) -> Result<Query, AllocError>
     })
 }
 
-/// The five hosts with the most rows, and what their codes come to.
+/// Asks for the five hosts with the most rows, and the sum of the codes of each.
 fn host_query(alloc: Global, last: u32) -> Result<Query, AllocError>
     ensures { IfOk result (λ query. query ≡ host_query last) }
 {

@@ -1,4 +1,4 @@
-// Rows from the two words that each draws: their cells stand ready for each host, and only the code is written anew.
+// Makes a row of its two words. The cells of each host are made once, and only the code is written anew.
 ghost use Rattle.std.specs.Prelude.{◌≡◌, ◌++◌, ◌*◌, ◌<◌, ◌%◌, ◌∷◌, [], pos, slice_index_or, IfOk, OnOk, codes, decimal};
 ghost use Rattle.leaf_model.specs.Values.{IsRow};
 ghost use Rattle.soak.specs.Hosts.{AreHosts, coded};
@@ -9,13 +9,13 @@ use itoa::Buffer;
 use leaf_model::{Cell, LentCells, LentRow, PackedRows, Text, Value};
 use std::alloc::{AllocError, Global};
 
-/// How many hosts there are.
+/// The number of hosts.
 const HOSTS: u32 = 50;
 
-/// How many codes there are.
+/// The number of codes.
 const CODES: u32 = 600;
 
-/// A cell of a code.
+/// A cell `code`, with the value 0.
 fn code_cell(alloc: Global) -> Result<Cell, AllocError>
     ensures { IfOk result (λ cell. cell ≡ coded (pos 0)) }
 {
@@ -25,7 +25,7 @@ fn code_cell(alloc: Global) -> Result<Cell, AllocError>
     })
 }
 
-/// The cell of a host.
+/// The cell `host` of a host.
 fn host_cell(alloc: Global, host: u32) -> Result<Cell, AllocError>
     requires { host < 50 }
     ensures { IfOk result (λ cell. cell ≡ host_cell host) }
@@ -44,7 +44,7 @@ fn host_name(alloc: Global, number: u32) -> Result<Text, AllocError>
     Ok(Text::of(name))
 }
 
-/// The cells of each host: a code, and the host.
+/// For each host a cell `code`, and its cell `host`.
 pub fn each_host(alloc: Global) -> Result<Vec<Cell>, AllocError>
     ensures { IfOk result (λ cells. AreHosts cells.items) }
 {
@@ -56,7 +56,7 @@ pub fn each_host(alloc: Global) -> Result<Vec<Cell>, AllocError>
     Ok(cells)
 }
 
-/// Writes the code of a word beside a host.
+/// Writes the code of a word into the cell before that of the host.
 fn set_code(cells: &mut [Cell], host: u32, code: u32)
     requires { AreHosts cells.old }
     ensures hosts { AreHosts cells.new }
@@ -65,7 +65,7 @@ fn set_code(cells: &mut [Cell], host: u32, code: u32)
     cells[2 * (host % HOSTS) as usize].value = Value::Int(i64::from(code % CODES));
 }
 
-/// The cells of a row: every fourth word leaves the code out.
+/// The cells of a row. If the word is a multiple of 4, the code is left out.
 fn cells_of(cells: &[Cell], host: u32, code: u32) -> &[Cell]
     requires hosts { AreHosts cells.now }
     requires code { slice_index_or cells.now (2 * (host % 50)) (coded (pos 0)) ≡ coded (pos (code % 600)) }
@@ -79,7 +79,7 @@ fn cells_of(cells: &[Cell], host: u32, code: u32) -> &[Cell]
     }
 }
 
-/// Puts the row of this number, of its two words, behind the others.
+/// Appends the row with this number and these two words.
 pub fn put_row(
     rows: &mut PackedRows,
     cells: &mut [Cell],

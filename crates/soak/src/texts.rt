@@ -1,10 +1,10 @@
-// Texts and names of their own.
+// Owned texts and names.
 ghost use Rattle.std.specs.Prelude.{◌≡◌, ◌∷◌, [], IfOk};
 
 use leaf_model::{Names, Text};
 use std::alloc::{AllocError, Global};
 
-/// A text of its own.
+/// An owned copy. Err if memory runs out.
 pub fn text(alloc: Global, name: &str) -> Result<Text, AllocError>
     ensures { IfOk result (λ text. text ≡ name.now) }
 {

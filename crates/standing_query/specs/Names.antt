@@ -3,10 +3,10 @@ use Rattle.std.specs.Prelude.{ℕ, Bool, List, not, bytes_eq}
 use Rattle.std.specs.List.{list_any}
 use Rattle.leaf_model.specs.Values.{time_name}
 
--- a name stands in a list
+-- the name is in the list
 abbrev pub has : List ℕ → List (List ℕ) → Bool
 has n names = list_any (bytes_eq n) names
 
--- a cell's name, and not `time`
+-- any name but `time`
 abbrev pub is_cell : List ℕ → Bool
 is_cell n = not (bytes_eq n time_name)

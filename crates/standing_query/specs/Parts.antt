@@ -12,7 +12,7 @@ use Rattle.standing_query.specs.declared.fed.Fed.{Fed}
 use Rattle.standing_query.specs.declared.fed.Fed.TheVariants.{Added, Expired}
 use Rattle.standing_query.specs.Spread.{spread, time_in}
 
--- the groups of all parts
+-- the groups of all parts, merged
 abbrev pub all_joined : List (List Group) → List Group
 all_joined [] = []
 all_joined (part ∷ parts) = joined part (all_joined parts)
@@ -21,18 +21,18 @@ abbrev pub AreParts : Query → List Row → List (List Group) → Type 0
 AreParts q rows [] = rows ≡ []
 AreParts q rows (part ∷ parts) = (front : List Row) × (behind : List Row) × (rows ≡ front ++ behind) × (part ≡ groups q front) × AreParts q behind parts
 
--- the spread of some query
+-- a query that is the spread of some query
 pub record SpreadsSome (s : Query) : Type 0 where
   pub query : Query
   pub is : s ≡ spread query
 
--- parts of these rows, which are so few that their groups fit
+-- the parts of these rows, which are few enough for their groups to fit
 pub record Holds (q : Query) (parts : List (List Group)) (most : ℕ) (rows : List Row) : Type 0 where
   pub are : AreParts q rows parts
   pub few : length rows ≤ most
   pub bound : most ≤ 2 ^ 62
 
--- parts of some rows, of which nothing but their number is told
+-- the parts of some rows, by a query that only counts them
 pub record AreCounted (parts : List (List Group)) : Type 0 where
   pub query : Query
   pub counts : query.aggs ≡ Count ∷ []
@@ -40,7 +40,7 @@ pub record AreCounted (parts : List (List Group)) : Type 0 where
   pub are : AreParts query rows parts
   pub few : length rows ≤ 2 ^ 62
 
--- the groups whose time is not below the horizon
+-- the groups whose time is at or after the horizon
 abbrev pub groups_from : ℤ → List Group → List Group
 groups_from horizon gs = filter (λ (g : Group). int_le horizon (time_in g.keys)) gs
 
@@ -58,13 +58,13 @@ begins_from horizon (g ∷ gs) = int_le horizon (time_in g.keys)
 abbrev pub IsCut : List Row → ℕ → List Row → Type 0
 IsCut rows late kept = (h : ℤ) → late + length (rows_from h rows) ≡ length rows → kept ≡ rows_from h rows
 
--- what an entry makes of the rows that are held, as long as it is known which these are
+-- the rows after an entry, if they are still known
 abbrev pub GoesOn : Fed → List Row → List Row → Type 0
 GoesOn (Added rows late) before now = (kept : List Row) × IsCut rows late kept × (now ≡ before ++ kept)
 GoesOn (Expired horizon) before now = now ≡ rows_from horizon before
 GoesOn _ before now = now ≡ before
 
--- what holds of a state's fields
+-- the invariant of a state's fields
 pub record IsKept (q s : Query) (stale : Bool) (most : ℕ) (parts : List (List Group)) (capacity : ℕ) : Type 0 where
   pub of : s ≡ spread q
   pub none : stale ≡ true → parts ≡ []

@@ -1,4 +1,5 @@
--- A query that is told from the groups of another, which keeps the time and each cell that the first one reads.
+-- The spread of a query: a query that keeps the time and each cell that the first one reads. Its groups decide those of
+-- the first.
 use Rattle.std.specs.Prelude.{◌≡◌, ℕ, ◌-◌, ◌^◌, List, [], ◌∷◌, ◌++◌, map, replicate, ℤ, pos, Option, Some, None, bytes_eq, if◌then◌else◌}
 use Rattle.std.specs.List.{AllByRecursion, flat_map}
 use Rattle.std.specs.BTreeSet.{insert_key}
@@ -25,7 +26,7 @@ agg_names (Min name) = name ∷ []
 agg_names (Max name) = name ∷ []
 agg_names (Avg name) = name ∷ []
 
--- those of its conditions, keys and aggregates
+-- the names that conditions, keys and aggregates read
 abbrev pub names_read : Query → List (List ℕ)
 names_read q = map (λ (c : Cond). c.name) q.conds ++ (q.keys ++ flat_map agg_names q.aggs)
 
@@ -40,11 +41,11 @@ cells_read q = names_before (names_read q) []
 
 -- ---- the spread of a query
 
--- how many rows there are of each time with these cells
+-- the query that counts the rows of each time and each list of these cells
 abbrev pub spread : Query → Query
 spread q = record { table = q.table; from = pos 0; to = pos (2 ^ 63 - 1); conds = []; keys = time_name ∷ cells_read q; aggs = Count ∷ []; order = None; limit = 100000 }
 
--- ---- and back
+-- ---- from the spread back to the query
 
 abbrev pub value_shown : Key → Option Value
 value_shown key.Missing = None
@@ -56,7 +57,7 @@ abbrev pub time_shown : Key → ℤ
 time_shown (key.Int n) = n
 time_shown other = pos 0
 
--- a cell under its name, or none
+-- the cell of a name and a value; none without a value
 abbrev pub cell_under : List ℕ → Option Value → List Cell
 cell_under name None = []
 cell_under name (Some v) = record { name = name; value = v } ∷ []
@@ -66,7 +67,7 @@ cells_shown [] keys = []
 cells_shown (n ∷ ns) [] = []
 cells_shown (n ∷ ns) (k ∷ ks) = cell_under n (value_shown k) ++ cells_shown ns ks
 
--- the time comes first
+-- the time in a list of keys: it comes first
 abbrev pub time_in : List Key → ℤ
 time_in [] = pos 0
 time_in (k ∷ ks) = time_shown k
@@ -75,18 +76,18 @@ abbrev pub cells_in : List (List ℕ) → List Key → List Cell
 cells_in names [] = []
 cells_in names (k ∷ ks) = cells_shown names ks
 
--- the row that keys show: its time, and then the cells of these names
+-- the row that keys stand for: its time, and the cells of these names
 abbrev pub row_shown : List (List ℕ) → List Key → Row
 row_shown names keys = record { time = time_in keys; cells = cells_in names keys }
 
--- the rows that groups stand for: of each as many as its count
+-- the rows that groups stand for: each as often as its count says
 abbrev pub rows_shown : List (List ℕ) → List Group → List Row
 rows_shown names gs = flat_map (λ (g : Group). replicate g.count (row_shown names g.keys)) gs
 
--- the groups of a query out of those of its spread
+-- the groups of a query, from those of its spread
 abbrev pub back : Query → List Group → List Group
 back q gs = groups q (rows_shown (cells_read q) gs)
 
--- the spread of a query tells all that the query asks of rows
+-- the groups of the spread decide those of the query
 abbrev pub IsEnough : Type 0
 IsEnough = (q : Query) (rows : List Row) → AllByRecursion (λ (row : Row). IsTime row.time) rows → back q (groups (spread q) rows) ≡ groups q rows

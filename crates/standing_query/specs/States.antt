@@ -9,24 +9,25 @@ use Rattle.standing_query.specs.declared.fed.Fed.{Fed}
 use Rattle.standing_query.specs.declared.fed.Fed.TheVariants.{Added, Expired, Kept, Opened, Closed, Other}
 use Rattle.standing_query.specs.Spread.{spread}
 
--- a query, the number of the last entry that was fed, whether it is unknown which rows there are, and the groups of the spread
+-- the query, the number of the last entry that was fed, whether the rows are unknown, and the groups of the spread
 pub record StandingState : Type 0 where
   pub query : Query
   pub upto : ℕ
   pub stale : Bool
   pub groups : List Group
 
--- a fresh state stands for these rows
+-- a fresh state has the groups of these rows
 abbrev pub Means : StandingState → List Row → Type 0
 Means s rows = (s.stale ≡ false) × (s.groups ≡ groups (spread s.query) rows)
 
--- what an entry makes of rows: an add adds those that are not below a horizon, where so many are late; an expiry removes those below its own
+-- the rows after an entry: an add appends the rows that are not below some horizon, with exactly `late` rows below it;
+-- an expiry removes those below its own
 abbrev pub FedTo : Fed → List Row → List Row → Type 0
 FedTo (Added rows late) before now = (h : ℤ) × (late + length (rows_from h rows) ≡ length rows) × (now ≡ before ++ rows_from h rows)
 FedTo (Expired horizon) before now = now ≡ rows_from horizon before
 FedTo _ before now = now ≡ before
 
--- behind an opening, a closing and a keep that removed rows it is unknown which rows there are
+-- the entry leaves the rows unknown: an opening, a closing, or a keep that removed rows
 abbrev pub is_end : Fed → Bool
 is_end Opened = true
 is_end Closed = true
@@ -44,7 +45,7 @@ abbrev pub TakesMemory : Fed → Type 0
 TakesMemory (Added rows late) = late < length rows
 TakesMemory _ = ⊥
 
--- the groups of a query's spread over at most 2^40 rows
+-- the groups of the query's spread, over at most 2^40 rows
 pub record IsSpread (q : Query) (gs : List Group) : Type 0 where
   pub rows : List Row
   pub few : length rows ≤ 2 ^ 40

@@ -1,4 +1,4 @@
--- The groups of a row that stands there several times: the numbers so many times, the least and the greatest as they are.
+-- The groups of a row that stands there several times: counts and sums are multiplied, the least and the greatest stay.
 use Rattle.std.specs.Prelude.{ℕ, ◌*◌, map, pos, ◌*ℤ◌}
 use Rattle.leaf_model.specs.declared.groups.Fold.{Fold}
 use Rattle.leaf_model.specs.declared.groups.Group.{Group}

@@ -4,8 +4,8 @@ ghost use Rattle.standing_query.specs.States.{is_idle};
 
 use leaf_model::Rows;
 
-/// What an entry of a table's history tells: rows that were added, of which so many with the least times were late; a horizon below which rows
-/// expired; how many rows a keep removed; that the table was opened or closed; or nothing of its rows.
+/// What an entry tells of its table's rows: rows that were added, of which `late` with the least times were late; a
+/// horizon below which rows expired; how many rows a keep removed; that the table was opened or closed; or nothing.
 #[derive(Drop)]
 pub enum Fed {
     Added { rows: Rows, late: u64 },

@@ -1,4 +1,4 @@
-// Which rows of an add stay: all but so many with the least times.
+// Finds which rows of an add stay: all but the `late` rows with the least times.
 ghost use Rattle.std.specs.Prelude.{◌≡◌, ◌<◌, ◌≤◌, map, length, IfOk, IsPermutation, IsSorted};
 ghost use Rattle.std.specs.Ordering.{int_cmp};
 ghost use Rattle.std.specs.Vec.{vec_len};
@@ -38,7 +38,7 @@ fn retain_from(rows: &mut Vec<Row>, time: &i64)
     rows.retain(|row| row.time >= *time);
 }
 
-/// The rows without the late ones, where so many are those below some horizon.
+/// The rows without the late ones, if some horizon has exactly `late` rows below it. Err if memory runs out.
 pub fn without_late(alloc: Global, mut rows: Vec<Row>, late: u64) -> Result<Vec<Row>, AllocError>
     requires { late < vec_len rows }
     ensures { IfOk result (λ kept. IsCut rows.items late kept.items) }

@@ -1,7 +1,7 @@
-// What holds of a query and its spread.
+// The law of a query and its spread.
 ghost use Rattle.standing_query.specs.Spread.{IsEnough};
 
-/// The groups of a query are told by those of its spread, for all rows.
+/// No-op; states that the groups of the spread decide those of the query, for all rows.
 pub fn spread_is_enough()
     ensures { IsEnough }
 {}

@@ -14,10 +14,11 @@ use group_table::{fold_rows, merge};
 use leaf_model::{Groups, LentRows, Query, Row, Rows};
 use std::alloc::{AllocError, Global};
 
-/// More rows than this are not added to the parts, so that their groups fit.
+/// The most rows of all parts, so that their groups fit.
 const MOST_ROWS: u64 = 1 << 62;
 
-/// Groups in parts, of at most so many rows. Each had more than twice as many groups as the next one had when that came.
+/// Groups in parts, of at most `rows` rows together. When a part was appended, the one before it had more than twice as
+/// many groups.
 #[derive(Drop)]
 pub struct Parts {
     pub list: Vec<Part>,
@@ -83,7 +84,7 @@ pub fn are_empty(parts: &[Part]) -> bool
 }
 
 impl Parts {
-    /// No part, and room for one.
+    /// No part, with room for one. Err if memory runs out.
     pub fn new(alloc: Global) -> Result<Parts, AllocError>
         ensures list { IfOk result (λ parts. parts.list.items ≡ []) }
         ensures rows { IfOk result (λ parts. parts.rows ≡ 0) }
@@ -95,7 +96,7 @@ impl Parts {
         })
     }
 
-    /// One part, of at most 2^40 rows, in the room of those that were there.
+    /// Replaces all parts by one, of at most 2^40 rows, without memory.
     pub fn settle(&mut self, groups: Groups)
         requires { 0 < vec_capacity self.old.list }
         ensures list { self.new.list.items ≡ groups ∷ [] }
@@ -107,7 +108,7 @@ impl Parts {
         self.rows = 1 << 40;
     }
 
-    /// No part is left; the room stays.
+    /// Removes all parts. Their room stays allocated.
     pub fn clear(&mut self)
         ensures list { self.new.list.items ≡ [] }
         ensures rows { self.new.rows ≡ 0 }
@@ -117,7 +118,7 @@ impl Parts {
         self.rows = 0;
     }
 
-    /// Rows behind those that are held.
+    /// Appends rows to those that are held.
     fn put(&mut self, spread: &Query, rows: &[Row]) -> Result<(), AllocError>
         requires of { SpreadsSome spread.now }
         requires held { (before : List Row) × Holds spread.now self.old.list.items self.old.rows before }
@@ -135,7 +136,7 @@ impl Parts {
         Ok(())
     }
 
-    /// Adds rows without the late ones.
+    /// Appends the rows that are not late.
     fn add(&mut self, spread: &Query, rows: Rows, late: u64) -> Result<(), AllocError>
         requires of { SpreadsSome spread.now }
         requires held { (before : List Row) × Holds spread.now self.old.list.items self.old.rows before }
@@ -152,7 +153,7 @@ impl Parts {
         self.put(spread, kept.as_slice())
     }
 
-    /// What an entry makes of the parts, and whether it is known then which rows there are.
+    /// Feeds an entry to the parts. Gives whether the rows are still known. Err if memory runs out.
     pub fn go_on(&mut self, spread: &Query, fed: Fed) -> Result<bool, AllocError>
         requires of { SpreadsSome spread.now }
         requires held { (before : List Row) × Holds spread.now self.old.list.items self.old.rows before }

@@ -1,4 +1,4 @@
-// The row that the keys of a spread's group show.
+// The row that the keys of a spread's group stand for.
 ghost use Rattle.std.specs.Prelude.{◌≡◌, IfOk, ◌++◌};
 ghost use Rattle.standing_query.specs.Spread.{cell_under, cells_in, cells_shown, row_shown, time_in, time_shown, value_shown};
 
@@ -16,7 +16,7 @@ fn time_shown(key: &Key) -> i64
     }
 }
 
-/// The time of a group's rows, which is the first of its keys.
+/// The time of a group's rows: the first of its keys.
 pub fn time_in(keys: &[Key]) -> i64
     ensures { result ≡ time_in keys.now }
 {
@@ -37,7 +37,7 @@ fn value_shown(key: &Key) -> Result<Option<Value>, AllocError>
     }
 }
 
-/// A cell more, where the key shows one.
+/// Appends a cell, unless the key is missing.
 fn with_cell(mut cells: Vec<Cell>, name: &Text, key: &Key) -> Result<Vec<Cell>, AllocError>
     ensures { IfOk result (λ more. more.items ≡ cells.items ++ cell_under name.now (value_shown key.now)) }
 {
@@ -63,7 +63,7 @@ fn cells_shown(alloc: Global, names: &[Text], keys: &[Key]) -> Result<Vec<Cell>,
     Ok(cells)
 }
 
-/// The keys behind the time are those of cells of these names.
+/// The cells of these names, by the keys after the time.
 fn cells_in(alloc: Global, names: &[Text], keys: &[Key]) -> Result<Vec<Cell>, AllocError>
     ensures { IfOk result (λ cells. cells.items ≡ cells_in names.now keys.now) }
 {

@@ -1,4 +1,4 @@
-// The spread of a query.
+// Makes the spread of a query.
 ghost use Rattle.std.specs.Prelude.{◌≡◌, ℕ, IfOk, ◌∷◌, ◌++◌, [], List, map, option_to_list};
 ghost use Rattle.std.specs.List.{filter, flat_map};
 ghost use Rattle.std.specs.List.Sorted.{IsStrictlySortedBy};
@@ -30,7 +30,7 @@ fn with_keys<'a>(mut names: Vec<&'a str>, keys: &'a [Text]) -> Result<Vec<&'a st
     Ok(names)
 }
 
-/// The name of a field that an aggregate reads.
+/// The name that an aggregate folds. None for COUNT.
 fn agg_name(agg: &Agg) -> Option<&str>
     ensures { agg_names agg.now ≡ option_to_list (option_map (λ name. name.now) result) }
 {
@@ -54,7 +54,7 @@ fn with_aggs<'a>(mut names: Vec<&'a str>, aggs: &'a [Agg]) -> Result<Vec<&'a str
     Ok(names)
 }
 
-/// The names of conditions, keys and aggregates, as they come.
+/// The names of the conditions, keys and aggregates, in the order of the query.
 fn names_of(alloc: Global, query: &Query) -> Result<Vec<&str>, AllocError>
     ensures { IfOk result (λ names. map (λ n. n.now) names.items ≡ names_read query.now) }
 {
@@ -63,7 +63,7 @@ fn names_of(alloc: Global, query: &Query) -> Result<Vec<&str>, AllocError>
     Ok(with_aggs(names, query.aggs.as_slice())?)
 }
 
-/// Names ascending, each once.
+/// Sorts the names, and drops repeated ones.
 fn put_in_order(names: &mut Vec<&str>)
     ensures ascends { IsStrictlySortedBy text_cmp (map (λ n. n.now) names.new.items) }
     ensures same { (n : List ℕ) → has n (map (λ n. n.now) names.new.items) ≡ has n (map (λ n. n.now) names.old.items) }
@@ -72,7 +72,7 @@ fn put_in_order(names: &mut Vec<&str>)
     names.dedup();
 }
 
-/// Copies of the names, without `time`.
+/// Copies of the names other than `time`.
 fn cells_among(alloc: Global, names: &[&str]) -> Result<Vec<Text>, AllocError>
     ensures { IfOk result (λ cells. cells.items ≡ filter is_cell (map (λ n. n.now) names.now)) }
 {
@@ -85,8 +85,7 @@ fn cells_among(alloc: Global, names: &[&str]) -> Result<Vec<Text>, AllocError>
     Ok(cells)
 }
 
-/// The names of the cells that a query reads, ascending, each once. They are sorted where the query holds them, so that none is copied but those
-/// that are given back.
+/// The names of the cells that a query reads, ascending and distinct. Only the names of the answer are copied.
 fn cells_of(alloc: Global, query: &Query) -> Result<Vec<Text>, AllocError>
     ensures { IfOk result (λ names. names.items ≡ cells_read query.now) }
 {
@@ -112,7 +111,8 @@ fn counted(alloc: Global) -> Result<Aggs, AllocError>
     Ok(Aggs::of(aggs))
 }
 
-/// How many rows there are of each time with the cells that the query reads.
+/// The spread of the query: it counts the rows of each time and each list of values that the query reads. Err if memory
+/// runs out.
 pub fn spread_of(alloc: Global, query: &Query) -> Result<Query, AllocError>
     ensures { IfOk result (λ s. s ≡ spread query.now) }
 {

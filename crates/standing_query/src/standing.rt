@@ -15,8 +15,9 @@ use leaf_model::{Groups, Query};
 use std::alloc::{AllocError, Global};
 use std::marker::Model;
 
-/// A query that is declared once. Its state is fed the entries of its table's history in the order of their numbers. A fresh state tells the
-/// query's groups; a stale one is settled first, by the groups of the query's spread, which the table was asked for. It holds no part.
+/// A query that was declared once. Its state is fed the entries of its table's history in the order of their numbers. A
+/// fresh state has the groups of the query's spread. A stale one has none: the table has to be asked for the spread
+/// first.
 #[derive(Drop)]
 pub struct Standing {
     query: Query,
@@ -39,7 +40,7 @@ impl Model for Standing {
 }
 
 impl Standing {
-    /// Stale behind the entry of that number.
+    /// A stale state, after entry `upto`. Err if memory runs out.
     pub fn new(alloc: Global, query: Query, upto: u64) -> Result<Standing, AllocError>
         ensures { IfOk result (λ s. s ≡ record { query = query; upto = upto; stale = true; groups = [] }) }
     {
@@ -54,7 +55,7 @@ impl Standing {
         })
     }
 
-    /// What the table is asked for where the state is stale.
+    /// The query to ask the table if the state is stale.
     pub fn spread(&self) -> &Query
         ensures { result.now ≡ spread self.now.query }
     {
@@ -80,14 +81,14 @@ impl Standing {
         self.upto
     }
 
-    /// Feeds the next entry.
+    /// Feeds the next entry. Err is want of memory, and leaves the state stale.
     pub fn feed(&mut self, number: u64, fed: Fed) -> Result<(), AllocError>
         requires next { number ≡ self.old.upto + 1 }
         ensures upto { self.new.upto ≡ number }
         ensures query { self.new.query ≡ self.old.query }
         ensures stale { self.new.stale ≡ (self.old.stale || (is_err result || is_end fed)) }
         ensures none { self.new.stale ≡ true → self.new.groups ≡ [] }
-        // What a fresh state means goes on by the entry, for all rows that it may mean.
+        // If the state is still fresh, it has the rows after the entry.
         ensures fed { (rows now : List Row) → Means self.old rows → FedTo fed rows now → self.new.stale ≡ false → Means self.new now }
         ensures idle { is_idle fed ≡ true → self.new.groups ≡ self.old.groups }
         ensures memory { IfErr result (λ _. (self.old.stale ≡ false) × TakesMemory fed) }
@@ -113,7 +114,7 @@ impl Standing {
         }
     }
 
-    /// Lets entries pass by a stale state, which needs none of them: the last has that number.
+    /// Skips the entries up to `upto`. A stale state needs none of them.
     pub fn pass(&mut self, upto: u64)
         requires stale { self.old.stale ≡ true }
         ensures { self.new ≡ record self.old { upto = upto } }
@@ -121,7 +122,7 @@ impl Standing {
         self.upto = upto;
     }
 
-    /// Makes the state fresh, by what the table answered to the next entry.
+    /// Makes the state fresh, by the table's answer, which is the next entry.
     pub fn settle(&mut self, number: u64, groups: Groups) -> Result<(), AllocError>
         requires next { number ≡ self.old.upto + 1 }
         requires spread { IsSpread self.old.query groups }
@@ -136,7 +137,7 @@ impl Standing {
         Ok(())
     }
 
-    /// The query's groups of the rows that the state means.
+    /// The groups of the query, by the rows of a fresh state. Err if memory runs out.
     pub fn groups(&self) -> Result<Groups, AllocError>
         requires fresh { self.now.stale ≡ false }
         ensures groups { (rows : List Row) → Means self.now rows → AllByRecursion (λ (row : Row). IsTime row.time) rows → IfOk result (λ gs. gs ≡ groups self.now.query rows) }

@@ -1,4 +1,4 @@
-// The groups of one row, as if that row stood there several times.
+// The groups of one row, as if the row stood there several times.
 ghost use Rattle.std.specs.Prelude.{◌≡◌, map};
 ghost use Rattle.std.specs.List.{AllByRecursion};
 ghost use Rattle.group_table.specs.Joined.{FitsFold, FitsGroup};
@@ -40,7 +40,7 @@ fn multiply(alloc: Global, group: &mut Group, count: u64)
     group.folds = Folds::of(folds_times(folds.into_inner(), count));
 }
 
-/// Counts and sums are multiplied; the least and the greatest stay.
+/// Multiplies counts and sums by `count`. The least and the greatest stay.
 pub fn groups_times(alloc: Global, groups: Groups, count: u64) -> Groups
     requires { AllByRecursion FitsGroup (map (group_times count) groups) }
     ensures { result ≡ map (group_times count) groups }

@@ -1,4 +1,5 @@
-// A query's groups, out of those of its spread: each group of the spread is looked at once, however many rows it stands for.
+// Makes a query's groups from those of its spread. Each group of the spread is read once, however many rows it stands
+// for.
 ghost use Rattle.std.specs.Prelude.{◌≡◌, ◌≢◌, ◌≤◌, ◌^◌, [], length, replicate, IfOk, IfErr};
 ghost use Rattle.std.specs.List.{AllByRecursion, flat_map};
 ghost use Rattle.leaf_model.specs.Groups.{groups};
@@ -15,7 +16,7 @@ use leaf_model::{Group, Groups, LentRows, Query, Text};
 use std::alloc::{AllocError, Global};
 use std::slice::from_ref;
 
-/// The query's groups of the rows that one group of its spread stands for.
+/// The query's groups of the rows that one group of the spread stands for.
 fn told_one(
     alloc: Global,
     query: &Query,
@@ -34,7 +35,7 @@ fn told_one(
     Ok(groups_times(alloc, once, group.count))
 }
 
-/// The same of some groups of the spread, by halves.
+/// The same for a list of groups, by halves.
 pub fn told(
     alloc: Global,
     query: &Query,
@@ -95,7 +96,7 @@ pub fn told_parts(
     Ok(all)
 }
 
-/// The query's groups of the rows that the parts of its spread's groups stand for.
+/// The query's groups of the rows that all parts of its spread stand for. Err if memory runs out.
 pub fn tell(
     alloc: Global,
     query: &Query,

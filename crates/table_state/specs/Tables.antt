@@ -1,4 +1,4 @@
--- What a table means, and what its calls do.
+-- What a table is, and what its calls do to it.
 use Rattle.std.specs.Prelude.{◌≡◌, ℕ, ◌+◌, ◌-◌, ◌<◌, ◌≤◌, ◌^◌, true, List, [], ◌∷◌, length, map, Option, Some, None, IfSome, Result, Ok, Err, ℤ, int_le}
 use Rattle.std.specs.List.{AllByRecursion, flat_map}
 use Rattle.std.specs.Ordering.{eq_by_cmp}
@@ -22,32 +22,33 @@ use Rattle.table_state.specs.declared.fault.AddFault.TheVariants.{Full, NoMemory
 abbrev pub most_rows : ℕ
 most_rows = 2 ^ 40
 
--- how its rows stand: sealed blocks, how many rows of the first are cut away, and the tail behind them
+-- how the rows stand: sealed blocks, the number of rows cut off the first one, and after them the tail
 pub record Store : Type 0 where
   pub blocks : List Block
   pub skip : ℕ
   pub tail : List Row
 
--- nothing stands
+-- no blocks and no tail
 abbrev pub no_store : Store
 no_store = record { blocks = []; skip = 0; tail = [] }
 
--- what it holds, how many writes it accepted, the record of those that were not taken, and how its rows stand
+-- the contents, the number of accepted writes, the pending record, and how the rows stand
 pub record Table : Type 0 where
   pub contents : Contents
   pub writes : ℕ
   pub pending : Option LogRecord
   pub store : Store
 
--- all but how its rows stand
+-- the table, whichever way its rows stand
 abbrev pub bare : Table → Table
 bare t = record t { store = no_store }
 
--- how many columns its rows come to at most, once its tail is sealed: those of the blocks, and for each row of the tail one and its cells
+-- a bound on its columns once the tail is sealed: those of the blocks, and for each row of the tail one, and one for
+-- each of its cells
 abbrev pub columns_most : Store → ℕ
 columns_most s = columns_count s.blocks + rows_and_cells s.tail
 
--- the rows and cells that writes add
+-- the number of rows and cells that a write adds
 abbrev pub added_by : Write → ℕ
 added_by (Add rows) = rows_and_cells rows
 added_by (Expire horizon) = 0
@@ -57,34 +58,34 @@ abbrev pub added_count : List Write → ℕ
 added_count [] = 0
 added_count (w ∷ ws) = added_by w + added_count ws
 
--- tables that are handed on: what each holds, and how many columns its rows come to at most
+-- tables that are handed on: what each is, and a bound on its columns
 pub record HeldTables : Type 0 where
   pub each : List Table
   pub columns : List ℕ
 
--- a table that had no write
+-- a table without a write
 abbrev pub empty_table : Table
 empty_table = record { contents = nothing; writes = 0; pending = None; store = no_store }
 
--- one more accepted write of a table of this name
+-- one more accepted write, also in the pending record, under the name of the table
 abbrev pub table_with_write : List ℕ → Table → Write → Table
 table_with_write name t w = record { contents = content_after t.contents w; writes = t.writes + 1; pending = Some (with_push name w t.pending); store = no_store }
 
--- one more accepted write, of which the disk is owed nothing
+-- one more accepted write, which the disk has already
 abbrev pub replayed : Table → Write → Table
 replayed t w = record { contents = content_after t.contents w; writes = t.writes + 1; pending = t.pending; store = no_store }
 
--- a row that a table may hold: it is at or after the horizon
+-- a valid row at or after the horizon
 abbrev pub IsHeldRow : ℤ → Row → Type 0
 IsHeldRow horizon row = IsRow row × (int_le horizon row.time ≡ true)
 
--- what a table may hold: at most 2^40 rows, none of them below the horizon
+-- contents of a table: at most 2^40 rows, none below the horizon
 pub record IsHeld (c : Contents) : Type 0 where
   pub horizon : IsTime c.horizon
   pub few : length c.rows ≤ most_rows
   pub each : AllByRecursion (IsHeldRow c.horizon) c.rows
 
--- the blocks and the tail hold what the table holds
+-- the invariant: the contents are valid, and blocks and tail hold exactly their rows
 pub record IsStored (t : Table) : Type 0 where
   pub held : IsHeld t.contents
   pub skip : IsSkip t.store.skip t.store.blocks
@@ -93,50 +94,51 @@ pub record IsStored (t : Table) : Type 0 where
   pub short : length t.store.tail ≤ 65535
   pub rows : rows_held t.store.blocks t.store.tail t.store.skip t.contents.horizon ≡ t.contents.rows
 
--- a write of a table of this name may be called for: the name is the table's own, and its writes can still be counted
+-- a write may be called for: the name is the table's own, and the number of writes stays below 2^64
 pub record MayWrite (name : List ℕ) (t : Table) : Type 0 where
   pub short : length name ≤ 255
   pub same : IfSome t.pending (λ r. r.name ≡ name)
   pub room : t.writes < 2 ^ 64 - 1
 
--- an add keeps the rows that are not late; it is refused exactly where there would be more than 2^40 rows; a refusal changes nothing at all
+-- an add keeps the rows that are not late; Full exactly if there would be more than 2^40 rows; a refusal changes
+-- nothing
 abbrev pub Adds : List ℕ → Table → List Row → Result Added AddFault → Table → Type 0
 Adds name t rows (Ok a) now = (length t.contents.rows + kept_count t.contents rows ≤ most_rows) × (a.kept ≡ kept_count t.contents rows) × (a.late ≡ late_count t.contents rows) × (bare now ≡ table_with_write name t (Add rows))
 Adds name t rows (Err Full) now = (most_rows < length t.contents.rows + kept_count t.contents rows) × (now ≡ t)
 Adds name t rows (Err NoMemory) now = now ≡ t
 
--- an expiry or a keep takes rows away; where there is no memory it changes nothing
+-- an expiry or a keep answers how many rows it removes; Err changes nothing
 abbrev pub Removes : {E : Type 0} → List ℕ → Table → Write → Result ℕ E → Table → Type 0
 Removes name t w (Ok n) now = (n ≡ removed_count t.contents w) × (bare now ≡ table_with_write name t w)
 Removes name t w (Err e) now = now ≡ t
 
--- a write that the disk has already is refused exactly where there would be more than 2^40 rows; a refusal changes nothing
+-- a write that the disk has already; Full exactly if there would be more than 2^40 rows; a refusal changes nothing
 abbrev pub Replays : Table → Write → Result (Unit {0}) AddFault → Table → Type 0
 Replays t w (Ok done) now = (length (content_after t.contents w).rows ≤ most_rows) × (bare now ≡ replayed t w)
 Replays t w (Err Full) now = (most_rows < length (content_after t.contents w).rows) × (now ≡ t)
 Replays t w (Err NoMemory) now = now ≡ t
 
--- the record of the writes since the last taking is handed out
+-- the pending record is taken
 abbrev pub Takes : Table → Option LogRecord → Table → Type 0
 Takes t taken now = (taken ≡ t.pending) × (now ≡ record t { pending = None })
 
--- the tail is sealed behind the blocks; where there is no memory nothing changes
+-- the tail is sealed; Err changes nothing
 abbrev pub Seals : {E : Type 0} → Table → Result (Unit {0}) E → Table → Type 0
 Seals t (Ok done) now = (bare now ≡ bare t) × (now.store.tail ≡ [])
 Seals t (Err e) now = now ≡ t
 
--- what the parts of a table hold
+-- the contents that parts stand for
 abbrev pub contents_of : Parts → Contents
 contents_of parts = record { rows = rows_held parts.blocks [] parts.skip parts.horizon; horizon = parts.horizon }
 
--- what a table may be made of
+-- valid parts of a table
 pub record IsParts (parts : Parts) : Type 0 where
   pub horizon : IsTime parts.horizon
   pub skip : IsSkip parts.skip parts.blocks
   pub blocks : AllByRecursion IsBlock parts.blocks
   pub few : length (rows_held parts.blocks [] parts.skip parts.horizon) ≤ most_rows
 
--- these are the parts of a table whose tail is empty
+-- these are the parts of a table with an empty tail
 pub record IsPartsOf (parts : Parts) (t : Table) : Type 0 where
   pub contents : contents_of parts ≡ t.contents
   pub writes : parts.writes ≡ t.writes
@@ -144,11 +146,12 @@ pub record IsPartsOf (parts : Parts) (t : Table) : Type 0 where
   pub blocks : parts.blocks ≡ t.store.blocks
   pub tail : t.store.tail ≡ []
 
--- the headings of the cells of some rows, one for each cell
+-- the heading of each cell of the rows
 abbrev pub headings_in : List Row → List Heading
 headings_in rows = flat_map (λ (row : Row). map heading_of row.cells) rows
 
--- how many columns a table with these rows has at least: where there are rows, that of the times and one for each distinct heading
+-- the least number of columns of a table with these rows: none without rows, else one for the times and one for each
+-- distinct heading
 abbrev pub least_columns : List Row → ℕ
 least_columns [] = 0
 least_columns (row ∷ rows) = 1 + distinct_count (eq_by_cmp heading_cmp) (headings_in (row ∷ rows))

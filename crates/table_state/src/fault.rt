@@ -1,13 +1,13 @@
-// What an add answers.
+// The answer of an add.
 
-/// Why an add was refused: the table would pass 2^40 rows, or memory was refused.
+/// Why an add was refused: the table would pass 2^40 rows, or memory ran out.
 #[derive(Clone, Copy, Debug, PartialEq, Eq)]
 pub enum AddFault {
     Full,
     NoMemory,
 }
 
-/// How many rows of an add were kept, and how many came late.
+/// How many rows of an add were kept, and how many were late.
 #[derive(Clone, Copy, PartialEq, Eq)]
 pub struct Added {
     pub kept: u64,

@@ -1,4 +1,4 @@
-// The blocks of a table: how many of their rows are live, and how rows leave them.
+// The blocks of a table: counts their live rows, and removes rows from the front.
 ghost use Rattle.std.specs.Prelude.{◌≡◌, ◌<◌, ◌≤◌, ℕ, drop, length};
 ghost use Rattle.std.specs.List.{AllByRecursion};
 ghost use Rattle.row_blocks.specs.Blocks.{IsBlock};
@@ -8,14 +8,15 @@ ghost use Rattle.table_state.specs.Tables.{most_rows};
 
 use row_blocks::{Blocks, RowBlock};
 
-/// How many rows of the first block are cut away. Of its other rows at least `ahead` are live: a keep that removes fewer does not count them.
+/// The first `skip` rows of the first block are cut off. At least `ahead` of its other rows are live. A keep that
+/// removes fewer rows does not count them.
 #[derive(Clone, Copy)]
 pub struct Cut {
     pub skip: u32,
     pub ahead: u32,
 }
 
-/// How many blocks leave from the front, and the cut of the next one.
+/// How many blocks go from the front, and the cut of the next one.
 #[derive(Clone, Copy)]
 struct Front {
     blocks: usize,
@@ -23,7 +24,7 @@ struct Front {
     ahead: u32,
 }
 
-/// How many live rows the blocks have. It takes no memory.
+/// The number of live rows of the blocks. It takes no memory.
 pub fn count_live(blocks: &[RowBlock], skip: u32, horizon: i64) -> u64
     requires cut { IsCut skip blocks.now }
     requires few { length (sealed_rows blocks.now skip horizon) ≤ most_rows }
@@ -38,18 +39,19 @@ pub fn count_live(blocks: &[RowBlock], skip: u32, horizon: i64) -> u64
     live
 }
 
-/// How many live rows the blocks have, and a lower bound of how many of them are in the first block.
+/// The number of live rows of the blocks, and a lower bound of those of the first block.
 #[derive(Clone, Copy)]
 pub struct Live {
     pub all: u64,
     pub ahead: u32,
 }
 
-/// Counts the live rows of the blocks, unless they were counted for the same horizon.
+/// Counts the live rows of the blocks, unless they were counted for the same horizon: `counted` is the count for `old`.
 pub fn recount(blocks: &[RowBlock], skip: u32, horizon: i64, old: i64, counted: Live) -> Live
     requires cut { IsCut skip blocks.now }
     requires few { length (sealed_rows blocks.now skip horizon) ≤ most_rows }
-    requires same { old ≡ horizon → (counted.all ≡ length (sealed_rows blocks.now skip horizon)) × AreAhead counted.ahead blocks.now skip horizon }
+    requires same { old ≡ horizon → (counted.all ≡ length (sealed_rows blocks.now skip horizon))
+        × AreAhead counted.ahead blocks.now skip horizon }
     ensures all { result.all ≡ length (sealed_rows blocks.now skip horizon) }
     ensures ahead { AreAhead result.ahead blocks.now skip horizon }
 {
@@ -71,7 +73,8 @@ fn skip_left(blocks: &[RowBlock], skip: u32, horizon: i64) -> u32
     }
 }
 
-/// Lets go of the blocks that have no row at or after the horizon, and answers how many rows of the first one are cut away then. It needs no memory: a block that horizons cut often sorts its times if there is some.
+/// Removes the blocks that have no row at or after the horizon. Gives the cut of the block that is then the first. It
+/// needs no memory: a block that horizons cut often sorts its times only if there is some.
 pub fn leave_live(blocks: &mut Blocks, skip: u32, horizon: i64) -> u32
     requires cut { IsSkip skip blocks.old }
     requires sealed { AllByRecursion IsBlock blocks.old }
@@ -87,13 +90,14 @@ pub fn leave_live(blocks: &mut Blocks, skip: u32, horizon: i64) -> u32
     left
 }
 
-/// Where the first live rows end.
+/// The place after the first `gone` live rows.
 fn front_of(blocks: &[RowBlock], skip: u32, horizon: i64, gone: u64) -> Front
     requires cut { IsCut skip blocks.now }
     requires few { gone ≤ length (sealed_rows blocks.now skip horizon) }
     ensures blocks { result.blocks ≤ length blocks.now }
     ensures cut { IsSkip result.skip (drop result.blocks blocks.now) }
-    ensures rows { sealed_rows (drop result.blocks blocks.now) result.skip horizon ≡ drop gone (sealed_rows blocks.now skip horizon) }
+    ensures rows { sealed_rows (drop result.blocks blocks.now) result.skip horizon
+        ≡ drop gone (sealed_rows blocks.now skip horizon) }
     ensures ahead { AreAhead result.ahead (drop result.blocks blocks.now) result.skip horizon }
 {
     let mut left = gone;
@@ -119,7 +123,7 @@ fn front_of(blocks: &[RowBlock], skip: u32, horizon: i64, gone: u64) -> Front
     }
 }
 
-/// The cut behind the first live rows, which end in the first block. A walk passes these rows alone.
+/// The cut after the first `gone` live rows, which all stand in the first block. It walks over these rows alone.
 fn cut_first(blocks: &[RowBlock], cut: Cut, horizon: i64, gone: u32) -> Cut
     requires cut { IsSkip cut.skip blocks.now }
     requires ahead { AreAhead cut.ahead blocks.now cut.skip horizon }
@@ -137,7 +141,8 @@ fn cut_first(blocks: &[RowBlock], cut: Cut, horizon: i64, gone: u32) -> Cut
     }
 }
 
-/// Lets go of the first live rows, with each block that they are the last of, and answers the cut of the first block then.
+/// Removes the first `gone` live rows, and each block that has no row left. Gives the cut of the block that is then the
+/// first.
 pub fn cut_front(blocks: &mut Blocks, cut: Cut, horizon: i64, gone: u64) -> Cut
     requires cut { IsSkip cut.skip blocks.old }
     requires ahead { AreAhead cut.ahead blocks.old cut.skip horizon }

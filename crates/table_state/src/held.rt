@@ -1,4 +1,4 @@
-// Plain work on a table's rows.
+// Limits and counts of a table's rows.
 ghost use Rattle.std.specs.Prelude.{◌≡◌, ◌+◌, ◌≤◌, ◌↔◌, drop, length, IsTrue};
 ghost use Rattle.leaf_model.specs.Content.{rows_from};
 ghost use Rattle.leaf_model.specs.Lent.{lent_rows};
@@ -7,10 +7,11 @@ ghost use Rattle.table_state.specs.Tables.{most_rows};
 use crate::tail::Tail;
 use leaf_model::LentRows;
 
-/// The most rows that a table holds.
+/// The most rows of a table.
 pub const MOST_ROWS: u64 = 1 << 40;
 
-/// Whether a table that holds so many rows has room for those of some more that are not late. These are counted only where all together would be too many.
+/// Whether a table of `held` rows has room for those of `more` that are not late. It counts these only if all of `more`
+/// would be too many.
 pub fn has_room(held: u64, horizon: i64, more: &LentRows) -> bool
     requires held { held ≤ most_rows }
     requires few { length (lent_rows more.now) ≤ most_rows }
@@ -19,7 +20,7 @@ pub fn has_room(held: u64, horizon: i64, more: &LentRows) -> bool
     held + more.len() as u64 <= MOST_ROWS || held + count_from(horizon, more) <= MOST_ROWS
 }
 
-/// How many of the rows are not late.
+/// The number of rows that are not late.
 fn count_from(horizon: i64, rows: &LentRows) -> u64
     ensures few { result ≤ length (lent_rows rows.now) }
     ensures count { result ≡ length (rows_from horizon (lent_rows rows.now)) }
@@ -38,7 +39,7 @@ fn count_from(horizon: i64, rows: &LentRows) -> u64
     kept
 }
 
-/// Lets go of the first rows of a tail. Where there are none, nothing is moved.
+/// Removes the first `count` rows of a tail. Nothing is done for 0.
 pub fn drop_front(tail: &mut Tail, count: usize)
     requires { count ≤ length tail.old }
     ensures { tail.new ≡ drop count tail.old }

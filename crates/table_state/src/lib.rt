@@ -1,4 +1,5 @@
-//! One table: its rows, as sealed blocks and a tail, its horizon, and the record of the writes that the disk was not given.
+//! One table: its rows, as sealed blocks and a tail, its horizon, and its pending record: the writes that the log was
+//! not given.
 #![tactic(auto)]
 
 mod fault;

@@ -1,7 +1,8 @@
-// What a table hands over.
+// The parts of a table.
 use row_blocks::Blocks;
 
-/// What a table hands over: its blocks, how many rows of the first are cut away, its horizon, and how many writes it accepted.
+/// A table in parts, as it is handed over: its horizon, the number of accepted writes, how many rows of the first block
+/// are cut off, and the blocks.
 #[derive(Drop)]
 pub struct Parts {
     pub horizon: i64,

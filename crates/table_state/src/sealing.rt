@@ -1,4 +1,4 @@
-// Rows that are added: whole runs of them are sealed, the others stand in the tail.
+// Adds rows: seals each whole run of the tail, and leaves the others in the tail.
 ghost use Rattle.std.specs.Prelude.{◌≡◌, ◌+◌, ◌<◌, ◌≤◌, ◌++◌, drop, take, length, Err, IfOk, OnOk, OnErr};
 ghost use Rattle.std.specs.List.{AllByRecursion};
 ghost use Rattle.leaf_model.specs.Content.{rows_from};
@@ -17,15 +17,17 @@ use leaf_model::LentRows;
 use row_blocks::{Blocks, RowBlock, seal};
 use std::alloc::{AllocError, Global};
 
-/// How many rows are sealed as one block while rows are added.
+/// The rows of a run, which is sealed as one block.
 const RUN: usize = 65536;
 
-/// The blocks of the whole runs of rows.
+/// Seals each whole run of the rows into a block. The rows after the last whole run are not looked at.
 fn runs_of(alloc: Global, rows: &LentRows) -> Result<Vec<RowBlock>, AllocError>
     requires { AllByRecursion IsRow (lent_rows rows.now) }
-    ensures rows { IfOk result (λ blocks. block_rows blocks.items ≡ take (in_runs (length (lent_rows rows.now))) (lent_rows rows.now)) }
+    ensures rows { IfOk result (λ blocks.
+        block_rows blocks.items ≡ take (in_runs (length (lent_rows rows.now))) (lent_rows rows.now)) }
     ensures each { IfOk result (λ blocks. AllByRecursion IsBlock blocks.items) }
-    ensures few { IfOk result (λ blocks. columns_count blocks.items ≤ rows_and_cells (take (in_runs (length (lent_rows rows.now))) (lent_rows rows.now))) }
+    ensures few { IfOk result (λ blocks. columns_count blocks.items ≤ rows_and_cells
+        (take (in_runs (length (lent_rows rows.now))) (lent_rows rows.now))) }
 {
     let mut blocks = Vec::new(alloc);
     let mut left = *rows;
@@ -39,7 +41,8 @@ fn runs_of(alloc: Global, rows: &LentRows) -> Result<Vec<RowBlock>, AllocError>
     Ok(blocks)
 }
 
-/// Seals the whole runs at the front of the tail behind the blocks, and leaves the tail as it is. Rows that are no whole run are not looked at.
+/// Seals each whole run at the front of the tail, and appends the blocks. The tail stays as it is, and so do the blocks
+/// after Err.
 fn seal_runs(blocks: &mut Blocks, tail: &Tail) -> Result<(), AllocError>
     ensures sealed { OnOk result (AreSealed blocks.old (take (in_runs (length tail.now)) tail.now) blocks.new) }
     ensures refused { OnErr result (blocks.new ≡ blocks.old) }
@@ -49,7 +52,8 @@ fn seal_runs(blocks: &mut Blocks, tail: &Tail) -> Result<(), AllocError>
     blocks.append(sealed)
 }
 
-/// What an add may fail at: puts those of the new rows that are not late behind the tail, unless there would be more than 2^40 rows, seals the whole runs, and answers how many rows were put.
+/// Does what can fail of an add. It appends the new rows that are not late to the tail, if there are at most 2^40 rows
+/// then, and seals the whole runs. Gives the number of rows that it appended.
 pub fn prepare(
     live: u64,
     blocks: &mut Blocks,
@@ -67,7 +71,8 @@ pub fn prepare(
     ensures sealed { OnOk result (AreSealed blocks.old (take (in_runs (length tail.new)) tail.new) blocks.new) }
     ensures blocks { OnErr result (blocks.new ≡ blocks.old) }
     ensures tail { OnErr result (tail.new ≡ tail.old) }
-    ensures full { result ≡ Err fault.Full → most_rows < live + length tail.old + length (rows_from horizon (lent_rows more.now)) }
+    ensures full { result ≡ Err fault.Full
+        → most_rows < live + length tail.old + length (rows_from horizon (lent_rows more.now)) }
 {
     let before = tail.len();
     if !has_room(live + before as u64, horizon, more) {
@@ -83,7 +88,7 @@ pub fn prepare(
     Ok((tail.len() - before) as u64)
 }
 
-/// Lets go of the whole runs at the front of the tail, and answers how many rows those were.
+/// Removes the whole runs from the front of the tail. Gives their number of rows.
 pub fn drop_runs(tail: &mut Tail) -> u64
     ensures rows { tail.new ≡ drop (in_runs (length tail.old)) tail.old }
     ensures gone { result ≡ in_runs (length tail.old) }
@@ -93,7 +98,7 @@ pub fn drop_runs(tail: &mut Tail) -> u64
     gone as u64
 }
 
-/// Seals the rows of the tail as one block behind the others, and leaves the tail as it is.
+/// Seals all rows of the tail into a block, and appends it. The tail stays as it is, and so do the blocks after Err.
 pub fn seal_behind(blocks: &mut Blocks, tail: &Tail) -> Result<(), AllocError>
     requires some { 0 < length tail.now }
     requires few { length tail.now ≤ 65536 }

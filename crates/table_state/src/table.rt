@@ -1,4 +1,4 @@
-// One table: sealed blocks, and a tail of rows behind them.
+// One table: sealed blocks, and after them a tail of rows.
 ghost use Rattle.std.specs.Prelude.{◌≡◌, ◌+◌, ◌≤◌, ◌<◌, ◌-◌, ◌^◌, [], None, length};
 ghost use Rattle.std.specs.List.{AllByRecursion};
 ghost use Rattle.leaf_model.specs.Lent.{lent_rows};
@@ -21,7 +21,8 @@ use std::alloc::{AllocError, Global};
 use std::marker::Model;
 use std::mem::replace;
 
-/// Contracts see what it holds, how many writes it accepted, the record of those that were not taken, and how its rows stand.
+/// One table. Contracts see its contents, the number of accepted writes, the pending record, and how its rows stand in
+/// blocks and tail.
 #[derive(Drop)]
 pub struct TableState {
     blocks: Blocks,
@@ -47,7 +48,7 @@ impl Model for TableState {
 }
 
 impl TableState {
-    /// A table that had no write.
+    /// A table without a write.
     pub fn new(alloc: Global) -> TableState
         ensures { result ≡ empty_table }
     {
@@ -63,7 +64,8 @@ impl TableState {
         }
     }
 
-    /// Keeps the rows that are not late. `table` is the table's own name, the same at every call.
+    /// Adds the rows that are not late. `table` is the name of the table, the same at each call. A refusal changes
+    /// nothing.
     pub fn add(&mut self, table: &Text, rows: Rows) -> Result<Added, AddFault>
         requires may { MayWrite table.now self.old }
         requires rows { AllByRecursion IsRow rows }
@@ -90,7 +92,8 @@ impl TableState {
         Ok(Added { kept, late })
     }
 
-    /// Raises the horizon to the greater of both, removes the rows below it, and answers how many those were.
+    /// Raises the horizon, if the new one is greater, and removes the rows below it. Gives their number. Err changes
+    /// nothing.
     pub fn expire(&mut self, table: &Text, horizon: i64) -> Result<u64, AllocError>
         requires may { MayWrite table.now self.old }
         requires horizon { IsTime horizon }
@@ -103,7 +106,7 @@ impl TableState {
         Ok(held - self.rows())
     }
 
-    /// Leaves the last n rows in order of arrival, and answers how many it removed.
+    /// Keeps the last n rows in order of arrival. Gives the number of rows that it removed. Err changes nothing.
     pub fn keep(&mut self, table: &Text, n: u64) -> Result<u64, AllocError>
         requires may { MayWrite table.now self.old }
         ensures does { Removes table.now self.old (Keep n) result self.new }
@@ -115,7 +118,7 @@ impl TableState {
         Ok(held - self.rows())
     }
 
-    /// One accepted write that the disk has already.
+    /// Applies a write that the disk has already: it does not go to the pending record. A refusal changes nothing.
     pub fn replay(&mut self, write: Write) -> Result<(), AddFault>
         requires write { IsWrite write }
         requires room { self.old.writes < 2 ^ 64 - 1 }
@@ -153,7 +156,7 @@ impl TableState {
         Ok(())
     }
 
-    // The write of an expiry.
+    // Applies an expiry, without its record.
     fn raise_horizon(&mut self, horizon: i64)
         requires horizon { IsTime horizon }
         requires room { self.old.writes < 2 ^ 64 - 1 }
@@ -183,7 +186,7 @@ impl TableState {
         self.writes += 1;
     }
 
-    // The write of a keep.
+    // Applies a keep, without its record.
     fn leave_last(&mut self, n: u64)
         requires { self.old.writes < 2 ^ 64 - 1 }
         ensures written { bare self.new ≡ replayed self.old (Keep n) }
@@ -205,14 +208,14 @@ impl TableState {
         self.writes += 1;
     }
 
-    /// How many rows it holds.
+    /// The number of rows.
     pub fn rows(&self) -> u64
         ensures { result ≡ length self.now.contents.rows }
     {
         self.live + self.tail.len() as u64
     }
 
-    /// How many writes it accepted.
+    /// The number of accepted writes.
     pub fn writes(&self) -> u64
         ensures { result ≡ self.now.writes }
     {
@@ -226,7 +229,7 @@ impl TableState {
         self.horizon
     }
 
-    /// What holds of every table.
+    /// No-op; states the invariant: the rows and horizon are valid, and blocks and tail hold exactly the rows.
     pub fn stands(&self)
         ensures { IsStored self.now }
     {
@@ -240,35 +243,35 @@ impl TableState {
         &self.blocks
     }
 
-    /// The rows behind the blocks, in order of arrival.
+    /// The rows of the tail, in order of arrival.
     pub fn tail_rows(&self) -> LentRows<'_>
         ensures { lent_rows result ≡ self.now.store.tail }
     {
         self.tail.lend()
     }
 
-    /// How many rows of the first block are cut away.
+    /// How many rows of the first block are cut off.
     pub fn skip(&self) -> u32
         ensures { result ≡ self.now.store.skip }
     {
         self.skip
     }
 
-    /// How many blocks there are.
+    /// The number of blocks.
     pub fn sealed(&self) -> u64
         ensures { result ≡ length self.now.store.blocks }
     {
         self.blocks.as_slice().len() as u64
     }
 
-    /// How many rows stand behind the blocks.
+    /// The number of rows of the tail.
     pub fn tail(&self) -> u32
         ensures { result ≡ length self.now.store.tail }
     {
         self.tail.len() as u32
     }
 
-    /// Hands out the record of the writes since the last taking. It takes no memory.
+    /// Takes the pending record: the writes since it was last taken. It takes no memory.
     pub fn take_pending(&mut self) -> Pending
         ensures { Takes self.old result self.new }
     {
@@ -276,7 +279,7 @@ impl TableState {
         replace(&mut self.pending, none)
     }
 
-    /// Makes a block of the rows behind the blocks, unless there are none.
+    /// Seals the tail into a block, unless it is empty. Err changes nothing.
     pub fn seal_tail(&mut self) -> Result<(), AllocError>
         ensures does { Seals self.old result self.new }
         ensures columns { columns_most self.new.store ≤ columns_most self.old.store }
@@ -290,7 +293,7 @@ impl TableState {
         Ok(())
     }
 
-    /// Hands over what it holds.
+    /// Takes the table apart. No write is pending then, and the tail is empty.
     pub fn into_parts(self) -> Parts
         requires none { self.pending ≡ None }
         requires tail { self.store.tail ≡ [] }
@@ -305,7 +308,7 @@ impl TableState {
         }
     }
 
-    /// A table that holds what was handed over, with nothing that was not taken. It takes no memory.
+    /// Makes a table of its parts, with no pending record. It takes no memory.
     pub fn from_parts(parts: Parts) -> TableState
         requires { IsParts parts }
         ensures of { IsPartsOf parts result }

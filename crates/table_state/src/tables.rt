@@ -5,7 +5,8 @@ ghost use Rattle.table_state.specs.Tables.{Table, bare, columns_most};
 use crate::table::TableState;
 use std::marker::Model;
 
-/// Tables, in the order of their names. Contracts see what each holds and how many columns its rows come to at most, and else nothing of how they stand.
+/// Tables, in the order of their names. Contracts see the contents of each and a bound on its columns, but not how its
+/// rows stand.
 #[derive(Drop)]
 pub struct Tables {
     inner: Vec<TableState>,

@@ -1,4 +1,4 @@
-// The rows behind the blocks of a table.
+// The rows of a table that stand in no block yet.
 ghost use Rattle.std.specs.Prelude.{◌≡◌, ◌≤◌, ◌++◌, [], drop, int_le, length, take, true, OnErr, OnOk};
 ghost use Rattle.std.specs.List.{AllByRecursion};
 ghost use Rattle.leaf_model.specs.Content.{rows_from};
@@ -11,7 +11,9 @@ use leaf_model::{LentRows, PackedRows};
 use std::alloc::{AllocError, Global};
 use std::marker::Model;
 
-/// Rows, and a time that none of them is below: an expiry up to that time does not look at them. If the times are known never to fall, there is a `last` that none of them is above: an expiry then looks only at the rows that it removes, and at one more. Contracts see the rows.
+/// Rows, and a bound `least` that no time is below: an expiry up to it looks at no row. If the times are known never to
+/// fall, `last` is a bound that no time is above. An expiry then looks only at the rows that it removes, and at one
+/// more. Contracts see the rows.
 #[derive(Drop)]
 pub struct Tail {
     rows: PackedRows,
@@ -43,28 +45,28 @@ impl Tail {
         }
     }
 
-    /// How many there are.
+    /// The number of rows.
     pub fn len(&self) -> usize
         ensures { result ≡ length self.now }
     {
         self.rows.len()
     }
 
-    /// What holds of each of them.
+    /// No-op; states the invariant: each of them is a row.
     pub fn are_rows(&self)
         ensures { AllByRecursion IsRow self.now }
     {
         self.rows.are_rows();
     }
 
-    /// The rows, lent.
+    /// The rows, borrowed.
     pub fn lend(&self) -> LentRows<'_>
         ensures { lent_rows result ≡ self.now }
     {
         self.rows.lend()
     }
 
-    /// Puts those of some rows behind the others whose time is at least the horizon.
+    /// Appends those of `more` whose time is at least the horizon. Err leaves the rows as they were.
     pub fn extend_from(&mut self, more: &LentRows, horizon: i64) -> Result<(), AllocError>
         requires { AllByRecursion IsRow (lent_rows more.now) }
         ensures put { OnOk result (self.new ≡ self.old ++ rows_from horizon (lent_rows more.now)) }
@@ -76,7 +78,7 @@ impl Tail {
         Ok(())
     }
 
-    /// Lets go of the rows below the horizon.
+    /// Removes the rows below the horizon.
     pub fn retain_from(&mut self, horizon: i64)
         ensures { self.new ≡ rows_from horizon self.old }
     {
@@ -95,7 +97,7 @@ impl Tail {
         }
     }
 
-    /// Lets go of the first rows.
+    /// Removes the first `count` rows.
     pub fn drop_first(&mut self, count: usize)
         requires { count ≤ length self.old }
         ensures { self.new ≡ drop count self.old }
@@ -103,7 +105,7 @@ impl Tail {
         self.rows.drop_first(count);
     }
 
-    /// Lets go of all but the first rows.
+    /// Keeps the first `count` rows.
     pub fn truncate(&mut self, count: usize)
         requires { count ≤ length self.old }
         ensures { self.new ≡ take count self.old }
@@ -111,7 +113,7 @@ impl Tail {
         self.rows.truncate(count);
     }
 
-    /// Lets go of all rows.
+    /// Removes all rows.
     pub fn clear(&mut self)
         ensures { self.new ≡ [] }
     {
@@ -119,20 +121,21 @@ impl Tail {
         self.last = None;
     }
 
-    /// Where their memory comes from.
+    /// The allocator of the rows.
     pub fn allocator(&self) -> Global {
         self.rows.allocator()
     }
 }
 
-/// Removes the rows below the horizon, and answers a time that no row is below then.
+/// Removes the rows below the horizon. Gives a time that no row is then below.
 fn retain_each(rows: &mut PackedRows, horizon: i64) -> i64
     ensures rows { rows.new ≡ rows_from horizon rows.old }
     ensures least { AreFrom result rows.new }
 {
     let before = rows.len();
     rows.retain_from(horizon);
-    // After a removal the horizon is a bound that costs no walk. A walk that removed nothing is worth one more, for the least time.
+    // After a removal the horizon is a bound that costs no walk. If nothing was removed, one more walk finds the least
+    // time.
     let most = if rows.len() < before {
         horizon
     } else {
@@ -141,7 +144,8 @@ fn retain_each(rows: &mut PackedRows, horizon: i64) -> i64
     least_with(most, horizon, &rows.lend())
 }
 
-/// A time that is at most `most`, and that no row at or after the horizon is below. If `most` is not above the horizon, it is `most`, and no row is looked at.
+/// A bound of at most `most` that no row at or after the horizon is below. If `most` is not above the horizon, it is
+/// `most`, and no row is looked at.
 fn least_with(most: i64, horizon: i64, rows: &LentRows) -> i64
     ensures most { int_le result most ≡ true }
     ensures least { AreFrom result (rows_from horizon (lent_rows rows.now)) }

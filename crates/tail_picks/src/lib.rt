@@ -1,4 +1,4 @@
-//! Which leaves a tail asks, by the words of its key, and which of them it picks, by the rows that their tables have room for.
+//! Which two leaves a tail asks, by the words of its key, and which of them it picks, by the free rows of their tables.
 #![tactic(auto)]
 
 mod picking;

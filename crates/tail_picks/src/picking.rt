@@ -1,4 +1,4 @@
-// Which leaves are asked, and which one is picked.
+// Draws the two leaves of a try, and picks one.
 ghost use Rattle.std.specs.Prelude.{◌≡◌, ◌<◌, ◌%◌};
 ghost use Rattle.rand_pcg.specs.Pcg.{pcg32};
 ghost use Rattle.tail_picks.specs.Tails.{generator_of, picked};
@@ -13,7 +13,7 @@ pub fn words_of(key: u64) -> Lcg64Xsh32
     Lcg64Xsh32::new(key, 1)
 }
 
-/// The two leaves of the next try, of so many: by the next two words, also where both are one leaf.
+/// The two leaves of the next try, out of `leaves`, by the next two words. They may be the same leaf.
 pub fn next_leaves(words: &mut Lcg64Xsh32, leaves: u32) -> (u32, u32)
     requires { 0 < leaves }
     ensures first { result.0 ≡ (pcg32 words.old).0 % leaves }
@@ -25,7 +25,8 @@ pub fn next_leaves(words: &mut Lcg64Xsh32, leaves: u32) -> (u32, u32)
     (first, second)
 }
 
-/// Of two leaves the live one with more free rows, the first one in a tie. A leaf that told no free rows is not live.
+/// The leaf with more free rows, the first in a tie. A leaf that did not tell its free rows is left out. None if
+/// neither did.
 pub fn pick(first: u32, one: Option<u64>, second: u32, two: Option<u64>) -> Option<u32>
     ensures { result ≡ picked first one second two }
 {

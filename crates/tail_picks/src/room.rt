@@ -1,14 +1,14 @@
-// How many rows a table has room for.
+// The free rows of a table.
 ghost use Rattle.std.specs.Prelude.{◌≡◌, IfOk};
 ghost use Rattle.tail_picks.specs.Room.{every_row, free_rows};
 
 use leaf_model::{Agg, Aggs, Conds, Groups, Names, Query, Text};
 use std::alloc::{AllocError, Global};
 
-/// How many rows a table takes at most.
+/// The most rows of a table.
 const MOST_ROWS: u64 = 1 << 40;
 
-/// The count of all rows, which names no table: it is asked of one that is at hand.
+/// The query that counts all rows. It names no table: each leaf is asked at a given table. Err if memory runs out.
 pub fn every_row(alloc: Global) -> Result<Query, AllocError>
     ensures { IfOk result (λ query. query ≡ every_row) }
 {
@@ -26,7 +26,7 @@ pub fn every_row(alloc: Global) -> Result<Query, AllocError>
     })
 }
 
-/// The rows that a table takes besides those that were counted.
+/// The free rows of a table with these counted rows: 2^40 less their number.
 pub fn free_rows(groups: &Groups) -> u64
     ensures { result ≡ free_rows groups.now }
 {

@@ -1,4 +1,4 @@
--- The calls of a tail at one table of each leaf, by the callers' seats there.
+-- The calls of a tail: at one table of each leaf, by the callers' seat there.
 use Rattle.std.specs.Prelude.{◌≡◌, ℕ, zero, suc, Bool, true, false, List, [], ◌∷◌, ◌++◌, map, slice_get, slice_set, Option, Some, None, ⊤}
 use Rattle.std.specs.List.{flat_map}
 use Rattle.rand_pcg.specs.Lcg.{Lcg}
@@ -22,7 +22,7 @@ use Rattle.tailer.specs.declared.tries.Try.{Try}
 use Rattle.tailer.specs.declared.tries.Sent.{Sent}
 use Rattle.tailer.specs.declared.tries.Sent.TheVariants as sent
 
--- how many rows a leaf's table takes besides, where it answered the count
+-- the free rows of a leaf's table, if it answered the count
 abbrev pub free_of : Reply → Option ℕ
 free_of (told.Groups number gs) = Some (free_rows gs)
 free_of _ = None
@@ -31,36 +31,36 @@ abbrev pub is_added : Reply → Bool
 is_added (told.Added number kept late) = true
 is_added _ = false
 
--- a try with its replies
+-- a try, with its replies
 abbrev pub try_seen : Try → TryOf Reply
 try_seen t = record { first = t.first; second = t.second; one = t.one; two = t.two; added = t.added }
 
 abbrev pub tries_seen : List Try → List (TryOf Reply)
 tries_seen ts = map try_seen ts
 
--- the leaf that took the rows
+-- the leaf that took the rows, if one did
 abbrev pub sent_to : Sent → Option ℕ
 sent_to (sent.To leaf) = Some leaf
 sent_to sent.Refused = None
 
--- the generator behind the two words of a try
+-- the generator after the two words of a try
 abbrev pub behind : Lcg → Lcg
 behind words = (pcg32 (pcg32 words).1).1
 
--- and behind those of so many tries
+-- the generator after the words of n tries
 abbrev pub behind_tries : ℕ → Lcg → Lcg
 behind_tries zero words = words
 behind_tries (suc n) words = behind (behind_tries n words)
 
 -- ---- calls
 
--- a call of the table at that leaf, and its reply
+-- a call of the table at a leaf, and its reply
 pub record LeafCall : Type 0 where
   pub leaf : ℕ
   pub call : Call
   pub reply : Reply
 
--- an ask for the count of all rows
+-- the ask for the number of rows
 abbrev pub asking : ℕ → Reply → LeafCall
 asking leaf reply = record { leaf = leaf; call = call.Ask every_row; reply = reply }
 
@@ -68,20 +68,20 @@ abbrev pub asking_also : ℕ → Option Reply → List LeafCall
 asking_also leaf None = []
 asking_also leaf (Some reply) = asking leaf reply ∷ []
 
--- the add to the picked leaf
+-- the add to the picked leaf, if there is one
 abbrev pub adding : List Row → Option ℕ → Option Reply → List LeafCall
 adding rows (Some leaf) (Some reply) = record { leaf = leaf; call = call.Add rows; reply = reply } ∷ []
 adding rows pick reply = []
 
--- the calls of a try in their order
+-- the calls of a try, in order
 abbrev pub calls_of : List Row → TryOf Reply → List LeafCall
 calls_of rows t = asking t.first t.one ∷ (asking_also t.second t.two ++ adding rows (pick_of free_of is_added t) t.added)
 
--- those of all tries
+-- the calls of all tries, in order
 abbrev pub calls_in : List Row → List (TryOf Reply) → List LeafCall
 calls_in rows ts = flat_map (calls_of rows) ts
 
--- a call by the seat of its leaf, which is changed alone
+-- a call by the seat of its leaf; no other seat changes
 pub record CallAt (fleet : List (List Shared)) (table : ℕ) (vs : List SeatView) (c : LeafCall) (ws : List SeatView) : Type 0 where
   pub shared : Shared
   pub before : SeatView
@@ -93,14 +93,14 @@ pub record CallAt (fleet : List (List Shared)) (table : ℕ) (vs : List SeatView
   pub same : SameSeat before after
   pub now : ws ≡ slice_set vs c.leaf after
 
--- calls one after another
+-- calls, one after another
 abbrev pub CallsOn : List (List Shared) → ℕ → List SeatView → List LeafCall → List SeatView → Type 0
 CallsOn fleet table vs [] ws = ws ≡ vs
 CallsOn fleet table vs (c ∷ cs) ws = (between : List SeatView) × CallAt fleet table vs c between × CallsOn fleet table between cs ws
 
--- ---- what they saw
+-- ---- the rows that the calls saw
 
--- an answer has the count of the rows before its entry, by the bases and histories of the leaves
+-- an answer counts the rows before its entry, by the bases and histories of the leaves
 abbrev pub IsOverRows : (ℕ → Option TableBase) → (ℕ → List Entry) → LeafCall → Type 0
 IsOverRows bases histories c = by c.reply
   where

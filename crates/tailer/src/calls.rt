@@ -13,7 +13,7 @@ use leaf_table::{FleetTables, Reply, Seat};
 use std::sync::Wait;
 use std::thread::Threads;
 
-/// What is asked and added, and at which table of each leaf.
+/// What a tail asks and adds, and the table that it asks at each leaf.
 #[derive(Clone, Copy)]
 pub(crate) struct Tail<'t> {
     pub(crate) fleet: &'t FleetTables,
@@ -22,7 +22,7 @@ pub(crate) struct Tail<'t> {
     pub(crate) rows: &'t Rows,
 }
 
-/// Asks a leaf for the count of its rows.
+/// Asks a leaf for the number of its rows.
 pub(crate) fn ask_at<'t, R: Wait + Threads + Sync, G: Gate>(
     rt: &R,
     gate: &G,
@@ -42,7 +42,7 @@ pub(crate) fn ask_at<'t, R: Wait + Threads + Sync, G: Gate>(
     shared.ask(rt, seat, tail.query, gate)
 }
 
-/// Asks the second leaf of a try, where it is another than the first.
+/// Asks the second leaf of a try, if it is another than the first.
 pub(crate) fn ask_other<'t, R: Wait + Threads + Sync, G: Gate>(
     rt: &R,
     gate: &G,
@@ -76,7 +76,8 @@ pub(crate) fn add_to_picked<'t, R: Wait + Threads + Sync, G: Gate>(
     requires leaf { IfSome picked (λ leaf. leaf < length tail.now.fleet.now) }
     requires rows { AllByRecursion IsRow tail.now.rows.now }
     ensures add { is_some result ≡ is_some picked }
-    ensures calls { CallsOn tail.now.fleet.now tail.now.table seats.old (adding tail.now.rows.now picked result) seats.new }
+    ensures calls { CallsOn tail.now.fleet.now tail.now.table seats.old
+        (adding tail.now.rows.now picked result) seats.new }
     ensures seats { AreSeatsAt tail.now.fleet.now tail.now.table seats.new }
 {
     match picked {
@@ -96,7 +97,8 @@ fn add_at<'t, R: Wait + Threads + Sync, G: Gate>(
     requires seats { AreSeatsAt tail.now.fleet.now tail.now.table seats.old }
     requires leaf { leaf < length tail.now.fleet.now }
     requires rows { AllByRecursion IsRow tail.now.rows.now }
-    ensures call { CallAt tail.now.fleet.now tail.now.table seats.old (record { leaf = leaf; call = call.Add tail.now.rows.now; reply = result }) seats.new }
+    ensures call { CallAt tail.now.fleet.now tail.now.table seats.old
+        (record { leaf = leaf; call = call.Add tail.now.rows.now; reply = result }) seats.new }
     ensures seats { AreSeatsAt tail.now.fleet.now tail.now.table seats.new }
 {
     let tables = tail.fleet.leaf(leaf);

@@ -1,4 +1,4 @@
-//! Rows that go to the table of one number at one of two leaves, which the words of a key draw: to the live one with more free rows.
+//! A tail: rows that go to one of two leaves, which the words of a key draw. The leaf with more free rows gets them.
 #![tactic(auto)]
 
 mod calls;

@@ -7,7 +7,7 @@ use crate::tries::Try;
 use leaf_table::Reply;
 use tail_picks::{free_rows, pick};
 
-/// The leaf that is picked by what both answered: one of the two.
+/// The leaf to pick by both replies. None if neither told its free rows.
 pub(crate) fn pick_by(first: u32, one: &Reply, second: u32, two: &Option<Reply>) -> Option<u32>
     ensures picked { result ≡ picked first (free_of one.now) second (option_and_then free_of two.now) }
 {
@@ -18,7 +18,7 @@ pub(crate) fn pick_by(first: u32, one: &Reply, second: u32, two: &Option<Reply>)
     pick(first, free_by(one), second, other)
 }
 
-// How many rows a leaf's table takes besides, where it answered the count.
+// The free rows of a leaf's table, if it answered the count.
 fn free_by(reply: &Reply) -> Option<u64>
     ensures { result ≡ free_of reply.now }
 {
@@ -33,7 +33,7 @@ fn free_by(reply: &Reply) -> Option<u64>
     }
 }
 
-// Whether an add was taken.
+// Whether the add was accepted.
 fn is_taken(reply: &Reply) -> bool
     ensures { result ≡ is_added reply.now }
 {
@@ -49,7 +49,8 @@ fn is_taken(reply: &Reply) -> bool
 }
 
 impl Try {
-    /// The leaf to which the rows were to be added: the live one with more free rows, the first one in a tie.
+    /// The leaf that the rows were offered: that with more free rows, the first in a tie. None if neither told its free
+    /// rows.
     pub fn picked(&self) -> Option<u32>
         ensures { result ≡ pick_of free_of is_added (try_seen self.now) }
     {
@@ -57,7 +58,7 @@ impl Try {
     }
 }
 
-/// The leaf that took the rows, if this try ended so.
+/// The leaf that took the rows, if this try was the last.
 pub(crate) fn taker(tried: &Try) -> Option<u32>
     ensures { result ≡ sent_by free_of is_added (try_seen tried.now) }
 {

@@ -1,4 +1,4 @@
-// A tail from its first try to its end.
+// A tail, from its first try to its end.
 ghost use Rattle.std.specs.Prelude.{◌≡◌, ◌<◌, ℕ, List, length, IfOk, IsErr};
 ghost use Rattle.std.specs.List.{AllByRecursion};
 ghost use Rattle.rand_core.specs.Steps.{first_words};
@@ -22,9 +22,10 @@ use std::sync::Wait;
 use std::thread::Threads;
 use tail_picks::every_row;
 
-/// Sends rows to the table of that number at one leaf of the fleet, by the seat of callers at each. In each of at most 16 tries the next two words draw two leaves;
-/// these are asked for the count of their rows, and a copy of the rows is added to the live one with more free rows, the first one in a tie. The first add that is
-/// taken ends the tries. A copy that is refused memory is an add that is refused memory. Err is want of memory, which is found before any leaf is asked.
+/// Sends rows to the table with this index at one leaf, by the callers' seat at each. In each of at most 16 tries the
+/// next two words draw two leaves, which are asked for their number of rows. A copy of the rows is added to the one
+/// with more free rows, the first in a tie. The first add that is accepted ends the tail. If memory for a copy runs
+/// out, the add is refused with NoMemory. Err is want of memory before any leaf was asked.
 pub fn send<R: Wait + Threads + Sync, G: Gate>(
     rt: &R,
     alloc: Global,
@@ -38,15 +39,18 @@ pub fn send<R: Wait + Threads + Sync, G: Gate>(
     requires seats { AreSeatsAt fleet.now table seats.old }
     requires some { 0 < length fleet.now }
     requires rows { AllByRecursion IsRow rows.now }
-    // The tries are those of the words, and end as these say.
-    ensures tails { IfOk result (λ t. Tails free_of is_added (length fleet.now) (first_words pcg32 32 words.old) (tries_seen t.tries) (sent_to t.sent)) }
-    // Each try draws its two words, and no more are drawn.
+    // The tries are those of the words, and end as the tail says.
+    ensures tails { IfOk result (λ t. Tails free_of is_added
+        (length fleet.now) (first_words pcg32 32 words.old) (tries_seen t.tries) (sent_to t.sent)) }
+    // Each try drew two words, and no other word was drawn.
     ensures words { IfOk result (λ t. words.new ≡ behind_tries (length t.tries) words.old) }
     // Each reply is that of a call by the seat of its leaf, one call after another.
-    ensures calls { IfOk result (λ t. CallsOn fleet.now table seats.old (calls_in rows.now (tries_seen t.tries)) seats.new) }
-    // What a leaf answered counts the rows before its entry, however the histories go on.
-    ensures over { (histories : ℕ → List Entry) → GoOn seats.new histories → IfOk result (λ t. AllByRecursion (IsOverRows (bases_in fleet.now table) histories) (calls_in rows.now (tries_seen t.tries))) }
-    // Where memory is wanted, no leaf was asked, and no word drawn.
+    ensures calls { IfOk result (λ t.
+        CallsOn fleet.now table seats.old (calls_in rows.now (tries_seen t.tries)) seats.new) }
+    // The count in an answer is that of the rows before its entry, however the histories go on.
+    ensures over { (histories : ℕ → List Entry) → GoOn seats.new histories → IfOk result (λ t.
+        AllByRecursion (IsOverRows (bases_in fleet.now table) histories) (calls_in rows.now (tries_seen t.tries))) }
+    // After Err no leaf was asked, and no word was drawn.
     ensures refused { IsErr result → seats.new ≡ seats.old }
     ensures undrawn { IsErr result → words.new ≡ words.old }
     ensures seats { AreSeatsAt fleet.now table seats.new }

@@ -1,22 +1,22 @@
-// What a tail did, try by try.
+// The tries of a tail.
 ghost use Rattle.std.specs.Prelude.{◌≡◌};
 
 use leaf_table::Reply;
 use std::marker::Model;
 
-/// A try: the leaves that were drawn, and what they answered.
+/// A try: the two leaves that were drawn, and the replies.
 #[derive(Drop)]
 pub struct Try {
     pub first: u32,
     pub second: u32,
     pub one: Reply,
-    /// None where both are one leaf.
+    /// None if both are the same leaf.
     pub two: Option<Reply>,
-    /// None where neither is live.
+    /// None if neither told its free rows.
     pub added: Option<Reply>,
 }
 
-/// The tries of a tail in their order. Contracts see them as the list.
+/// The tries of a tail, in order. Contracts see them as the list.
 #[derive(Drop)]
 pub struct Tries {
     inner: Vec<Try>,
@@ -54,13 +54,13 @@ impl Tries {
 /// Where the rows of a tail went.
 #[derive(Clone, Copy, PartialEq, Eq)]
 pub enum Sent {
-    /// The leaf whose table took them.
+    /// The leaf that took them.
     To(u32),
-    /// None of 16 tries ended with an add.
+    /// None: no add of 16 tries was accepted.
     Refused,
 }
 
-/// How a tail ended, and all that it tried.
+/// How a tail ended, and its tries.
 #[derive(Drop)]
 pub struct Tailed {
     pub sent: Sent,

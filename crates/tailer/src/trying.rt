@@ -1,4 +1,4 @@
-// The tries of a tail, one after another.
+// Makes the tries of a tail, one after another.
 ghost use Rattle.std.specs.Prelude.{◌≡◌, ◌<◌, ◌≤◌, ◌==◌, [], length, not, is_some, vec_capacity};
 ghost use Rattle.std.specs.List.{AllByRecursion};
 ghost use Rattle.rand_core.specs.Steps.{first_words};
@@ -19,7 +19,7 @@ use std::sync::Wait;
 use std::thread::Threads;
 use tail_picks::next_leaves;
 
-/// How many tries a tail has.
+/// The most tries of a tail.
 pub(crate) const TRIES: usize = 16;
 
 // One try over two leaves.
@@ -38,7 +38,8 @@ fn try_once<'t, R: Wait + Threads + Sync, G: Gate>(
     ensures leaves { (result.first ≡ first) × (result.second ≡ second) }
     ensures two { is_some result.two ≡ not (first == second) }
     ensures add { is_some result.added ≡ is_some (pick_of free_of is_added (try_seen result)) }
-    ensures calls { CallsOn tail.now.fleet.now tail.now.table seats.old (calls_of tail.now.rows.now (try_seen result)) seats.new }
+    ensures calls { CallsOn tail.now.fleet.now tail.now.table seats.old
+        (calls_of tail.now.rows.now (try_seen result)) seats.new }
     ensures seats { AreSeatsAt tail.now.fleet.now tail.now.table seats.new }
 {
     let one = ask_at(rt, gate, tail, first, seats);
@@ -54,7 +55,7 @@ fn try_once<'t, R: Wait + Threads + Sync, G: Gate>(
     }
 }
 
-/// Tries until an add is taken, and puts down each try, for which there is room.
+/// Tries until an add is accepted, and appends each try to a list that has room for all.
 pub(crate) fn try_all<'t, R: Wait + Threads + Sync, G: Gate>(
     rt: &R,
     gate: &G,
@@ -69,9 +70,11 @@ pub(crate) fn try_all<'t, R: Wait + Threads + Sync, G: Gate>(
     requires rows { AllByRecursion IsRow tail.now.rows.now }
     requires none { tries.old.items ≡ [] }
     requires room { 16 ≤ vec_capacity tries.old }
-    ensures tails { Tails free_of is_added (length tail.now.fleet.now) (first_words pcg32 32 words.old) (tries_seen tries.new.items) (sent_to result) }
+    ensures tails { Tails free_of is_added (length tail.now.fleet.now)
+        (first_words pcg32 32 words.old) (tries_seen tries.new.items) (sent_to result) }
     ensures words { words.new ≡ behind_tries (length tries.new.items) words.old }
-    ensures calls { CallsOn tail.now.fleet.now tail.now.table seats.old (calls_in tail.now.rows.now (tries_seen tries.new.items)) seats.new }
+    ensures calls { CallsOn tail.now.fleet.now tail.now.table seats.old
+        (calls_in tail.now.rows.now (tries_seen tries.new.items)) seats.new }
     ensures seats { AreSeatsAt tail.now.fleet.now tail.now.table seats.new }
 {
     let leaves = seats.len() as u32;

@@ -1,4 +1,4 @@
--- The numbers that words of digits are.
+-- Numbers that are written in digits.
 use Rattle.std.specs.Prelude.{ℕ, ℤ, pos, ◌-◌, ◌^◌, min, ◌==◌, ◌&&◌, List, [], ◌∷◌, length, nat_lt, nat_le, Bool, not, if◌then◌else◌, Option, Some, None}
 use Rattle.std.specs.Char.{is_ascii_digit}
 use Rattle.std.specs.List.{filter, list_all, position_from}
@@ -9,18 +9,18 @@ use Rattle.std.specs.Str.Parse.{digits_value}
 abbrev pub is_number : List ℕ → Bool
 is_number word = nat_lt 0 (length word) && nat_le (length word) 20 && list_all is_ascii_digit word
 
--- the number that a word of 1 to 20 digits is
+-- the number of a word of 1 to 20 digits
 abbrev pub number_of : List ℕ → Option ℕ
 number_of word = if is_number word then Some (digits_value 10 word) else None
 
--- a number that a 64-bit word holds, or the greatest such
+-- the number, but at most 2^64 - 1
 abbrev pub capped : ℕ → ℕ
 capped n = min n (2 ^ 64 - 1)
 
--- the number that a word of 1 to 20 digits is, where a 64-bit word holds it
+-- the number of a word of 1 to 20 digits, if it is below 2^64
 abbrev pub count_of : List ℕ → Option ℕ
 count_of word = if is_number word && nat_lt (digits_value 10 word) (2 ^ 64) then Some (digits_value 10 word) else None
 
--- the time that a word of 1 to 20 digits is
+-- the number of a word of 1 to 20 digits, if it is a time: below 2^63
 abbrev pub time_of : List ℕ → Option ℤ
 time_of word = if is_number word && nat_lt (digits_value 10 word) (2 ^ 63) then Some (pos (digits_value 10 word)) else None

@@ -1,12 +1,12 @@
-// How many lines a text has, counted by the ends of the lines.
+// Counts the lines of a text by their ends.
 ghost use Rattle.std.specs.Prelude.{◌≡◌, ◌≤◌, ◌==◌, length, if◌then◌else◌};
 ghost use Rattle.text_lines.specs.Lines.{lines_of};
 ghost use Rattle.text_lines.specs.Parts.{ends, ends_line};
 
-/// So many bytes are counted in a byte, which lets the compiler compare many of them at once.
+/// The bytes that are counted in a u8, which lets the compiler compare many of them at once.
 const CHUNK: usize = 192;
 
-/// How many lines a text has.
+/// The number of lines.
 #[tactic(auto, using(crate::proofs::Counted::counted_ended, crate::proofs::Counted::counted_open))]
 pub fn line_count(text: &[u8]) -> u64
     ensures { result ≡ length (lines_of text.now) }
@@ -15,7 +15,7 @@ pub fn line_count(text: &[u8]) -> u64
     if ends_line(text) { count } else { count + 1 }
 }
 
-/// Whether a text is nothing, or its last line has its end.
+/// Whether the text is empty, or ends with a line end.
 #[tactic(auto, using(crate::proofs::Counted::ends_line_last))]
 fn ends_line(text: &[u8]) -> bool
     ensures { result ≡ ends_line text.now }
@@ -26,7 +26,7 @@ fn ends_line(text: &[u8]) -> bool
     }
 }
 
-/// How many lines of a text have their end.
+/// The number of line ends.
 #[tactic(auto, using(crate::proofs::Counted::ends_cut))]
 fn ends(text: &[u8]) -> u64
     ensures exact { result ≡ ends text.now }
@@ -42,7 +42,7 @@ fn ends(text: &[u8]) -> u64
     count + ends_in(rest) as u64
 }
 
-/// How many lines of so short a text have their end.
+/// The number of line ends of at most 192 bytes.
 #[tactic(auto, using(crate::proofs::Counted::ends_next))]
 fn ends_in(text: &[u8]) -> u8
     requires { length text.now ≤ 192 }

@@ -1,4 +1,4 @@
-//! The lines of a text: cut one by one, counted, passed over many at once, and in parts that threads read side by side.
+//! The lines of a text: cut one by one, counted, skipped many at a time, or in parts that threads read.
 #![tactic(auto)]
 
 mod ends;

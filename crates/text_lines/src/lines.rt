@@ -1,4 +1,4 @@
-// The lines of a text, and the pieces of a line.
+// Cuts lines off a text, and pieces off a line.
 ghost use Rattle.std.specs.Prelude.{◌≡◌, ◌<◌, ◌≤◌, ◌+◌, ◌-◌, ◌∷◌, ℕ, None, IfSome, length, take, drop, nat_le};
 ghost use Rattle.text_lines.specs.Lines.{before, behind, lines, lines_of, without_return, is_blank, is_comment, is_skipped};
 ghost use Rattle.text_lines.specs.Parts.{IsLineCut, IsTextCut};
@@ -6,7 +6,7 @@ ghost use Rattle.text_lines.specs.Parts.{IsLineCut, IsTextCut};
 use crate::passing::pass_blocks;
 use memchr::memchr;
 
-/// What stands before the first byte `at`, and what stands behind it.
+/// The bytes before the first byte `at`, and the bytes after it. Without that byte: all, and none.
 pub fn cut_at(at: u8, text: &[u8]) -> (&[u8], &[u8])
     ensures before { result.0.now ≡ before at text.now }
     ensures behind { result.1.now ≡ behind at text.now }
@@ -17,7 +17,7 @@ pub fn cut_at(at: u8, text: &[u8]) -> (&[u8], &[u8])
     }
 }
 
-/// The first line of a text, and the text behind it.
+/// The first line, without its end, and the text after it.
 pub fn cut_line(text: &[u8]) -> (&[u8], &[u8])
     requires { 0 < length text.now }
     ensures lines { lines text.now ≡ result.0.now ∷ lines result.1.now }
@@ -27,7 +27,7 @@ pub fn cut_line(text: &[u8]) -> (&[u8], &[u8])
     cut_at(b'\n', text)
 }
 
-/// The line without the byte 13 at its end.
+/// The line without a byte 13 at its end.
 pub fn without_return(line: &[u8]) -> &[u8]
     ensures { result.now ≡ without_return line.now }
 {
@@ -37,14 +37,14 @@ pub fn without_return(line: &[u8]) -> &[u8]
     }
 }
 
-/// Whether a line is empty or has spaces alone.
+/// Whether a line is empty, or has spaces alone.
 pub fn is_blank(line: &[u8]) -> bool
     ensures { result ≡ is_blank line.now }
 {
     line.iter().all(|byte| *byte == b' ')
 }
 
-/// Whether a line is no command, where a command may stand.
+/// Whether a line is blank or a comment, and so no command.
 pub fn is_skipped(line: &[u8]) -> bool
     ensures { result ≡ is_skipped line.now }
 {
@@ -60,7 +60,7 @@ fn is_comment(line: &[u8]) -> bool
     }
 }
 
-/// The first lines of a text, so many, and the text behind them, where it has so many.
+/// The first `count` lines, and the text after them. None if the text has fewer lines.
 pub fn cut_lines(text: &[u8], count: u64) -> Option<(&[u8], &[u8])>
     ensures cut { IfSome result (λ cut. IsTextCut text.now cut.0.now cut.1.now) }
     ensures front { IfSome result (λ cut. lines_of cut.0.now ≡ take count (lines_of text.now)) }

@@ -1,4 +1,4 @@
-// A text in parts that threads read side by side.
+// Cuts a text into parts for threads.
 ghost use Rattle.std.specs.Prelude.{◌≡◌, ◌<◌, ◌≤◌, ◌⊎◌, length, take, drop, max, true, IfOk};
 ghost use Rattle.text_lines.specs.Lines.{lines_of};
 ghost use Rattle.text_lines.specs.Parts.{IsTextCut, bytes_of_parts, ends, ends_line, lines_of_parts};
@@ -7,13 +7,13 @@ use crate::lines::{cut_line, cut_lines};
 use memchr::memrchr;
 use std::alloc::{AllocError, Global};
 
-/// So few lines are read by one thread: another would cost more than it takes over.
+/// The least number of lines that is worth a second thread.
 pub const MANY_LINES: u64 = 2048;
 
-/// A text of many lines is cut into so many parts, a few for each processor, since parts take unlike times.
+/// The most parts of a text: a few for each processor, as some parts take longer than others.
 const PARTS: usize = 16;
 
-/// The parts of a text that are read side by side: one alone of a text of few lines.
+/// The parts of a text, for threads to read. A text of few lines is one part. Err if memory runs out.
 pub fn parts_of(alloc: Global, text: &[u8]) -> Result<Vec<&[u8]>, AllocError>
     ensures joined { IfOk result (λ parts. bytes_of_parts parts.items ≡ text.now) }
     ensures lines { IfOk result (λ parts. lines_of_parts parts.items ≡ lines_of text.now) }
@@ -26,7 +26,7 @@ pub fn parts_of(alloc: Global, text: &[u8]) -> Result<Vec<&[u8]>, AllocError>
     cut_parts(alloc, text, count)
 }
 
-/// The text in at most so many parts, each of which but the last ends with a line's end.
+/// At most `count` parts. Each but the last ends with a line end.
 fn cut_parts(alloc: Global, text: &[u8], count: usize) -> Result<Vec<&[u8]>, AllocError>
     requires { 0 < count }
     ensures joined { IfOk result (λ parts. bytes_of_parts parts.items ≡ text.now) }
@@ -44,7 +44,7 @@ fn cut_parts(alloc: Global, text: &[u8], count: usize) -> Result<Vec<&[u8]>, All
     Ok(parts)
 }
 
-/// The text up to the end of the line that its byte at this place belongs to, and what stands behind it.
+/// The text up to the end of the line with the byte at `place`, and the text after it.
 pub fn cut_behind(text: &[u8], place: usize) -> (&[u8], &[u8])
     requires { place < length text.now }
     ensures cut { IsTextCut text.now result.0.now result.1.now }
@@ -55,7 +55,7 @@ pub fn cut_behind(text: &[u8], place: usize) -> (&[u8], &[u8])
     text.split_at(text.len() - rest.len())
 }
 
-/// Where the last line that has its end has ended, if that is behind so many first bytes; else 0.
+/// The length of the text up to its last line end, if that is after the first `looked` bytes; else 0.
 pub fn last_end(text: &[u8], looked: usize) -> usize
     requires { looked ≤ length text.now }
     ensures within { result ≤ length text.now }

@@ -1,25 +1,25 @@
-// Lines that are passed over many at a time.
+// Skips many lines at a time.
 ghost use Rattle.std.specs.Prelude.{◌≡◌, ◌<◌, ◌≤◌, length, IfSome};
 ghost use Rattle.text_lines.specs.Parts.{IsFront};
 
 use crate::ends::line_count;
 use crate::parts::cut_behind;
 
-/// Of so many bytes the lines are counted at once.
+/// The bytes whose lines are counted at once.
 const BLOCK: usize = 1024;
 
-/// So few lines are found sooner one by one.
+/// Up to this many lines it is faster to skip them one by one.
 const FEW_LINES: u64 = 32;
 
-/// How many lines were passed, and the text behind them.
+/// The number of lines that were skipped, and the text after them.
 #[derive(Clone, Copy)]
 pub struct Passed<'a> {
     pub lines: u64,
     pub after: &'a [u8],
 }
 
-/// Passes blocks of lines, as long as there are no more lines than this in all. The lines that then are to be passed are about
-/// as few as those of a block.
+/// Skips blocks of lines, at most `most` lines in all. The lines that are then left to skip are about as many as those
+/// of one block.
 #[tactic(auto, using(crate::proofs::InParts::front_none, crate::proofs::InParts::front_then))]
 pub fn pass_blocks(text: &[u8], most: u64) -> Passed
     ensures front { IsFront text.now result.after.now result.lines }
@@ -34,7 +34,8 @@ pub fn pass_blocks(text: &[u8], most: u64) -> Passed
     Passed { lines, after: rest }
 }
 
-/// Passes the lines that the first bytes of a text belong to, where they are so many bytes and no more lines than this.
+/// Skips the lines that the first block of bytes stands in. None if the text is shorter than a block, or these are more
+/// than `most` lines.
 #[tactic(auto, using(crate::proofs::InParts::front_of_cut))]
 fn pass_block(text: &[u8], most: u64) -> Option<Passed>
     ensures front { IfSome result (λ passed. IsFront text.now passed.after.now passed.lines) }

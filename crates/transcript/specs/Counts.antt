@@ -1,4 +1,4 @@
--- The faults and the reads that a leaf's lines tell of, and what its berth counted.
+-- The faults and reads that the lines of a leaf tell, and those that its berth counted.
 use Rattle.std.specs.Prelude.{◌≡◌, ℕ, ◌-◌, ◌+◌, ◌==◌, ◌&&◌, ◌^◌, ◌≤◌, min, if◌then◌else◌, Bool, true, false, List, [], ◌∷◌}
 use Rattle.berth_face.specs.Berth.{Meaning}
 use Rattle.leaf_words.specs.declared.ways.Way.TheVariants.{Memory}
@@ -16,20 +16,20 @@ abbrev pub is_disk_fault : Ending → Bool
 is_disk_fault ends.FaultDisk = true
 is_disk_fault _ = false
 
--- a start that did not come from memory
+-- a start that may read the disk: it did not come from memory, and the leaf was down
 abbrev pub reads_disk : Deed → Ending → Bool
 reads_disk Start (ends.Started Memory) = false
 reads_disk Start ends.NotDown = false
 reads_disk Start _ = true
 reads_disk _ ending = false
 
--- how many of a leaf's deeds are such
+-- how many deeds of a leaf pass the test
 abbrev pub deeds_in : (Deed → Ending → Bool) → ℕ → List Piece → ℕ
 deeds_in test leaf [] = 0
 deeds_in test leaf (Acted l deed notes ending ∷ pieces) = (if (l == leaf) && test deed ending then 1 else 0) + deeds_in test leaf pieces
 deeds_in test leaf (_ ∷ pieces) = deeds_in test leaf pieces
 
--- at least so many faults were counted, unless the count stands at its last value
+-- the count rose by at least `count`, or stands at the last value of a u64
 abbrev pub Counted : ℕ → ℕ → ℕ → Type 0
 Counted before now count = min (before + count) (2 ^ 64 - 1) ≤ now
 
@@ -42,7 +42,7 @@ disk_faults_in leaf pieces = deeds_in (λ deed ending. is_disk_fault ending) lea
 abbrev pub disk_reads_in : ℕ → List Piece → ℕ
 disk_reads_in leaf pieces = deeds_in reads_disk leaf pieces
 
--- A leaf's fault lines have their cause; and where each of its starts came from memory, the disk was not read.
+-- Each fault that a leaf's lines tell was counted. If no start of the leaf read the disk, the disk was not read.
 pub record CountsRose (leaf : ℕ) (pieces : List Piece) (old new : Meaning) : Type 0 where
   pub region : Counted old.region_faults new.region_faults (region_faults_in leaf pieces)
   pub disk : Counted old.disk_faults new.disk_faults (disk_faults_in leaf pieces)

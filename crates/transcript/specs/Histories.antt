@@ -1,4 +1,4 @@
--- One history for each table, by the numbers of its lines; and in which order the numbers rise.
+-- The one history of each table, by the numbers in its lines, and the order in which these numbers are printed.
 use Rattle.std.specs.Prelude.{◌≡◌, ℕ, suc, ◌-◌, ◌<◌, ◌≤◌, ◌==◌, ◌&&◌, Bool, List, [], ◌∷◌, take, Option, Some, None, ⊤, if◌then◌else◌, IsPermutation}
 use Rattle.std.specs.List.{AllByRecursion, flat_map}
 use Rattle.leaf_model.specs.declared.rows.Row.{Row}
@@ -12,7 +12,7 @@ use Rattle.printed_lines.specs.declared.line.Said.{Said}
 use Rattle.printed_lines.specs.declared.line.Said.TheVariants.{Added, Removed, Asked, RefusedShut, RefusedFull, RefusedMemory, Opened, Took, Flushed, Closed, Handed}
 use Rattle.transcript.specs.Pieces.{Piece, Called, Acted, Noted, PlayedItem, One, Burst, pieces_in}
 
--- the line of an entry, with the call that a caller made
+-- the line of an entry, and the call if a caller made it
 pub record Shown : Type 0 where
   pub number : ℕ
   pub call : Option Call
@@ -29,11 +29,11 @@ shown_in leaf table (Called l t c number said) = shown_if ((l == leaf) && (t == 
 shown_in leaf table (Acted l deed notes ending) = if l == leaf then shown_notes table notes else []
 shown_in leaf table _ = []
 
--- the entry lines of a table, in the order of printing
+-- the lines of a table's entries, in the order of printing
 abbrev pub shown : ℕ → ℕ → List Piece → List Shown
 shown leaf table pieces = flat_map (shown_in leaf table) pieces
 
--- the entry is what the line says
+-- the line tells this entry
 abbrev pub Shows : Option Call → Said → Entry → Type 0
 Shows c (Added kept late) e = (c ≡ Some e.call) × (e.reply ≡ reply.Added kept late)
 Shows c (Removed rows) e = (c ≡ Some e.call) × (e.reply ≡ reply.Removed rows)
@@ -47,22 +47,22 @@ Shows c (Flushed n) e = (c ≡ None) × (e.call ≡ call.Flushed n)
 Shows c (Closed n) e = (c ≡ None) × (e.call ≡ call.Shut) × (e.reply ≡ reply.Counted n)
 Shows c Handed e = (c ≡ None) × (e.call ≡ call.Done)
 
--- Lines with the numbers from n on show these entries.
+-- Lines with the numbers from n on tell these entries.
 abbrev pub Tells : ℕ → List Shown → List Entry → Type 0
 Tells n [] [] = ⊤
 Tells n (s ∷ ss) (e ∷ es) = (s.number ≡ n) × Shows s.call s.said e × Tells (suc n) ss es
 Tells n _ _ = ⊥
 
--- what a table begins from: founded with a base, or not
+-- what a table begins with: whether it is founded, and its base
 pub record Ground : Type 0 where
   pub founded : Bool
   pub base : HistoryState
 
--- the rows of a table as they are before the entry of this number
+-- the rows of a table before entry `number`
 abbrev pub rows_before : Ground → List Entry → ℕ → List Row
 rows_before g entries number = (held (after g.founded g.base (take (number - 1) entries))).rows
 
--- A table's lines, put in the order of their numbers, have the numbers from 1 on, once each, and show the entries of one legal history.
+-- A table's lines, sorted by number, have the numbers from 1 on, each once, and tell the entries of one legal history.
 pub record IsHistoryOf (g : Ground) (lines : List Shown) (entries : List Entry) : Type 0 where
   pub legal : LegalFrom g.founded g.base entries
   pub placed : List Shown
@@ -71,17 +71,18 @@ pub record IsHistoryOf (g : Ground) (lines : List Shown) (entries : List Entry) 
 
 -- ---- the order of printing
 
--- the numbers rise, from above `low` to at most `high`
+-- the numbers rise, and are above `low` and at most `high`
 abbrev pub Rises : ℕ → List Shown → ℕ → Type 0
 Rises low [] high = low ≤ high
 Rises low (s ∷ ss) high = (low < s.number) × Rises s.number ss high
 
--- those of a command, or of each lane of a burst
+-- the numbers rise in a command, or in each lane of a burst
 abbrev pub ItemRises : ℕ → ℕ → ℕ → PlayedItem → ℕ → Type 0
 ItemRises leaf table low (One p) high = Rises low (shown leaf table p.pieces) high
 ItemRises leaf table low (Burst lanes) high = (low ≤ high) × AllByRecursion (λ lane. Rises low (shown leaf table (pieces_in lane)) high) lanes
 
--- Outside bursts and within a lane the numbers of a table rise; those of a burst lie above all before it and below all behind it.
+-- The numbers of a table rise outside bursts and within each lane. Those of a burst are above all before it and below
+-- all after it.
 abbrev pub InOrder : ℕ → ℕ → ℕ → List PlayedItem → ℕ → Type 0
 InOrder leaf table low [] high = low ≤ high
 InOrder leaf table low (x ∷ xs) high = (between : ℕ) × ItemRises leaf table low x between × InOrder leaf table between xs high

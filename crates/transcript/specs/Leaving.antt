@@ -1,4 +1,4 @@
--- What a run writes and leaves, over leaves of whose berths the base is known or not.
+-- What a run writes and leaves, over leaves whose base is known or not.
 use Rattle.std.specs.Prelude.{◌≡◌, ℕ, ◌<◌, true, List, drop, Option, Some, None, IfSome, slice_get, ⊤}
 use Rattle.std.specs.Io.KnownBytes.{Appends}
 use Rattle.berth_face.specs.Berth.{Meaning}
@@ -30,9 +30,10 @@ use Rattle.transcript.specs.Moments.{MomentsRise, notes_told}
 
 -- ---- one leaf's berth with a base
 
--- At every moment since the run began, each region and disk that a crash may leave belong to the tables as they stood then, each cut behind the last entry that
--- the steward had made; now they belong to the tables with all their entries; a run may begin over the berth again; its first start prints what is claimed of it;
--- and an image that a drain of this run left is of the version that drains write.
+-- At each moment since the run began, each pair that a crash may leave belongs to the tables as they stood then, each
+-- cut after the steward's last entry. Now each belongs to the tables with all their entries. A run may begin over the
+-- berth again, and its first start prints the way that is claimed of it. An image that a drain of this run left has the
+-- version that drains write.
 pub record LeavesBerth (names : List (List ℕ)) (base : NamedStates) (life : Life) (histories : ℕ → List Entry) (old new : Meaning) : Type 0 where
   pub crash : moments.Told base (watched_with names base unseen) (watched_with names base histories) old new
   pub left : EachNow (λ p. Left reads (tables_of base (watched_with names base histories) new) p) new
@@ -40,24 +41,25 @@ pub record LeavesBerth (names : List (List ℕ)) (base : NamedStates) (life : Li
   pub way : IfSome life.way (IsWayOf new.held.region)
   pub layout : life.begun ≡ true → life.way ≡ Some Memory → head_of new.held.region ≡ Version layout
 
--- what is known of a leaf's beginning, by its berth's base
+-- what is known of how a leaf begins, by the base of its berth
 abbrev pub IsKnown : Option NamedStates → Meaning → Option Known → Type 0
 IsKnown None m None = ⊤
 IsKnown (Some base) m (Some k) = (k.base ≡ base) × (k.held ≡ m.held) × IsWayOf m.held.region k.way × ((name : List ℕ) → LogHas m.held.disk name (k.read name))
 IsKnown _ m _ = ⊥
 
--- ---- all of them
+-- ---- all berths
 
 module _ {B : Type 0} (meaning : B → Meaning) (olds news : List B) where
-  -- P of the leaf's berth as it was and is
+  -- P holds of the leaf's berth, as it was and as it is
   abbrev pub AtBerth : ℕ → (Meaning → Meaning → Type 0) → Type 0
   AtBerth leaf P = (old new : B) → slice_get olds leaf ≡ Some old → slice_get news leaf ≡ Some new → P (meaning old) (meaning new)
 
   abbrev pub AreKnown : (ℕ → Option NamedStates) → (ℕ → Option Known) → Type 0
   AreKnown base known = (leaf : ℕ) (old : B) → slice_get olds leaf ≡ Some old → IsKnown (base leaf) (meaning old) (known leaf)
 
-  -- These lines are a transcript of the items, standing queries tell what they should, faults and strangers have their cause, the watches heard what the lines tell, the berths are left
-  -- so, and the clocks of a leaf's entries do not fall; berths that no leaf uses are untouched.
+  -- These lines are a transcript of the items. Standing queries tell what they should. Faults and strangers have their
+  -- cause. The watches heard what the lines tell. Each leaf leaves its berth so, and the clocks of its entries do not
+  -- fall. Berths that no leaf uses are untouched.
   pub record IsToldRun (items : List Item) (known : ℕ → Option Known) (lines : List Line) (before after : List Held) : Type 0 where
     pub transcript : Transcript (script_fleet items) known items (lines_text (script_fleet items).names lines)
     pub lines_are : all_lines transcript.played ≡ lines
@@ -72,7 +74,7 @@ module _ {B : Type 0} (meaning : B → Meaning) (olds news : List B) where
         AtBerth leaf (λ old new. MomentsRise (transcript.histories leaf) old.clock (notes_told leaf (all_pieces transcript.played)) new.clock)
     pub others : drop (leaf_count (script_fleet items)) news ≡ drop (leaf_count (script_fleet items)) olds
 
-  -- The text of these lines was written, whatever is known of the berths' beginnings.
+  -- The text of these lines was written. They tell the run, whatever is known of how its leaves began.
   pub record IsWritten (base : ℕ → Option NamedStates) (items : List Item) (was now : Option (List ℕ)) (before after : List Held) : Type 0 where
     pub lines : List Line
     pub written : Appends was now (lines_text (script_fleet items).names lines)

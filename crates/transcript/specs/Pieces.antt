@@ -1,4 +1,4 @@
--- What the commands of a script print, piece by piece.
+-- The pieces that the commands of a script print.
 use Rattle.std.specs.Prelude.{ℕ, suc, ◌==◌, List, [], ◌∷◌, ◌++◌, map, Option, if◌then◌else◌, bytes_eq}
 use Rattle.std.specs.List.{flat_map}
 use Rattle.leaf_history.specs.Calls.{Call}
@@ -13,14 +13,14 @@ use Rattle.printed_lines.specs.declared.line.Ending.{Ending}
 use Rattle.printed_lines.specs.declared.line.Line.{Line}
 use Rattle.printed_lines.specs.declared.line.Line.TheVariants as line
 
--- the line of an entry that a leaf's steward made
+-- the note of an entry of a leaf's steward
 pub record Noted : Type 0 where
   pub table : ℕ
   pub number : ℕ
   pub said : Said
 
--- A piece of what a command prints: a caller's call that made an entry; one whose seat is worn, which made none; what a leaf's steward did, with its entries
--- and how it ended; or a line that tells of no entry.
+-- A piece of what a command prints: a caller's call, with its entry; a call whose seat is worn, without one; a deed of
+-- a leaf's steward, with its entries and how it ended; or a line that tells no entry.
 pub data Piece : Type 0 where
   Called : (leaf table : ℕ) (call : Call) (number : ℕ) (said : Said) → Piece
   Worn : (leaf table : ℕ) → Piece
@@ -39,7 +39,7 @@ piece_lines (Says l) = l ∷ []
 abbrev pub lines_in : List Piece → List Line
 lines_in pieces = flat_map piece_lines pieces
 
--- a command, and what it printed
+-- a command, and the pieces that it printed
 pub record Played : Type 0 where
   pub command : Command
   pub pieces : List Piece
@@ -50,7 +50,7 @@ commands_in ps = map (λ (p : Played). p.command) ps
 abbrev pub pieces_in : List Played → List Piece
 pieces_in ps = flat_map (λ (p : Played). p.pieces) ps
 
--- an item of a script as it was played: a command, or the lanes of a burst
+-- an item of a script, as it was played: a command, or the lanes of a burst
 pub data PlayedItem : Type 0 where
   One : (played : Played) → PlayedItem
   Burst : (lanes : List (List Played)) → PlayedItem
@@ -59,7 +59,7 @@ abbrev pub item_of : PlayedItem → Item
 item_of (One p) = item.One p.command
 item_of (Burst lanes) = item.Burst (map commands_in lanes)
 
--- the lanes of a burst from this number on, each behind its number
+-- the lanes of a burst from `number` on: for each a line with its number, and then its lines
 abbrev pub lane_lines : ℕ → List (List Played) → List Line
 lane_lines number [] = []
 lane_lines number (lane ∷ lanes) = line.Lane number ∷ (lines_in (pieces_in lane) ++ lane_lines (suc number) lanes)
@@ -71,7 +71,7 @@ item_lines (Burst lanes) = lane_lines 0 lanes
 abbrev pub all_lines : List PlayedItem → List Line
 all_lines items = flat_map item_lines items
 
--- the commands in the script's order, lane by lane in a burst
+-- the commands in the order of the script, lane after lane in a burst
 abbrev pub plays_of : PlayedItem → List Played
 plays_of (One p) = p ∷ []
 plays_of (Burst lanes) = flat_map (λ lane. lane) lanes
@@ -79,7 +79,7 @@ plays_of (Burst lanes) = flat_map (λ lane. lane) lanes
 abbrev pub plays_in : List PlayedItem → List Played
 plays_in items = flat_map plays_of items
 
--- all that was printed, in that order
+-- all pieces, in that order
 abbrev pub all_pieces : List PlayedItem → List Piece
 all_pieces items = pieces_in (plays_in items)
 
@@ -95,11 +95,11 @@ abbrev pub did_in : ℕ → Piece → List Did
 did_in leaf (Acted l deed notes ending) = if l == leaf then record { deed = deed; notes = notes; ending = ending } ∷ [] else []
 did_in leaf _ = []
 
--- the deeds of the leaf with this number, one after another; in a burst they stand in one lane
+-- the deeds of this leaf, in order; within a burst they all stand in one lane
 abbrev pub deeds : ℕ → List Piece → List Did
 deeds leaf pieces = flat_map (did_in leaf) pieces
 
--- their entries, in the order of their making
+-- their entries, in the order in which they were made
 abbrev pub notes_of : List Did → List Noted
 notes_of ds = flat_map (λ (d : Did). d.notes) ds
 
@@ -112,12 +112,12 @@ abbrev pub fleet_made : Command → Fleet
 fleet_made (command.Fleet machines per_machine tables) = record { machines = machines; per_machine = per_machine; names = tables }
 fleet_made _ = no_fleet
 
--- the fleet that a script's first command makes: none where there is no command
+-- the fleet that a script's first command makes; an empty one without a command
 abbrev pub script_fleet : List Item → Fleet
 script_fleet (item.One c ∷ items) = fleet_made c
 script_fleet _ = no_fleet
 
--- the place of a name among the tables, or their number
+-- the index of a name; if there is none, the number of names
 abbrev pub place_among : List ℕ → List (List ℕ) → ℕ
 place_among name [] = 0
 place_among name (n ∷ ns) = if bytes_eq name n then 0 else suc (place_among name ns)

@@ -1,4 +1,4 @@
--- Which pieces a command prints, whatever the tables hold.
+-- Which pieces each command prints, whatever the tables hold.
 use Rattle.std.specs.Prelude.{◌≡◌, ◌⊎◌, ℕ, suc, Bool, List, [], ◌∷◌, ◌++◌, length, map, nat_lt, None, ⊤}
 use Rattle.std.specs.List.{flat_map, AllZip, range_with_len}
 use Rattle.leaf_model.specs.declared.queries.Query.{Query}
@@ -17,7 +17,7 @@ use Rattle.printed_lines.specs.declared.line.Deed.{Deed}
 use Rattle.printed_lines.specs.declared.line.Deed.TheVariants.{Start, Flush, Drain, Kill}
 use Rattle.transcript.specs.Pieces.{Piece, Called, Worn, Acted, Says, Noted, place_among}
 
--- A caller's call of a table. What it may be told, the table's history says, of which its line shows an entry.
+-- A caller's call at a table. The history of the table decides what its line may tell.
 abbrev pub CallPiece : ℕ → ℕ → Call → Piece → Type 0
 CallPiece leaf table c piece = ((number : ℕ) × (said : Said) × (piece ≡ Called leaf table c number said)) ⊎ (piece ≡ Worn leaf table)
 
@@ -25,7 +25,7 @@ CallPiece leaf table c piece = ((number : ℕ) × (said : Said) × (piece ≡ Ca
 abbrev pub ActPiece : ℕ → Deed → Piece → Type 0
 ActPiece leaf deed piece = (notes : List Noted) × (ending : Ending) × (piece ≡ Acted leaf deed notes ending)
 
--- the same deed of each of these leaves, in order
+-- this deed of each of the leaves, in order
 abbrev pub EachActs : Deed → List ℕ → List Piece → Type 0
 EachActs deed leaves pieces = AllZip (λ leaf piece. ActPiece leaf deed piece) leaves pieces
 
@@ -44,14 +44,14 @@ named_in _ = []
 abbrev pub named : List Piece → List (ℕ × ℕ)
 named pieces = flat_map named_in pieces
 
--- an ask of each leaf, and the answer, which tells how many were named
+-- an ask of each leaf, and the answer, which tells the number of named leaves
 pub record QueryPieces (fleet : Fleet) (q : Query) (pieces : List Piece) : Type 0 where
   pub asks : List Piece
   pub rows : List (List ℕ)
   pub each : AllZip (λ leaf piece. CallPiece leaf (place_among q.table fleet.names) (call.Ask q) piece) (range_with_len 0 (leaf_count fleet)) asks
   pub are : pieces ≡ asks ++ Says (line.Answer (length (named asks)) (leaf_count fleet) rows) ∷ []
 
--- a wave of so many: its line, a drain of each of its leaves, and a start of each
+-- a wave: its line, a drain of each of its leaves, and a start of each
 pub record WavePieces (number total : ℕ) (leaves : List ℕ) (pieces : List Piece) : Type 0 where
   pub drains : List Piece
   pub starts : List Piece
@@ -59,13 +59,14 @@ pub record WavePieces (number total : ℕ) (leaves : List ℕ) (pieces : List Pi
   pub started : EachActs Start leaves starts
   pub are : pieces ≡ Says (line.Wave number total leaves) ∷ (drains ++ starts)
 
--- the first of these waves, which are numbered from there on
+-- a prefix of the waves, which are numbered from `number` on
 abbrev pub WavesPieces : ℕ → ℕ → List (List ℕ) → List (List Piece) → Type 0
 WavesPieces number total waves [] = ⊤
 WavesPieces number total [] (p ∷ ps) = ⊥
 WavesPieces number total (wave ∷ waves) (p ∷ ps) = WavePieces number total wave p × WavesPieces (suc number) total waves ps
 
--- the waves of a plan that were begun; how it ended, halted just where one was left out; and a line for each watch that is left
+-- the waves of a plan that were begun; how the rollover ended: halted exactly if one was left out; and a line for each
+-- watch that is left
 pub record RollPieces (plan : List (List ℕ)) (pieces : List Piece) : Type 0 where
   pub begun : List (List Piece)
   pub halted : Bool
@@ -74,13 +75,14 @@ pub record RollPieces (plan : List (List ℕ)) (pieces : List Piece) : Type 0 wh
   pub halt : halted ≡ nat_lt (length begun) (length plan)
   pub are : pieces ≡ flat_map (λ (wave : List Piece). wave) begun ++ (Says (line.Rolled halted (length begun) (length plan)) ∷ map (λ (text : List ℕ). Says (line.Watch text)) texts)
 
--- a rollover of that share, by its plan
+-- a rollover with this share, by some plan
 pub record Rolls (fleet : Fleet) (percent : ℕ) (pieces : List Piece) : Type 0 where
   pub plan : List (List ℕ)
   pub is_plan : IsPlan fleet.machines fleet.per_machine percent plan
   pub roll : RollPieces plan pieces
 
--- One case a command. A new command adds a case. What a tail prints depends on what the tables hold, and is said among the answers; what standing queries print depends on what was printed before.
+-- One case for each command; a new command adds one. Answers has what a tail prints, which depends on the rows of the
+-- tables. Telling has what standing queries print, which depends on what was printed before.
 abbrev pub Prints : Fleet → Command → List Piece → Type 0
 Prints fleet (command.Fleet machines per_machine tables) pieces = EachActs Start (range_with_len 0 (leaf_count fleet)) pieces
 Prints fleet (command.Add leaf table rows) pieces = OnePiece (CallPiece leaf table (call.Add rows)) pieces

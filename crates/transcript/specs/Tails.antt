@@ -1,4 +1,4 @@
--- What a tail prints: by the words of its key, and by the rows that the leaves held when they were asked.
+-- What a tail prints: by the words of its key, and the rows that the leaves held when they were asked.
 use Rattle.std.specs.Prelude.{◌≡◌, ℕ, ◌<◌, Bool, true, false, List, [], ◌∷◌, ◌++◌, Option, Some, None, IfSome, option_to_list}
 use Rattle.std.specs.List.{AllByRecursion, flat_map}
 use Rattle.leaf_model.specs.declared.rows.Row.{Row}
@@ -13,7 +13,7 @@ use Rattle.transcript.specs.Pieces.{Piece, Called, Says}
 use Rattle.transcript.specs.Shapes.{CallPiece}
 use Rattle.transcript.specs.Histories.{Ground, rows_before}
 
--- how many rows a leaf's table took besides, where it answered the count of its rows
+-- the free rows of a leaf's table when it was asked, if it answered the count
 abbrev pub free_then : (ℕ → Ground) → (ℕ → List Entry) → Piece → Option ℕ
 free_then grounds histories (Called leaf table c number Asked) = Some (free_rows (groups every_row (rows_before (grounds leaf) (histories leaf) number)))
 free_then grounds histories _ = None
@@ -22,7 +22,7 @@ abbrev pub tells_added : Piece → Bool
 tells_added (Called leaf table c number (Added kept late)) = true
 tells_added _ = false
 
--- the calls of a try: a count of the rows of each leaf that is asked, and an add of these rows to the picked one
+-- the calls of a try: a count of the rows of each leaf that is asked, and an add to the picked one
 pub record TryPieces (table : ℕ) (rows : List Row) (pick : Option ℕ) (t : TryOf Piece) : Type 0 where
   pub one : CallPiece t.first table (call.Ask every_row) t.one
   pub two : IfSome t.two (CallPiece t.second table (call.Ask every_row))
@@ -31,7 +31,7 @@ pub record TryPieces (table : ℕ) (rows : List Row) (pick : Option ℕ) (t : Tr
 abbrev pub pieces_of_try : TryOf Piece → List Piece
 pieces_of_try t = t.one ∷ (option_to_list t.two ++ option_to_list t.added)
 
--- the tries one after another, over so many leaves, and how the tail ended
+-- the tries, one after another, over this many leaves, and how the tail ended
 pub record TailPieces (leaves : ℕ) (grounds : ℕ → Ground) (histories : ℕ → List Entry) (key table : ℕ) (rows : List Row) (pieces : List Piece) : Type 0 where
   pub some : 0 < leaves
   pub tries : List (TryOf Piece)

@@ -1,4 +1,5 @@
--- What standing queries print: each is declared, and tells the rows of its table as they stand behind the last entry that was printed. Only a stale one asks its table first.
+-- What standing queries print. Each is declared, and tells the rows of its table after the last entry that was printed.
+-- Only a stale one asks its table first.
 use Rattle.std.specs.Prelude.{◌≡◌, ℕ, ◌+◌, max, ◌&&◌, ◌||◌, not, nat_lt, ◌==◌, Bool, true, false, MatchBool, List, [], ◌∷◌, ◌++◌, length, fold, Option, Some, None, slice_get, ⊤}
 use Rattle.std.specs.List.{flat_map, list_any}
 use Rattle.leaf_model.specs.declared.queries.Query.{Query}
@@ -23,7 +24,7 @@ use Rattle.transcript.specs.Histories.{Ground, Shown, rows_before, shown}
 
 -- ---- standing queries, as they were declared
 
--- a query, and of which leaf's table
+-- a standing query, and the leaf and the table that it is of
 pub record Standing : Type 0 where
   pub leaf : ℕ
   pub table : ℕ
@@ -33,13 +34,13 @@ abbrev pub declared_of : Fleet → Command → List Standing
 declared_of fleet (command.Standing leaf q) = record { leaf = leaf; table = place_among q.table fleet.names; query = q } ∷ []
 declared_of fleet _ = []
 
--- those of these items; the number of each is its place
+-- the standing queries that these items declare; the number of each is its index
 abbrev pub declared : Fleet → List PlayedItem → List Standing
 declared fleet items = flat_map (λ (p : Played). declared_of fleet p.command) (plays_in items)
 
 -- ---- whether a state is fresh, read from what was printed
 
--- behind an opening, a closing and a keep that removed rows it is unknown which rows there are
+-- the line leaves the rows unknown: an opening, a closing, or a keep that removed rows
 abbrev pub ends_state : Option Call → Said → Bool
 ends_state c (Opened writes) = true
 ends_state c (Closed writes) = true
@@ -53,7 +54,7 @@ abbrev pub tells_rows : Piece → Bool
 tells_rows (Says (line.Told number upto rows)) = true
 tells_rows _ = false
 
--- the standing query of this number told rows
+-- in this item the standing query told rows
 abbrev pub has_told : ℕ → PlayedItem → Bool
 has_told standing (Burst lanes) = false
 has_told standing (One p) = by p.command
@@ -65,7 +66,7 @@ has_told standing (One p) = by p.command
 abbrev pub is_fresh_behind : ℕ → Standing → Bool → PlayedItem → Bool
 is_fresh_behind standing s was x = (was || has_told standing x) && not (is_ended s (pieces_in (plays_of x)))
 
--- It told rows, and since then nothing ended its state.
+-- It told rows, and no later line left them unknown.
 abbrev pub is_fresh : ℕ → Standing → List PlayedItem → Bool
 is_fresh standing s items = fold (is_fresh_behind standing s) false items
 
@@ -76,7 +77,7 @@ abbrev pub last_number : List Shown → ℕ
 last_number [] = 0
 last_number (s ∷ ss) = max s.number (last_number ss)
 
--- why it tells nothing once its table was asked so, where it was refused
+-- why it tells no rows after this answer of its table, if it tells none
 abbrev pub why_untold : Piece → Option WhyUntold
 why_untold (Called leaf table c number Asked) = None
 why_untold (Called leaf table c number RefusedShut) = Some untold.Shut
@@ -84,7 +85,7 @@ why_untold (Worn leaf table) = Some untold.Worn
 why_untold _ = Some untold.Memory
 
 module _ (fleet : Fleet) (grounds : ℕ → ℕ → Ground) (histories : ℕ → ℕ → List Entry) where
-  -- its answer over the rows of its table behind the last entry of these pieces
+  -- its answer, over the rows of its table after the last entry of these pieces
   abbrev pub told_line : ℕ → Standing → List Piece → Line
   told_line standing s pieces =
       let number = last_number (shown s.leaf s.table pieces) in
@@ -94,19 +95,19 @@ module _ (fleet : Fleet) (grounds : ℕ → ℕ → Ground) (histories : ℕ →
   line_behind standing s pieces None = told_line standing s pieces
   line_behind standing s pieces (Some why) = line.Untold standing why
 
-  -- its table is asked for the spread of its query, and then it tells its rows or why it tells none
+  -- its table is asked for the spread of the query; then it tells rows, or why it tells none
   pub record AsksFirst (standing : ℕ) (s : Standing) (before pieces : List Piece) : Type 0 where
     pub asked : Piece
     pub ask : CallPiece s.leaf s.table (call.Ask (spread s.query)) asked
     pub are : pieces ≡ asked ∷ Says (line_behind standing s (before ++ asked ∷ []) (why_untold asked)) ∷ []
 
-  -- of the standing query with that number
+  -- what the standing query with this number prints: its answer if it is fresh; else it asks first
   pub record Tells (standing : ℕ) (before : List PlayedItem) (pieces : List Piece) : Type 0 where
     pub query : Standing
     pub is : slice_get (declared fleet before) standing ≡ Some query
     pub told : MatchBool (is_fresh standing query before) (pieces ≡ Says (told_line standing query (all_pieces before)) ∷ []) (AsksFirst standing query (all_pieces before) pieces)
 
-  -- what a command of standing queries prints behind these items
+  -- what a command of standing queries prints after these items
   abbrev pub IsTold : List PlayedItem → Played → Type 0
   IsTold before p = by p.command
     where
@@ -115,6 +116,6 @@ module _ (fleet : Fleet) (grounds : ℕ → ℕ → Ground) (histories : ℕ →
       by (command.Tell standing) = Tells standing before p.pieces
       by _ = ⊤
 
-  -- each of them, wherever it stands
+  -- each such command prints this, wherever it stands
   abbrev pub AreTold : List PlayedItem → Type 0
   AreTold played = (before behind : List PlayedItem) (p : Played) → played ≡ before ++ One p ∷ behind → IsTold before p

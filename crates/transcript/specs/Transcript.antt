@@ -1,4 +1,4 @@
--- What a script prints.
+-- The transcript of a script.
 use Rattle.std.specs.Prelude.{◌≡◌, ℕ, ◌<◌, true, false, List, [], map, length, Option, Some, None, is_some}
 use Rattle.std.specs.List.{AllByRecursion}
 use Rattle.berth_face.specs.Berth.{Pair}
@@ -15,14 +15,15 @@ use Rattle.transcript.specs.Life.{Life, Down, Lives}
 use Rattle.transcript.specs.Histories.{Ground, IsHistoryOf, InOrder, shown}
 use Rattle.transcript.specs.Answers.{Answers, WornIsLong, columns_of}
 
--- What a leaf begins over, where that is known: the base of its berth, what region and disk read, the way of that region, and how many writes of each name that log has.
+-- What is known of how a leaf begins: the base of its berth, what region and disk read, the way of that region, and the
+-- number of writes of each name in that log.
 pub record Known : Type 0 where
   pub base : NamedStates
   pub held : Pair
   pub way : Way
   pub read : List ℕ → ℕ
 
--- what its table of a name begins from
+-- what the leaf's table with this name begins with
 abbrev pub ground_of : Option Known → List ℕ → Ground
 ground_of (Some k) name = record { founded = true; base = k.base name }
 ground_of None name = record { founded = false; base = no_base }
@@ -34,22 +35,22 @@ first_life None names = record { mode = Down; way = None; durable = None; begun 
 abbrev pub grounds_of : Fleet → (ℕ → Option Known) → ℕ → ℕ → Ground
 grounds_of fleet known leaf table = ground_of (known leaf) (name_at fleet.names table)
 
--- The text is what these items of a script print over leaves that begin so.
+-- The text is what the items of a script print, over leaves that begin so.
 pub record Transcript (fleet : Fleet) (known : ℕ → Option Known) (items : List Item) (out : List ℕ) : Type 0 where
   pub played : List PlayedItem
   pub histories : ℕ → ℕ → List Entry
   pub lives : ℕ → Life
   pub items_are : map item_of played ≡ items
   pub text : out ≡ lines_text fleet.names (all_lines played)
-  -- command by command, the lines that belong to it
+  -- each command prints its pieces
   pub prints : AllByRecursion (λ (p : Played). Prints fleet p.command p.pieces) (plays_in played)
-  -- each leaf's steward, by the states of the leaf
+  -- each leaf lives by the deeds of its steward
   pub each_lives : (leaf : ℕ) → leaf < (leaf_count fleet) →
       Lives (is_some (known leaf)) (length fleet.names) (columns_of (grounds_of fleet known leaf) (histories leaf) (length fleet.names)) [] (first_life (known leaf) fleet.names) (deeds leaf (all_pieces played)) (lives leaf)
-  -- each table, by the numbers, and the order of those
+  -- the lines of each table tell one history, in order
   pub one_history : (leaf table : ℕ) → leaf < (leaf_count fleet) → table < length fleet.names →
       IsHistoryOf (grounds_of fleet known leaf table) (shown leaf table (all_pieces played)) (histories leaf table)
   pub in_order : (leaf table : ℕ) → leaf < (leaf_count fleet) → table < length fleet.names → InOrder leaf table 0 played (length (histories leaf table))
-  -- the answers, and the worn seats
+  -- answers are over the rows that they name, and worn seats are
   pub answers : AllByRecursion (Answers fleet (grounds_of fleet known) histories) (plays_in played)
   pub worn : AllByRecursion (WornIsLong histories) (all_pieces played)

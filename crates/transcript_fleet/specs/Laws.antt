@@ -1,4 +1,4 @@
--- Laws of runs, as statements.
+-- The statements of the laws.
 use Rattle.std.specs.Prelude.{◌≡◌, ℕ, ◌<◌, List, [], ◌∷◌, ◌++◌, length, map, Option, Some, None, slice_get}
 use Rattle.berth_face.specs.Berth.{Meaning}
 use Rattle.leaf_history.specs.History.{Entry}
@@ -27,18 +27,18 @@ SessionsBegin {B} meaning berths = (fleet : Fleet) (base : ℕ → Option NamedS
     → ((leaf : ℕ) (x : Hold B) → slice_get xs leaf ≡ Some x → IsNewHold meaning fleet.names (base leaf) (known leaf) x)
     → Session meaning fleet known berths [] xs
 
--- It goes on by what one item does; histories that go on from behind the item go on from before it.
+-- A run goes on by one item. Histories that go on after the item also go on from before it.
 abbrev pub SessionsGoOn : {B : Type 0} → (B → Meaning) → List B → Type 0
 SessionsGoOn {B} meaning olds = (fleet : Fleet) (known : ℕ → Option Known) (items : List PlayedItem) (xs ys : List (Hold B)) (x : PlayedItem)
     → Session meaning fleet known olds items xs → PlaysItem meaning fleet xs x ys
     → Session meaning fleet known olds (items ++ x ∷ []) ys × ((histories : ℕ → ℕ → List Entry) → GoOn ys histories → GoOn xs histories)
 
--- its tables began from what is known of their leaves
+-- the tables of a run begin with what is known of their leaves
 abbrev pub SessionsKnow : {B : Type 0} → (B → Meaning) → List B → Type 0
 SessionsKnow {B} meaning olds = (fleet : Fleet) (known : ℕ → Option Known) (items : List PlayedItem) (xs : List (Hold B)) → Session meaning fleet known olds items xs
     → (leaf table : ℕ) → leaf < leaf_count fleet → table < length fleet.names → grounds_in xs leaf table ≡ grounds_of fleet known leaf table
 
--- what these items are, over leaves whose berths were and are these
+-- these items are a transcript over leaves whose berths were `olds` and are now those of `xs`
 pub record IsToldFleet {B : Type 0} (meaning : B → Meaning) (fleet : Fleet) (known : ℕ → Option Known) (items : List PlayedItem) (olds : List B) (xs : List (Hold B)) : Type 0 where
   pub transcript : Transcript fleet known (map item_of items) (lines_text fleet.names (all_lines items))
   pub played_is : transcript.played ≡ items

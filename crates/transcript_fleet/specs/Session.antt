@@ -1,4 +1,5 @@
--- A stretch of a run over a fleet, in the middle: what holds of what was printed since it began, and of what somebody holds of each leaf: the run, or a lane of a burst.
+-- A stretch of a run over a fleet: what holds of the lines since it began, and of what a player holds of each leaf. The
+-- player is the run, or a lane of a burst.
 use Rattle.std.specs.Prelude.{◌≡◌, ℕ, List, [], length, Option, Some, slice_get}
 use Rattle.std.specs.List.{AllByRecursion}
 use Rattle.berth_face.specs.Berth.{Meaning}
@@ -12,8 +13,8 @@ use Rattle.transcript.specs.Transcript.{Known, grounds_of}
 use Rattle.leaf_moves.specs.Holds.{Hold, GoOn}
 use Rattle.transcript_leaf.specs.Session.{IsWhole, LeafSession}
 
--- What is known since a stretch began behind the pieces `before`, when each table's history had come to `start`. The berths were `olds` when the run began. What is said of histories
--- is said of all ways in which they go on.
+-- A stretch that began after the pieces `before`, when the history of each table was `start`. The berths were `olds`
+-- when the run began. A statement about histories holds however they go on.
 pub record Stretch {B : Type 0} (meaning : B → Meaning) (fleet : Fleet) (known : ℕ → Option Known) (olds : List B) (before : List Piece) (start : ℕ → ℕ → List Entry)
     (items : List PlayedItem) (xs : List (Hold B)) : Type 0 where
   pub counts : (length olds ≡ leaf_count fleet) × (length xs ≡ leaf_count fleet)

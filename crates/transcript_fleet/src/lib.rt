@@ -1,4 +1,4 @@
-//! Laws of runs: what was printed so far is a transcript, and stays one.
+//! Laws of runs: the lines so far are a transcript, and still are after each item.
 #![tactic(auto)]
 
 mod laws;

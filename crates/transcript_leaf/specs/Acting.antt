@@ -1,4 +1,4 @@
--- What a deed of the leaf's steward makes of its life.
+-- What a deed does to the life of its leaf.
 use Rattle.std.specs.Prelude.{◌≡◌, ℕ, ◌≤◌, Bool, true, false, List, Option, Some, None, IfSome, is_some, length, map}
 use Rattle.berth_face.specs.Berth.{Meaning}
 use Rattle.leaf_words.specs.declared.ways.Way.{Way}
@@ -20,24 +20,27 @@ use Rattle.leaf_moves.specs.Stage.{Leaf, seated_of}
 use Rattle.leaf_moves.specs.Modes.{mode_of}
 use Rattle.transcript_leaf.specs.Session.{AreToldOn, IsNoted}
 
--- a fault of the disk at a flush or a drain loses what was claimed of the counts; one at a start touches no record of the log
+-- a fault of the disk at a flush or a drain ends the claim on the counts; one at a start leaves the log's records as
+-- they were
 abbrev pub loses_counts : Deed → Ending → Bool
 loses_counts Start ending = false
 loses_counts _ ending = is_disk_fault ending
 
--- how the claim on the counts goes on: by the notes; or it is lost where the disk failed; or a start has made it anew
+-- the claim on the counts after a deed: it goes on by the notes; or it ended, as the disk failed; or a start made it
+-- anew
 pub data CountsGo (told : Bool) (deed : Deed) (life : Life) (notes : List Noted) (ending : Ending) (next : Life) : Type 0 where
   keeps : loses_counts deed ending ≡ false → next.durable ≡ durable_with life.durable notes → CountsGo told deed life notes ending next
   lost : next.durable ≡ None → CountsGo told deed life notes ending next
   opened : (way : Way) (counts : List ℕ) → ending ≡ ends.Started way → Notes 0 (map Opened counts) notes → next.durable ≡ claimed told counts → CountsGo told deed life notes ending next
 
--- the way of the next start, where it is claimed
+-- the way of the next start, if one is claimed
 abbrev pub FitsWay : Option Known → Life → Meaning → Type 0
 FitsWay None life m = life.way ≡ None
 FitsWay (Some k) life m = IfSome life.way (IsWayLeft life.begun m.held.region)
 
--- What a deed hands over: tables, in these entries, that had so many columns: at least those that the histories tell. Behind a deed that does not end a copy these are the columns that it has
--- at most, no more than the histories tell behind the leaf's entries; and behind one whose copy has no room these are the rows, cells and writes of its tables.
+-- Bounds on the columns and writes of a deed. `handed`: the entries that hand tables over, with `columns` columns in
+-- all, at least what the histories imply. `most`, after a copy that did not end, and `bulk`, after one that had no
+-- room: at most what the histories imply after the leaf's entries.
 pub record Hands (leaf : Leaf) : Type 0 where
   pub handed : List Noted
   pub columns : ℕ
@@ -47,7 +50,7 @@ pub record Hands (leaf : Leaf) : Type 0 where
   pub few : (grounds : ℕ → Ground) (histories : ℕ → List Entry) (notes : List Noted) → AreToldOn grounds histories (seated_of leaf) → AtEach (IsNoted notes) (seated_of leaf)
       → (most ≤ (columns_of grounds histories (length (seated_of leaf).tables) notes).most) × (bulk ≤ (columns_of grounds histories (length (seated_of leaf).tables) notes).bulk)
 
--- the life behind a deed
+-- the life after a deed
 pub record Lived (known : Option Known) (tables : ℕ) (deed : Deed) (life : Life) (notes : List Noted) (ending : Ending) (leaf : Leaf) (m : Meaning) : Type 0 where
   pub next : Life
   pub hands : Hands leaf

@@ -1,5 +1,5 @@
--- One leaf of a run in the middle, by its number: what holds of what the run printed so far, of each of the leaf's tables, and of the leaf, by who holds it or seats of it: the
--- run, or a lane of a burst. The pieces are those of all leaves.
+-- One leaf in the middle of a run: what holds of the lines so far, of each of its tables, and of the leaf, as a player
+-- holds it or seats of it. The player is the run, or a lane of a burst. The pieces are those of all leaves.
 use Rattle.std.specs.Prelude.{◌≡◌, ◌⊎◌, ℕ, suc, ◌+◌, ◌<◌, ◌≤◌, ◌==◌, true, false, List, [], ◌∷◌, ◌++◌, length, map, take, Option, Some, None, IfSome, is_some, slice_get, IsPermutation, IsTrue, ⊤}
 use Rattle.std.specs.List.{AllByRecursion}
 use Rattle.berth_face.specs.Berth.{Meaning, Pair}
@@ -33,7 +33,7 @@ use Rattle.leaf_moves.specs.Holds.{Hold, caller_in, steward_in}
 
 -- ---- one table
 
--- The lines, with numbers from n on, tell just those of the entries whose ids are these, in their order and each once.
+-- Lines with numbers from n on tell exactly the entries whose ids satisfy O, in order, each once.
 abbrev pub TellsOf : (ℕ → Type 0) → ℕ → List Shown → List Entry → Type 0
 TellsOf O n ss [] = ss ≡ []
 TellsOf O n ss (e ∷ es) = ((O e.caller → ⊥) × TellsOf O (suc n) ss es)
@@ -43,15 +43,16 @@ abbrev pub OwnedBy : Option SeatView → ℕ → Type 0
 OwnedBy None id = ⊥
 OwnedBy (Some v) id = Owns v id
 
--- the ids of the steward's seat and the callers', as far as they are there
+-- the ids of the steward's seat and of the callers', if they are there
 abbrev pub OneOf : Option SeatView → Option SeatView → ℕ → Type 0
 OneOf v c id = OwnedBy v id ⊎ OwnedBy c id
 
--- these ids are callers', and none of the share from this id on
+-- ids of callers that are outside the share from `id` on
 abbrev pub StandApart : ℕ → ℕ → List ℕ → Type 0
 StandApart id share ids = AllByRecursion (λ (x : ℕ). (0 < x) × (InShare id share x → ⊥)) ids
 
--- the steward's seat owns the id 0 alone; a callers' owns others, and what it took over is none of what it has
+-- the steward's seat owns the id 0 alone; a callers' seat owns others, and the ids that it took over are outside its
+-- share
 pub record IsStewards (v : SeatView) : Type 0 where
   pub id : v.id ≡ 0
   pub share : v.share ≡ 1
@@ -62,8 +63,9 @@ pub record IsCallers (c : SeatView) : Type 0 where
   pub share : 0 < c.share
   pub apart : StandApart c.id c.share c.taken
 
--- What is known of a table at which somebody holds these seats, and had seen so much when a stretch of the run began: what the steward's seat has seen since, up to the last meeting;
--- what the callers' has seen behind that; and the lines of both, by their numbers.
+-- A table at which a player holds these seats, since a stretch of the run began after the entries `start`: `met` is
+-- what the steward's seat has seen since, up to the last meeting; `since` is what the callers' has seen after that; and
+-- the lines of both tell these entries, by their numbers.
 pub record TableSession (g : Ground) (start : List Entry) (number table : ℕ) (items : List PlayedItem) (v c : Option SeatView) : Type 0 where
   pub stewards : IfSome v IsStewards
   pub callers : IfSome c IsCallers
@@ -86,11 +88,12 @@ pub record TableSession (g : Ground) (start : List Entry) (number table : ℕ) (
 abbrev pub IsSettled : NamedStates → Shared → SeatView → ℕ → Type 0
 IsSettled base t v n = ((after true (base (name_of t)) (seen_of v)).taken ≡ n) × ((after true (base (name_of t)) (seen_of v)).flushed ≡ n)
 
--- each table's count by its place
+-- P holds of each table and its count
 abbrev pub AtCounts : (Shared → SeatView → ℕ → Type 0) → Seated → List ℕ → Type 0
 AtCounts P x counts = AtEach (λ place t v. (n : ℕ) → slice_get counts place ≡ Some n → P t v n) x
 
--- just so many writes of each table are in the log: of a leaf at rest as it reads, and of one that serves all that were taken, while nothing is owed
+-- the log has exactly this many writes of each table: at rest as the disk reads; serving, as nothing is owed, all that
+-- were taken
 abbrev pub IsDurable : NamedStates → List ℕ → Leaf → Meaning → Type 0
 IsDurable base counts (IsDown x) m = (length counts ≡ length x.tables) × AtCounts (λ t v n. LogHas m.held.disk (name_of t) n) x counts
 IsDurable base counts (IsUp x) m = (length counts ≡ length x.seated.tables) × (x.owing.log.owed ≡ None) × AtCounts (IsSettled base) x.seated counts
@@ -98,41 +101,42 @@ IsDurable base counts (IsPreparing x) m = (length counts ≡ length x.serving.se
     × AtCounts (IsSettled base) x.serving.seated counts
     × AtEach (λ place t v. place < first_open (progress_of x) → IsShutAndTaken (after true (base (name_of t)) (seen_of v))) x.serving.seated
 
--- so will its next start be, where that is claimed; nothing is of a berth of which nothing is known
+-- the claims on the next start hold; over a berth without a known base there are none
 abbrev pub FitsNext : Option Known → Life → Leaf → Meaning → Type 0
 FitsNext None life leaf m = (life.way ≡ None) × (life.durable ≡ None)
 FitsNext (Some k) life leaf m = IfSome life.way (IsWayLeft life.begun m.held.region) × IfSome life.durable (λ counts. IsDurable k.base counts leaf m)
 
--- the tables begin from this ground
+-- the tables begin with what is known of the leaf
 abbrev pub AreGrounded : Option Known → Seated → Type 0
 AreGrounded known x = AtEach (λ place t v. (is_founded (base_seen t) ≡ (ground_of known (name_of t)).founded) × (start_of (base_seen t) ≡ (ground_of known (name_of t)).base)) x
 
--- the leaf has tables of these names, and a seat of its steward at each
+-- the leaf has tables of these names, and the steward's seat at each
 pub record AreInPlace (names : List (List ℕ)) (x : Seated) : Type 0 where
   pub named : map name_of x.tables ≡ names
   pub same_names : x.names ≡ names
   pub seats : length x.seats ≡ length names
   pub distinct : AreDistinct names
 
--- ---- what stands of a leaf with a base
+-- ---- a leaf with a known base
 
--- the berth tells its contents, the base was handed in nothing, and this stands of the leaf
+-- the berth tells its contents, and region and disk hold what belongs to the leaf
 pub record StandsKnown (k : Known) (leaf : Leaf) (m : Meaning) : Type 0 where
   pub tells : IsTrue m.tells
   pub sound : AreHandedNothing k.base
   pub stands : Stands k.base leaf m
 
--- until the leaf is first up the disk reads as it was handed, but for the first byte of one of at most one, and each start fits the strangers that there are
+-- until the leaf is first up, the disk reads as it was handed in, but for the first byte of a disk of at most one; and
+-- each start fits the strangers that there are
 pub record AreNamed (number : ℕ) (names : List (List ℕ)) (held : Pair) (life : Life) (pieces : List Piece) (m : Meaning) : Type 0 where
   pub rest : life.begun ≡ false → (life.mode ≡ Down) × BeginsScan (length held.disk) held.disk m.held.disk
   pub on : (more : List Did) → (life.begun ≡ false → StrangersIn names held.disk m.held.region more) → StrangersIn names held.disk held.region (deeds number pieces ++ more)
 
--- of a leaf that was up: a table of it was opened, and its region names no stranger
+-- the leaf was up: some table was opened, and its region names no stranger
 pub record IsOwn (names : List (List ℕ)) (x : Seated) (m : Meaning) : Type 0 where
   pub opened : was_opened m.clock (watched_by x) ≡ true
   pub region : HasNoStranger names m.held.region
 
--- what holds of a run over a berth with a base, that meant `old` when it began
+-- a leaf with a known base, whose berth meant `old` when the run began
 pub record KnownLeaf (number : ℕ) (names : List (List ℕ)) (old : Meaning) (life : Life) (pieces : List Piece) (leaf : Leaf) (m : Meaning) (k : Known) : Type 0 where
   pub now : StandsKnown k leaf m
   pub told : moments.Told k.base (watched_with names k.base unseen) (watched_by (seated_of leaf)) old m
@@ -141,7 +145,7 @@ pub record KnownLeaf (number : ℕ) (names : List (List ℕ)) (old : Meaning) (l
 
 -- ---- the leaf so far
 
--- what the tables of this turnstile begin from
+-- what the table begins with
 abbrev pub ground_of_table : Shared → Ground
 ground_of_table t = record { founded = is_founded (base_seen t); base = start_of (base_seen t) }
 
@@ -150,11 +154,13 @@ pub record AreToldOn (grounds : ℕ → Ground) (histories : ℕ → List Entry)
   pub grounded : AtEach (λ place t v. grounds place ≡ ground_of_table t) x
   pub on : (place : ℕ) (v : SeatView) → slice_get x.seats place ≡ Some v → (more : List Entry) × (histories place ≡ seen_of v ++ more)
 
--- The seat at a table has seen the last entry that these notes tell of it; and while the table is shut, nothing was written since then.
+-- The seat has seen the last entry of the table in these notes. While the table is shut, nothing was written after that
+-- entry.
 abbrev pub IsNoted : List Noted → ℕ → Shared → SeatView → Type 0
 IsNoted notes place t v = (last_of place notes ≤ length (seen_of v)) × (SeesShut t v → (state_of (base_seen t) (take (last_of place notes) (seen_of v))).writes ≡ (state_seen (base_seen t) v).writes)
 
--- What is known of a leaf by who holds it, behind these pieces of the run. Its berth meant `old` when the run began, and means `m` now. Its life is so, and the moments of its steward's entries do not fall, however the histories go on.
+-- A leaf that is held, after these pieces of the run. Its berth meant `old` when the run began, and means `m` now. Its
+-- life tells its deeds, and the moments of its steward's entries do not fall, however the histories go on.
 pub record LeafHeld (number : ℕ) (names : List (List ℕ)) (known : Option Known) (old : Meaning) (pieces : List Piece) (leaf : Leaf) (m : Meaning) : Type 0 where
   pub life : Life
   pub lives : (grounds : ℕ → Ground) (histories : ℕ → List Entry) → AreToldOn grounds histories (seated_of leaf)
@@ -167,8 +173,9 @@ pub record LeafHeld (number : ℕ) (names : List (List ℕ)) (known : Option Kno
   pub next : FitsNext known life leaf m
   pub of_known : IfSome known (KnownLeaf number names old life pieces leaf m)
 
--- What is known of the leaf with this number by who holds seats of it, and the leaf itself where it is held. The stretch began behind the pieces `before`, when each table's
--- history had come to `start`; since then these items were played. The whole run is the stretch that began with nothing.
+-- The leaf with this number, of which a player holds seats, and maybe the leaf itself. The stretch began after the
+-- pieces `before`, when the history of each table was `start`. Since then these items were played. The whole run is the
+-- stretch that began with nothing.
 pub record LeafSession {B : Type 0} (meaning : B → Meaning) (number : ℕ) (names : List (List ℕ)) (known : Option Known) (old : Meaning) (before : List Piece) (start : ℕ → List Entry)
     (items : List PlayedItem) (x : Hold B) : Type 0 where
   pub named : map name_of x.tables ≡ names
@@ -179,31 +186,31 @@ pub record LeafSession {B : Type 0} (meaning : B → Meaning) (number : ℕ) (na
       → (is_founded (base_seen t) ≡ (ground_of known (name_of t)).founded) × (start_of (base_seen t) ≡ (ground_of known (name_of t)).base)
   pub held : (leaf : Leaf) (b : B) → x.held ≡ Some (leaf, b) → (map name_of (seated_of leaf).tables ≡ map name_of x.tables) × LeafHeld number names known old (before ++ all_pieces items) leaf (meaning b)
 
--- the run holds the leaf, and of each table a seat with all ids but the steward's
+-- the run holds the leaf, and at each table a seat with all ids but the steward's
 pub record IsWhole {B : Type 0} (x : Hold B) : Type 0 where
   pub leaf : Leaf
   pub berth : B
   pub held : x.held ≡ Some (leaf, berth)
   pub seats : (place : ℕ) → place < length x.callers → (c : SeatView) × (slice_get x.callers place ≡ Some (Some c)) × OwnsTheRest c
 
--- each seat of the steward has seen what the callers' has, and that has entries of a turnstile's ids alone
+-- each steward's seat has seen what the callers' has, and its entries have only ids of the turnstile
 abbrev pub AreMet : {B : Type 0} → Hold B → Type 0
 AreMet x = (place : ℕ) (v c : SeatView) → steward_in x.held place ≡ Some v → caller_in x.callers place ≡ Some c → (seen_of v ≡ seen_of c) × AreIds c.seen
 
--- no id is held by both
+-- the two hold no id in common
 abbrev pub AreApart : {B : Type 0} → Hold B → Hold B → Type 0
 AreApart x y = (place id : ℕ) → OneOf (steward_in x.held place) (caller_in x.callers place) id → OneOf (steward_in y.held place) (caller_in y.callers place) id → ⊥
 
 -- ---- pieces of other leaves
 
--- a piece that tells nothing of the leaf with this number
+-- the piece tells nothing of leaf `number`
 abbrev pub IsOthers : ℕ → Piece → Type 0
 IsOthers number (Called leaf table c n said) = (leaf == number) ≡ false
 IsOthers number (Worn leaf table) = (leaf == number) ≡ false
 IsOthers number (Acted leaf deed notes ending) = (leaf == number) ≡ false
 IsOthers number (Says line) = ⊤
 
--- a piece that is no deed of the leaf with this number
+-- the piece is no deed of leaf `number`
 abbrev pub IsNoDeed : ℕ → Piece → Type 0
 IsNoDeed number (Called leaf table c n said) = ⊤
 IsNoDeed number (Worn leaf table) = ⊤
@@ -213,7 +220,7 @@ IsNoDeed number (Says line) = ⊤
 abbrev pub HasNoDeed : ℕ → List Piece → Type 0
 HasNoDeed number pieces = AllByRecursion (IsNoDeed number) pieces
 
--- both hold the same ids of each table, and the leaf or not
+-- both hold the same ids at each table, and both hold the leaf or neither does
 pub record AreSame {B : Type 0} (x y : Hold B) : Type 0 where
   pub ids : (place id : ℕ) → (OneOf (steward_in x.held place) (caller_in x.callers place) id → OneOf (steward_in y.held place) (caller_in y.callers place) id)
       × (OneOf (steward_in y.held place) (caller_in y.callers place) id → OneOf (steward_in x.held place) (caller_in x.callers place) id)
@@ -230,12 +237,12 @@ pub record HoldsBoth {B : Type 0} (x y z : Hold B) : Type 0 where
 
 -- ---- how a run begins
 
--- a leaf may begin over the berth, and what stands of one at rest stands there
+-- a leaf may begin over the berth, which holds what belongs to a leaf at rest
 pub record StandsFirst (x : Seated) (m : Meaning) (base : NamedStates) : Type 0 where
   pub begins : MayBegin base m
   pub stands : Stands base (IsDown x) m
 
--- A leaf that is down, whose seats have made no entry yet. Where its berth's base is known, it is one that a leaf may begin over the berth with.
+-- A leaf that is down, with unused seats. If the base of its berth is known, the leaf may begin over the berth with it.
 pub record IsNewHold {B : Type 0} (meaning : B → Meaning) (names : List (List ℕ)) (base : Option NamedStates) (known : Option Known) (x : Hold B) : Type 0 where
   pub seated : Seated
   pub berth : B

@@ -1,4 +1,5 @@
-//! Laws of one leaf of a run: what was printed of it so far is told by its life and its tables' histories, and stays so.
+//! Laws of one leaf of a run: its life and its tables' histories tell what was printed of it so far, and still do after
+//! each step.
 #![tactic(auto)]
 
 mod laws;

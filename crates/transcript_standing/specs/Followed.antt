@@ -1,4 +1,4 @@
--- How the standing queries of a run followed the items that were played, over these histories of the tables.
+-- How the standing queries of a run followed its items, over these histories of the tables.
 use Rattle.std.specs.Prelude.{◌≡◌, ℕ, ◌-◌, ◌<◌, int_le, true, false, List, [], ◌∷◌, ◌++◌, length, map, take, Some, slice_get, slice_set, ⊤}
 use Rattle.std.specs.List.{AllByRecursion}
 use Rattle.leaf_model.specs.declared.rows.Row.{Row}
@@ -27,9 +27,9 @@ use Rattle.transcript.specs.Shapes.{CallPiece}
 use Rattle.transcript.specs.Histories.{Ground}
 use Rattle.transcript.specs.Telling.{why_untold}
 
--- ---- which items
+-- ---- commands that may be played
 
--- the rows of a command have times
+-- each row has a valid time
 abbrev pub AreTimes : List Row → Type 0
 AreTimes rows = AllByRecursion (λ (row : Row). IsTime row.time) rows
 
@@ -38,7 +38,7 @@ HasTimes (command.Add leaf table rows) = AreTimes rows
 HasTimes (command.Tail key table rows) = AreTimes rows
 HasTimes _ = ⊤
 
--- in a lane no standing query is declared or told
+-- a command of a lane: it neither declares nor tells a standing query
 abbrev pub IsOfLane : Command → Type 0
 IsOfLane (command.Standing leaf q) = ⊥
 IsOfLane (command.Tell standing) = ⊥
@@ -48,34 +48,36 @@ abbrev pub IsPlayable : PlayedItem → Type 0
 IsPlayable (One p) = HasTimes p.command
 IsPlayable (Burst lanes) = AllByRecursion (λ (p : Played). IsOfLane p.command) (plays_of (Burst lanes))
 
--- ---- which standing queries
+-- ---- standing queries of the fleet
 
--- one of a table of the fleet
+-- a standing query of a table of the fleet
 abbrev pub IsFollower : Fleet → Follower → Type 0
 IsFollower fleet f = (f.leaf < leaf_count fleet) × (f.table < length fleet.names)
 
 abbrev pub AreFollowers : Fleet → List Follower → Type 0
 AreFollowers fleet followers = AllByRecursion (IsFollower fleet) followers
 
--- ---- what they themselves did
+-- ---- what the queries did themselves
 
--- what a fresh state tells: its answer over whatever rows it means
+-- what a fresh state tells: the answer over the rows that it stands for
 abbrev pub TellsState : ℕ → Follower → Line → Type 0
 TellsState standing f told = (lines : List (List ℕ)) × (told ≡ line.Told standing f.standing.upto lines)
     × ((rows : List Row) → Means f.standing rows → AreTimes rows → lines ≡ answer_lines f.standing.query (groups f.standing.query rows))
 
 module _ (fleet : Fleet) (grounds : ℕ → ℕ → Ground) (histories : ℕ → ℕ → List Entry) where
-  -- what its table held before that entry
+  -- the contents of its table before that entry
   abbrev pub held_before : Follower → ℕ → Contents
   held_before f number = held (after (grounds f.leaf f.table).founded (grounds f.leaf f.table).base (take (number - 1) (histories f.leaf f.table)))
 
-  -- the groups of its spread over the rows that its table held then, which have times and of which none is below the horizon
+  -- the groups of its spread over the rows of its table before that entry; these have times, and none is below the
+  -- horizon
   pub record AreAsked (f : Follower) (number : ℕ) (gs : List Group) : Type 0 where
     pub times : AreTimes (held_before f number).rows
     pub none_below : AllByRecursion (λ (row : Row). int_le (held_before f number).horizon row.time ≡ true) (held_before f number).rows
     pub are : gs ≡ groups (spread f.standing.query) (held_before f number).rows
 
-  -- One that is fresh tells at once; one that is stale once its table was asked, and is then fresh, or it tells why it stays stale.
+  -- A fresh query tells at once. A stale one asks its table first; then it is fresh and tells, or it tells why it stays
+  -- stale.
   pub data TellsItself (standing : ℕ) (f : Follower) (pieces : List Piece) (g : Follower) : Type 0 where
     fresh : (told : Line)
         → f.standing.stale ≡ false
@@ -98,7 +100,7 @@ module _ (fleet : Fleet) (grounds : ℕ → ℕ → Ground) (histories : ℕ →
         → g ≡ f
         → TellsItself standing f pieces g
 
-  -- the one of that number
+  -- the query with this number tells, and no other changes
   pub record TellsOne (standing : ℕ) (pieces : List Piece) (olds news : List Follower) : Type 0 where
     pub old : Follower
     pub new : Follower
@@ -106,14 +108,14 @@ module _ (fleet : Fleet) (grounds : ℕ → ℕ → Ground) (histories : ℕ →
     pub tells : TellsItself standing old pieces new
     pub news_are : news ≡ slice_set olds standing new
 
-  -- one more of a table of the fleet
+  -- one more query is declared, of a table of the fleet
   pub record DeclaresOne (leaf : ℕ) (query : Query) (pieces : List Piece) (olds news : List Follower) : Type 0 where
     pub leaf_is : leaf < leaf_count fleet
     pub table_is : place_among query.table fleet.names < length fleet.names
     pub pieces_are : pieces ≡ Says (line.Declared (length olds)) ∷ []
     pub news_are : news ≡ olds ++ new_follower leaf (place_among query.table fleet.names) query ∷ []
 
-  -- what they did at an item before they followed its lines
+  -- what the queries do at an item, before they follow its lines
   abbrev pub DoesItself : PlayedItem → List Follower → List Follower → Type 0
   DoesItself (One p) olds news = by p.command
     where
@@ -125,19 +127,19 @@ module _ (fleet : Fleet) (grounds : ℕ → ℕ → Ground) (histories : ℕ →
 
   -- ---- a run
 
-  -- they followed an item whole
+  -- the queries did an item, and followed all its lines
   pub record FollowsItem (x : PlayedItem) (olds news : List Follower) : Type 0 where
     pub between : List Follower
     pub may : IsPlayable x
     pub itself : DoesItself x olds between
     pub follow : FollowAll (map (noted (item_of x)) olds) (item_lines x) between news
 
-  -- these items one after another
+  -- they did these items, one after another
   abbrev pub FollowedAll : List PlayedItem → List Follower → List Follower → Type 0
   FollowedAll [] olds news = news ≡ olds
   FollowedAll (x ∷ xs) olds news = (between : List Follower) × FollowsItem x olds between × FollowedAll xs between news
 
-  -- and maybe one more, of which they followed no line
+  -- they did all but the last of these items, or all, and of the last they followed no line
   pub record FollowedSome (items : List PlayedItem) (olds : List Follower) : Type 0 where
     pub whole : List PlayedItem
     pub last : List PlayedItem

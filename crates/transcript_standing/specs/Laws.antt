@@ -1,4 +1,4 @@
--- Laws of standing queries in a run, as statements.
+-- The statements of the laws.
 use Rattle.std.specs.Prelude.{ℕ, List, [], ◌∷◌, ◌++◌, Option}
 use Rattle.leaf_history.specs.History.{Entry}
 use Rattle.region_layout.specs.Names.{AreNames}
@@ -11,12 +11,12 @@ use Rattle.transcript.specs.Transcript.{Known, Transcript, grounds_of}
 use Rattle.transcript.specs.Telling.{AreTold}
 use Rattle.transcript_standing.specs.Followed.{DoesItself, FollowedAll, FollowedSome, FollowsItem}
 
--- standing queries that followed some items follow one more
+-- queries that followed some items follow one more
 abbrev pub FollowOn : Type 0
 FollowOn = (fleet : Fleet) (grounds : ℕ → ℕ → Ground) (histories : ℕ → ℕ → List Entry) (items : List PlayedItem) (x : PlayedItem) (olds news behind : List Follower)
     → FollowedAll fleet grounds histories items olds news → FollowsItem fleet grounds histories x news behind → FollowedAll fleet grounds histories (items ++ x ∷ []) olds behind
 
--- at the end of a run, and where it stops behind an item
+-- the items that a run followed to its end, or up to an item where it stops
 abbrev pub FollowToEnd : Type 0
 FollowToEnd = (fleet : Fleet) (grounds : ℕ → ℕ → Ground) (histories : ℕ → ℕ → List Entry) (items : List PlayedItem) (olds news : List Follower)
     → FollowedAll fleet grounds histories items olds news → FollowedSome fleet grounds histories items olds
@@ -25,7 +25,7 @@ abbrev pub FollowToStop : Type 0
 FollowToStop = (fleet : Fleet) (grounds : ℕ → ℕ → Ground) (histories : ℕ → ℕ → List Entry) (items : List PlayedItem) (x : PlayedItem) (olds news behind : List Follower)
     → FollowedAll fleet grounds histories items olds news → DoesItself fleet grounds histories x news behind → FollowedSome fleet grounds histories (items ++ x ∷ []) olds
 
--- where they began with none, all that was told over the histories of a transcript is right
+-- if there were no queries at the start, all that they told over the histories of a transcript is right
 abbrev pub TellRight : Type 0
 TellRight = (fleet : Fleet) (known : ℕ → Option Known) (items : List Item) (out : List ℕ) (t : Transcript fleet known items out)
     → AreNames fleet.names → FollowedSome fleet (grounds_of fleet known) t.histories t.played []

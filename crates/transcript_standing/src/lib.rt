@@ -1,4 +1,4 @@
-//! Law of standing queries in a run: those that followed what was printed told what they should.
+//! The law of standing queries in a run: if they followed the lines, they told what they should.
 #![tactic(auto)]
 
 mod laws;

@@ -93,7 +93,10 @@ fn post<O: Object, N: Said<O::Call, O::Reply>>(
         × O.legal turns.now.key.base (place.old.me.0.seen ++ e ∷ []) }
     ensures same { place.new.table_id ≡ place.old.table_id }
     ensures posted { (e : Entry O.Call O.Reply) → N.entry ≡ Some e → (room : ℕ)
-        × (place.new.me ≡ (record place.old.me.0 { seen = place.old.me.0.seen ++ e ∷ []; room = room; stage = Posted ticket }, place.old.me.1)) × (room ≤ place.old.me.0.room) × (place.old.me.0.room ≤ room + 1) × (length place.old.me.0.seen < 2 ^ 62 → room ≡ place.old.me.0.room) }
+        × (place.new.me
+        ≡ (record place.old.me.0 { seen = place.old.me.0.seen ++ e ∷ []; room = room; stage = Posted ticket }, place.old.me.1))
+        × (room ≤ place.old.me.0.room) × (place.old.me.0.room ≤ room + 1)
+        × (length place.old.me.0.seen < 2 ^ 62 → room ≡ place.old.me.0.room) }
     ensures ids { AreIds place.new.me.0.seen }
 {
     turns.fetch_add::<Post<N>>(place, 0, 1);
@@ -115,7 +118,10 @@ fn post_call<O: Object, C: Clock>(
         × O.legal turns.now.key.base (place.old.me.0.seen ++ entry_of id C.now call.now.value reply.now ∷ []) }
     ensures same { place.new.table_id ≡ place.old.table_id }
     ensures posted { (room : ℕ)
-        × (place.new.me ≡ (record place.old.me.0 { seen = place.old.me.0.seen ++ entry_of id C.now call.now.value reply.now ∷ []; room = room; stage = Posted ticket }, place.old.me.1)) × (room ≤ place.old.me.0.room) × (place.old.me.0.room ≤ room + 1) × (length place.old.me.0.seen < 2 ^ 62 → room ≡ place.old.me.0.room) }
+        × (place.new.me
+        ≡ (record place.old.me.0 { seen = place.old.me.0.seen ++ entry_of id C.now call.now.value reply.now ∷ []; room = room; stage = Posted ticket }, place.old.me.1))
+        × (room ≤ place.old.me.0.room) × (place.old.me.0.room ≤ room + 1)
+        × (length place.old.me.0.seen < 2 ^ 62 → room ≡ place.old.me.0.room) }
     ensures ids { AreIds place.new.me.0.seen }
 {
     post::<O, Brand>(turns, place, ticket, id, call, reply);
@@ -156,7 +162,8 @@ pub(crate) fn take_turn<O: Object, C: Clock, R: Wait + Threads + Sync, G: Gate>(
     requires room { (0 < place.old.me.0.share) × HasRoom (standing_of place.old) }
     requires may { MayCall O.legal O.may turns.now.key.base (standing_of place.old) call }
     ensures rests { Rested place.new.me }
-    ensures call { Called O.legal turns.now.key.base C.now (standing_of place.old) call result.0 (standing_of place.new) }
+    ensures call { Called O.legal turns.now.key.base C.now
+        (standing_of place.old) call result.0 (standing_of place.new) }
     ensures number { result.1 ≡ length place.new.me.0.seen }
     ensures ids { AreIds place.new.me.0.seen }
 {
@@ -185,7 +192,8 @@ pub(crate) fn lay<O: Object>(
 ) -> Result<(TurnTable<O>, Place<O>), AllocError>
     requires share { start.share ≤ 65536 }
     requires value { O.legal start.base [] × O.stands start.base [] value }
-    ensures table { IfOk result (λ t. (t.0.shared.key ≡ start) × (t.0.shared.table_id.words ≡ 3) × (t.1.table_id ≡ t.0.shared.table_id)) }
+    ensures table { IfOk result (λ t.
+        (t.0.shared.key ≡ start) × (t.0.shared.table_id.words ≡ 3) × (t.1.table_id ≡ t.0.shared.table_id)) }
     ensures seat { IfOk result (λ t. t.1.me ≡ (first_view start, [])) }
 {
     let slots = one_slot(alloc, value)?;
