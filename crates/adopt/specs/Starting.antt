@@ -61,8 +61,8 @@ Adopts names old new (Ok found) = IsAdoption names old found × IsLeftBehind old
 Adopts names old new (Err RegionFault) = IsBroken old new
 Adopts names old new (Err NoMemory) = IsLeftBehind old new
 
--- on every berth: a stranger's name is one; or there is one table for each name, which owes the log nothing and has fewer
--- than 2^63 writes, and a log's end below 2^63
+-- on every berth: a stranger's name is one; or there is one table for each name, which owes the log nothing and has
+-- fewer than 2^63 writes, and a log's end below 2^63
 abbrev pub HasTables : ℕ → Adoption → Type 0
 HasTables count (NoTables why) = ⊤
 HasTables count (Stranger name) = IsName name

@@ -1,4 +1,5 @@
--- Rows that differ in their times alone have the same groups, where a query does not ask for times and all are in its range.
+-- Rows that differ in their times alone have the same groups, where a query does not ask for times and all are in its
+-- range.
 use Rattle.std.proofs.Common.{◌≡◌, ℕ, ◌+◌, ◌-◌, ◌<◌, ◌≤◌, Bool, true, false, ◌&&◌, ◌||◌, cond, List, [], ◌∷◌, length, map, filter, slice_index_or, ℤ, pos, ◌≤ℤ◌, int_le, Option, Some, refl, sym, ap, ap₂, subst, ◌∙◌, arith}
 use Rattle.std.specs.Prelude.{bytes_eq, option_and_then}
 use Rattle.std.specs.List.{AllByRecursion, list_all, list_any, cons_option, range_with_len}

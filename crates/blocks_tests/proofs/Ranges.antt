@@ -1,4 +1,5 @@
--- A block whose rows are all later than a query's range does not meet it, so that of two blocks the other alone is looked at.
+-- A block whose rows are all later than a query's range does not meet it, so that of two blocks the other alone is
+-- looked at.
 use Rattle.std.proofs.Common.{◌≡◌, ℕ, suc, ◌<◌, ◌≤◌, Bool, true, false, ◌&&◌, cond, List, [], ◌∷◌, length, fold, slice_index_or, ℤ, pos, ◌≤ℤ◌, ◌<ℤ◌, int_le, int_lt, refl, sym, ap, subst, ◌∙◌, arith}
 use Rattle.std.specs.Int.{int_min}
 use Rattle.std.proofs.lemmas.Bool.{false_from_ne_true}

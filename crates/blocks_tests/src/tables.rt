@@ -1,4 +1,5 @@
-// Tables of sealed blocks and a tail, with ample memory: how their rows stand, and tables that are handed over in parts.
+// Tables of sealed blocks and a tail, with ample memory: how their rows stand, and tables that are handed over in
+// parts.
 ghost use Rattle.std.specs.Prelude.{◌≡◌, ◌≤◌, ◌<◌, ◌+◌, [], IfOk, OnOk};
 
 use crate::rows::{LATER, TIMES, alike, three_rows};

@@ -1,4 +1,5 @@
--- Codes of a width lie between 0 and the greatest one, and what stands for values is whole: no code between two that do is left out.
+-- Codes of a width lie between 0 and the greatest one, and what stands for values is whole: no code between two that do
+-- is left out.
 use Rattle.std.proofs.Common.{◌≡◌, ℕ, zero, suc, ◌+◌, ◌*◌, ◌/◌, ◌%◌, ◌^◌, ◌<◌, ◌≤◌, List, slice_index, ap, ◌∙◌, arith}
 use Rattle.std.proofs.lemmas.Int.{ints}
 use Rattle.std.proofs.lemmas.Nat.{mod_below, pow-add}

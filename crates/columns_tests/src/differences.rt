@@ -27,7 +27,8 @@ fn values_come_back_by_their_differences(rt: HostRuntime) -> Result<(), Fail> {
     Ok(())
 }
 
-// Whether anchors and codes mean these values: each 64th from the first on is an anchor, and the others follow by `undo`.
+// Whether anchors and codes mean these values: each 64th from the first on is an anchor, and the others follow by
+// `undo`.
 fn mean_values(anchors: &[i64], codes: &[u64], values: &[i64]) -> bool {
     let mut before = 0;
     let mut same = anchors.len() == codes.len().div_ceil(64) && codes.len() == values.len();

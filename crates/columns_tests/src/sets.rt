@@ -27,7 +27,8 @@ fn each_set_and_each_text_is_written_once(rt: HostRuntime) -> Result<(), Fail> {
     cells.push(set_cell(alloc, &[])?)?;
     cells.push(set_cell(alloc, &["a", "b"])?)?;
     cells.push(set_cell(alloc, &["b", "c"])?)?;
-    // A byte of presence, two of codes, three texts of a byte with their ends, three sets with theirs, and four members.
+    // A byte of presence, two of codes, three texts of a byte with their ends, three sets with theirs, and four
+    // members.
     assert_eq!(rt;
         read_back_len(alloc, Kind::Sets, &cells)?,
         Some(40 + 1 + 2 + 4 + 12 + 3 + 4 + 12 + 16)

@@ -50,7 +50,8 @@ closed_or_image image region images log_end is (inr whole) = inr (subst (λ (byt
 
 -- ---- the leaf
 
--- All of each table is in each log, which ends where the image of the tables says, and the region as it reads is closed or that image.
+-- All of each table is in each log, which ends where the image of the tables says, and the region as it reads is closed
+-- or that image.
 pub record Ends (ws : List Watched) (writes : List ℕ → List Write) (m : Meaning) : Type 0 where
   pub watched : AreWatched m.clock ws
   pub opened : was_opened m.clock ws ≡ true

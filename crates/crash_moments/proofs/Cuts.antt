@@ -68,7 +68,8 @@ pub cut_later : (c t : ℕ) (es : List Entry) → c ≤ t → Between 0 c es →
 cut_later c t [] later within = refl
 cut_later c t (e ∷ es) later within = rw (any_later c t (e ∷ es) later within, cut_later c t es later within.1) refl
 
--- ---- a history is its front up to the steward's last entry, and behind it entries that the steward did not make by then
+-- ---- a history is its front up to the steward's last entry, and behind it entries that the steward did not make by
+-- then
 
 abbrev pub NotMade : ℕ → Entry → Type 0
 NotMade t e = is_made t e ≡ false

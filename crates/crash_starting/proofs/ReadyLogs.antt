@@ -1,4 +1,5 @@
--- What the logs of a berth that is ready have: what is flushed of each name, and of one name maybe the record behind that too.
+-- What the logs of a berth that is ready have: what is flushed of each name, and of one name maybe the record behind
+-- that too.
 use Rattle.std.proofs.Common.{◌≡◌, ℕ, Bool, true, false, List, [], ◌++◌, length, take, drop, Some, refl, sym, ap, subst, ◌∙◌, arith, inl, inr}
 use Rattle.std.specs.Prelude.{◌⊎◌, if◌then◌else◌, bytes_eq}
 use Rattle.std.proofs.lemmas.Bool.{false≢true}

@@ -34,7 +34,8 @@ module _ (ws : List Watched) (owner : ℕ) (log : LogState) (writes : List ℕ �
   abbrev taken : List ℕ → List Write
   taken = with_writes log.owed writes
 
-  -- what lies between the log and what was taken is a front of each table's writes, now and as they were at the steward's last entry
+  -- what lies between the log and what was taken is a front of each table's writes, now and as they were at the
+  -- steward's last entry
   pub runs_front : (others : NamedStates) (held : List ℕ → List Write) → ((name : List ℕ) → IsBetween (writes name) (taken name) (held name)) → (name : List ℕ) → IsFrontOf (held name) (tables_then others m.clock ws name)
   runs_front others held between name = by (find_name ws name)
     where

@@ -1,4 +1,5 @@
--- A berth that was opened on a pair which belongs to some tables may be begun over, with all that its log has: a front of their writes with each flushed one.
+-- A berth that was opened on a pair which belongs to some tables may be begun over, with all that its log has: a front
+-- of their writes with each flushed one.
 use Rattle.std.proofs.Common.{◌≡◌, inl, inr, ◌∙◌, ℕ, ◌≤◌, List, [], length, take, None, refl, sym, ap, subst, arith, lit≤}
 use Rattle.std.specs.Prelude.{◌⊎◌}
 use Rattle.std.proofs.lemmas.List.{length-take-le, take_all}

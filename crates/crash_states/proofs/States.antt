@@ -1,4 +1,5 @@
--- Where the tables of a leaf stand now and stood at its berth's present moment, and which lists are fronts of their writes.
+-- Where the tables of a leaf stand now and stood at its berth's present moment, and which lists are fronts of their
+-- writes.
 use Rattle.std.proofs.Common.{◌≡◌, ℕ, ◌≤◌, false, List, [], ◌++◌, length, take, drop, Option, Some, None, Bool, true, cond, refl, sym, ap, subst, ◌∙◌, arith, append-nil}
 use Rattle.std.specs.Prelude.{bytes_eq}
 use Rattle.std.proofs.lemmas.List.{length-append, length-take, take-append-drop, take-append-le, take-take, take_all, take_at}

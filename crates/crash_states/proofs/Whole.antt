@@ -1,4 +1,5 @@
--- Each pair that a crash may leave now belongs to the tables with all their entries, not only with those up to the steward's last.
+-- Each pair that a crash may leave now belongs to the tables with all their entries, not only with those up to the
+-- steward's last.
 use Rattle.std.proofs.Common.{◌≡◌, ◌⊎◌, inl, inr, ℕ, List, [], length, take, Option, sym, ap, subst, ◌∙◌, arith}
 use Rattle.std.proofs.lemmas.List.{take_all}
 use Rattle.leaf_model.specs.declared.writes.Write.{Write}

@@ -1,4 +1,5 @@
--- What sound logs have of each name, how long the tables of their writes grow, and that the beginning of a recovery leaves a log.
+-- What sound logs have of each name, how long the tables of their writes grow, and that the beginning of a recovery
+-- leaves a log.
 use Rattle.std.proofs.Common.{◌≡◌, inl, inr, ℕ, ◌≤◌, ◌^◌, ◌∙◌, Bool, true, false, cond, List, [], ◌∷◌, ◌++◌, length, take, min, refl, sym, ap, subst, arith, append_assoc}
 use Rattle.std.specs.Str.{bytes_eq}
 use Rattle.std.proofs.lemmas.Bool.{cases_lt}

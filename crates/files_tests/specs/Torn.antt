@@ -5,7 +5,8 @@ use Rattle.std.proofs.Common.{◌∙◌, sym, subst}
 use Rattle.berth_face.specs.Berth.{Pair, Meaning, IsClosed}
 use Rattle.berth_face.specs.Moments.{KeepsRegion}
 
--- what may be left of such files, where this may be left of others: the same disk beside the same region or a closed one
+-- what may be left of such files, where this may be left of others: the same disk beside the same region or a closed
+-- one
 abbrev pub torn : Meaning → Meaning
 torn m = record {
   tells = m.tells;

@@ -12,8 +12,8 @@ use berth_mem::MemBerth;
 /// A read gives so many bytes at most.
 const SOME: usize = 3;
 
-/// Two files in memory. A crash leaves of them what it leaves of a berth in memory: within a call any bytes in the range that it
-/// writes, and of the disk each write since the last sync whole, cut short or not at all.
+/// Two files in memory. A crash leaves of them what it leaves of a berth in memory: within a call any bytes in the
+/// range that it writes, and of the disk each write since the last sync whole, cut short or not at all.
 #[derive(Drop)]
 pub struct MemFiles {
     kept: MemBerth,

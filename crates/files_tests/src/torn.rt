@@ -63,7 +63,8 @@ impl<F: FileCalls + Send + Drop> FileCalls for TornFiles<F> {
     }
 }
 
-/// Closes the region's flag. Then each region that a crash may leave is closed, whatever a machine that goes down has torn of it.
+/// Closes the region's flag. Then each region that a crash may leave is closed, whatever a machine that goes down has
+/// torn of it.
 pub fn shut(berth: &mut FileBerth<TornFiles<MemFiles>>) -> Result<(), Failed>
     ensures closed { OnOk result (EachNow (λ p. IsClosed p.region) (⟦<FileBerth<TornFiles<MemFiles>> as Berth>⟧.meaning berth.new)) }
 {

@@ -1,4 +1,5 @@
--- Where lists end: a group's keys or a row's, folds cut to the others' number, a list in three parts, and the first of what is left of one.
+-- Where lists end: a group's keys or a row's, folds cut to the others' number, a list in three parts, and the first of
+-- what is left of one.
 use Rattle.std.proofs.Common.{◌≡◌, ℕ, suc, ◌+◌, ◌≤◌, ◌<◌, List, [], ◌∷◌, ◌++◌, length, drop, take, get_or, map, Option, Some, None, IsSome, refl, ap, ◌∙◌, arith}
 use Rattle.std.specs.Ordering.{nat_cmp}
 use Rattle.std.specs.declared.cmp.Ordering.TheVariants.{Less, Greater}

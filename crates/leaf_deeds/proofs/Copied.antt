@@ -49,7 +49,8 @@ abbrev pub IsReached : ℕ → Meaning → Meaning → Next → Type 0
 IsReached zero m n at = n.held.region ≡ m.held.region
 IsReached (suc made) m n at = IsUnderWay at
 
--- So many steps were made and the others are left, none of those that were made was the last, nothing was noted, and the disk was not read.
+-- So many steps were made and the others are left, none of those that were made was the last, nothing was noted, and
+-- the disk was not read.
 pub record CopiedSoFar (c : Copying) (m : Meaning) (stop : Option ℕ) (d : Copying) (n : Meaning) (left : Option ℕ) (notes : List Note) : Type 0 where
   pub seated : d.seated ≡ c.seated
   pub made : ℕ
@@ -101,7 +102,8 @@ failed_copy leaf fault = Err (leaf, fault)
 
 -- ---- how many steps it takes
 
--- a copy that begins takes three steps and one for each column; of founded tables there are no more than rows and cells that were added
+-- a copy that begins takes three steps and one for each column; of founded tables there are no more than rows and cells
+-- that were added
 pub copy_long : (x : Shutting) (c : Copying) → IsCopyOf x c → AreShut x.serving.seated → HasCopyLength x.serving.seated (copy_left c)
 copy_long x c is shut = (
   subst (λ (n : Next). 3 + columns_seen x.serving.seated.tables x.serving.seated.seats ≤ left_from n c.drain.heap) (sym is.next) (let columns = is.columns in omega (arith, columns)),

@@ -1,4 +1,4 @@
--- What the deeds of one leaf do, by the notes that they make.
+-- What a deed does to one leaf, by its notes.
 use Rattle.std.specs.Prelude.{◌≡◌, ◌⊎◌, ℕ, suc, ◌+◌, ◌<◌, ◌≤◌, true, List, [], length, slice_get, slice_set, Option, Some, Result, Vec, IsTrue, ⊤}
 use Rattle.std.specs.Global.{Global}
 use Rattle.std.specs.List.{AllByRecursion}
@@ -83,7 +83,7 @@ pub record IsStopped (x : Shutting) (m : Meaning) (stop : Option ℕ) (notes : L
   pub region : SameRegion m m'
   pub reads : m'.disk_reads ≡ m.disk_reads
 
--- what a drain does to a leaf, by these notes; it does not read the disk
+-- what a drain does to a leaf, with these notes; it does not read the disk
 pub record Drains (m m' : Meaning) (leaf : Leaf) (stop : Option ℕ) (notes : List Note) (ends : Ending) (leaf' : Leaf) : Type 0 where
   pub moves : DrainMoves m m' leaf stop notes ends leaf'
   pub carries : Carries leaf leaf' notes m m'

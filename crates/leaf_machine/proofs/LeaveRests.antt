@@ -1,4 +1,5 @@
--- Another leaf may begin where one rests: its base has the writes of the longest log, and those of the shortest are flushed.
+-- Another leaf may begin where one rests: its base has the writes of the longest log, and those of the shortest are
+-- flushed.
 use Rattle.std.proofs.Common.{◌≡◌, ◌⊎◌, inl, inr, ◌∙◌, ℕ, ◌≤◌, Bool, true, false, List, [], length, Option, refl, sym, ap, subst, arith}
 use Rattle.std.specs.Prelude.{IsTrue}
 use Rattle.std.proofs.lemmas.Bool.{false≢true}

@@ -1,4 +1,5 @@
--- How many columns a drain has at least: what the rows of its tables ask for; and at most: a column for each row and each cell that their writes add.
+-- How many columns a drain has at least: what the rows of its tables ask for; and at most: a column for each row and
+-- each cell that their writes add.
 use Rattle.std.proofs.Common.{◌≡◌, ℕ, suc, ◌+◌, ◌≤◌, true, List, [], ◌∷◌, length, map, Some, refl, ap, arith}
 use Rattle.std.specs.Prelude.{slice_get}
 use Rattle.std.specs.List.{AllByRecursion}

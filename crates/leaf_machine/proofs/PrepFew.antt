@@ -1,4 +1,5 @@
--- Of shut tables that are founded: each comes to at most a column for each row and each cell that its writes add, entry by entry.
+-- Of shut tables that are founded: each comes to at most a column for each row and each cell that its writes add, entry
+-- by entry.
 use Rattle.std.proofs.Common.{◌≡◌, ℕ, zero, suc, ◌+◌, ◌<◌, ◌≤◌, true, List, [], ◌∷◌, ◌++◌, length, Option, Some, None, refl, sym, ap, subst, ◌∙◌, arith, le_trans}
 use Rattle.std.specs.Prelude.{slice_get, Result}
 use Rattle.std.proofs.lemmas.List.{length-append}

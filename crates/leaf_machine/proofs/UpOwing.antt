@@ -12,7 +12,8 @@ use Rattle.leaf_steward.specs.Seated.{Seated, AtPlace, AreFounded, Spares, watch
 use Rattle.leaf_machine.specs.States.{Serving, IsUp, UpStands, GoesOn}
 use Rattle.leaf_machine.proofs.UpSeats.{Serves}
 
--- the record that is owed is of a table in that place, which knows that so many writes were taken and has room for four entries more
+-- the record that is owed is of a table in that place, which knows that so many writes were taken and has room for four
+-- entries more
 pub record OwedBy (x : Seated) (owed : Option LogRecord) (owner count : ℕ) : Type 0 where
   pub owes : IfSome owed (λ r. (owner < length x.tables) × AtPlace (λ t v. (count ≤ (state_seen (base_seen t) v).taken) × (name_of t ≡ r.name)) x owner)
   pub spares : IfSome owed (λ r. AtPlace (Spares 4) x owner)

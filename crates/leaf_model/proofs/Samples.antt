@@ -92,7 +92,8 @@ early = record { name = codes "time"; op = Lt; value = value.Int (pos 3) }
 early_pass : map (passes (record by_host { conds = early ∷ [] })) hosts ≡ true ∷ true ∷ false ∷ []
 early_pass = refl
 
--- without GROUP BY the one group has no key; a sum may be negative, and a name that no row has sums to 0 and has no least
+-- without GROUP BY the one group has no key; a sum may be negative, and a name that no row has sums to 0 and has no
+-- least
 abbrev all_together : Query
 all_together = record by_host { keys = []; aggs = Sum (codes "v") ∷ Min (codes "w") ∷ []; order = None }
 

@@ -216,8 +216,9 @@ pub data KillMoves (m m' : Meaning) (leaf : Leaf) (notes : List Note) (ends : En
 abbrev pub AreShut : Seated → Type 0
 AreShut x = AtEach (λ place t v. SeesShut t v) x
 
--- the copy of its tables takes that many steps: the begin, the columns, the directory, and the flag. There are at least the columns that the rows ask for, and of founded tables at most
--- one for each row and each cell that was added; and each table is shut.
+-- The copy takes `copy` steps: to begin, one for each column, to write the directory, and to open the flag. It has at
+-- least the columns that the rows need, and of founded tables at most one for each row and each cell that was added.
+-- Each table is shut.
 abbrev pub HasCopyLength : Seated → ℕ → Type 0
 HasCopyLength x copy = (3 + columns_seen x.tables x.seats ≤ copy) × (AreFounded x → copy ≤ 3 + columns_added x.tables x.seats) × AreShut x
 
@@ -259,8 +260,9 @@ Stops m m' leaf leaf' notes copy (Shutting p) r = (count : ℕ) × (copy ≡ 0) 
     × SameRegion m m' × ServesStill leaf m m' r.between p.owed
 Stops m m' leaf leaf' notes copy (Copying made) r = HasCopyLength (seated_of leaf') copy × (r.last ≡ []) × WhereStands leaf m (RegionStopped (Copying made) m m')
 
--- A drain makes its steps until one is the last and each table is handed over; or the region fails, and the leaf is down; or the copy has no room; or there is no memory; or the disk
--- fails; or it has made as many steps as it was to make, and the leaf is killed; or the leaf is down. What a copy leaves that ended or failed names no stranger.
+-- How a drain ends. All steps are made, and each table is handed over; or the region fails, and the leaf is down; or
+-- the copy has no room; or memory runs out; or the disk fails; or `stop` steps are made, and the leaf is killed; or the
+-- leaf was down. The region after a copy that ended or failed names no stranger.
 abbrev pub DrainMoves : Meaning → Meaning → Leaf → Option ℕ → List Note → Ending → Leaf → Type 0
 DrainMoves m m' leaf stop notes ending.Done leaf' = (made : ℕ) × (r : Reaches leaf leaf' notes (suc made) (Copying made)) × MayMake stop (suc r.made) × HasCopyLength r.between (suc made)
     × EachNoted IsHandedNote 0 (length (seated_of leaf).tables) r.last × (mode_of leaf' ≡ Down)

@@ -1,4 +1,5 @@
--- What the steward's entries leave: its seats are as they have to be, at the same tables, and each entry takes at most one of a seat's room.
+-- What the steward's entries leave: its seats are as they have to be, at the same tables, and each entry takes at most
+-- one of a seat's room.
 use Rattle.std.proofs.Common.{◌≡◌, ◌≢◌, ℕ, zero, suc, ◌+◌, ◌≤◌, List, length, Option, slice_get, sym, ap, ◌∙◌, subst, arith}
 use Rattle.leaf_history.specs.Calls.{Call}
 use Rattle.leaf_history.specs.Calls as call

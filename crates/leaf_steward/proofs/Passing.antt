@@ -45,7 +45,8 @@ opened_length first [] notes o = ap (λ (l : List Note). length l) o
 opened_length first (d ∷ ds) [] o = absurd o
 opened_length first (d ∷ ds) (n ∷ ns) o = ap suc (opened_length (suc first) ds ns o.2)
 
--- The tables from the first to the place were passed, each with an entry at that clock, and this is what their seats know now. The others' seats are as they were.
+-- The tables from the first to the place were passed, each with an entry at that clock, and this is what their seats
+-- know now. The others' seats are as they were.
 pub record Passed (Done : Shared → SeatView → Type 0) (clock first : ℕ) (x : Seated) (place : ℕ) (notes : List Note) (y : Seated) : Type 0 where
   pub tables : y.tables ≡ x.tables
   pub made : Makes clock clock x notes y

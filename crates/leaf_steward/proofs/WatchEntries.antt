@@ -1,4 +1,5 @@
--- One entry of the steward, and one meeting: the seat stays the steward's, and what callers did between changed nothing that the steward knew.
+-- One entry of the steward, and one meeting: the seat stays the steward's, and what callers did between changed nothing
+-- that the steward knew.
 use Rattle.std.proofs.Common.{◌≡◌, ℕ, ◌-◌, ◌≤◌, Bool, true, false, List, [], ◌∷◌, ◌++◌, length, take, Option, Some, None, refl, sym, ap, subst, ◌∙◌, arith, append_assoc}
 use Rattle.std.specs.Prelude.{if◌then◌else◌}
 use Rattle.std.proofs.lemmas.List.{length-append, length-map}

@@ -132,7 +132,7 @@ impl SharedTable {
         LentQuery::of(self.alloc, query)
     }
 
-    // Takes one turn.
+    // Takes one turn, and makes its entry.
     pub(crate) fn turn<C: Clock, R: Wait + Threads + Sync, G: Gate>(
         &self,
         rt: &R,

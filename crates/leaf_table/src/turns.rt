@@ -1,4 +1,4 @@
-// What is handed in and out in one turn.
+// What a turn takes in and gives out.
 use crate::shared_query::SharedQuery;
 use leaf_model::{Groups, Query, Rows};
 use row_records::Pending;

@@ -1,4 +1,5 @@
-// The lines that no run reaches: a seat that has seen 2^62 entries, a table with 2^40 rows or 2^63 writes, and want of memory.
+// The lines that no run reaches: a seat that has seen 2^62 entries, a table with 2^40 rows or 2^63 writes, and want of
+// memory.
 ghost use Rattle.std.specs.Prelude.{◌≡◌, length, IfOk};
 
 use leaf_model::{Names, Text};

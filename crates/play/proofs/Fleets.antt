@@ -18,7 +18,8 @@ use Rattle.transcript_fleet.proofs.Lists.{All-weaken}
 use Rattle.transcript_leaf.proofs.Lists.{element_at, length_mapped, name_is, same_some, within}
 use Rattle.play.proofs.Lists.{all_each}
 
--- New tables of these names, with the steward's seat and the callers' at each, none of which was used. They are founded with the base where one is named, and else they are not founded.
+-- New tables of these names, with the steward's seat and the callers' at each, none of which was used. They are founded
+-- with the base where one is named, and else they are not founded.
 pub record AreNewTables (base : Option NamedStates) (names : List (List ℕ)) (tables : List Shared) (stewards : List SeatView) (callers : List (Option SeatView)) : Type 0 where
   pub named : map name_of tables ≡ names
   pub stewards_are : length stewards ≡ length tables

@@ -193,7 +193,7 @@ fn tell<'t, R: Wait + Threads + Sync, B: Berth, G: Gate>(
     }
 }
 
-// What a fresh state tells.
+// The line of a fresh query.
 fn tell_fresh(
     alloc: Global,
     follower: &mut Follower,

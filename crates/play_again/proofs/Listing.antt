@@ -1,4 +1,5 @@
--- Over a berth that has a base, a leaf may begin with one that is a list: of the names that the log has, as it reads or with one record more.
+-- Over a berth that has a base, a leaf may begin with one that is a list: of the names that the log has, as it reads or
+-- with one record more.
 use Rattle.std.proofs.Common.{◌≡◌, ◌⊎◌, inl, inr, ◌∙◌, ℕ, Bool, true, false, cond, List, [], ◌∷◌, ◌++◌, length, Option, Some, None, refl, sym, ap, subst, arith}
 use Rattle.std.specs.Prelude.{bytes_eq}
 use Rattle.std.proofs.lemmas.Bool.{false≢true}

@@ -6,8 +6,8 @@ use std::sync::Wait;
 use std::test::*;
 use std::thread::Threads;
 
-/// The commands of a leaf's life, each with the fewest and the most writes that a crash leaves from the end of the command
-/// before it to its own end: what was flushed by then is never lost, and what was not accepted never there.
+/// The commands of a leaf's life, each with the fewest and the most writes that a crash leaves from the end of the
+/// command before it to its own end: what was flushed by then is never lost, and what was not accepted never there.
 const LIFE: [(&str, u8, u8); 10] = [
     ("fleet 1 1 errors\n", 0, 0),
     ("add 0 errors 1\n{\"time\":1}\n", 0, 0),
@@ -44,8 +44,8 @@ fn opened(lines: &[u8]) -> Option<u8> {
     }
 }
 
-/// The fewest and the most writes with which a new leaf opens its table over what a crash leaves from that moment on; none where
-/// a start has a fault.
+/// The fewest and the most writes with which a new leaf opens its table over what a crash leaves from that moment on;
+/// none where a start has a fault.
 fn writes_left<R: Wait + Threads + Sync>(
     rt: &R,
     alloc: Global,
@@ -103,8 +103,8 @@ fn lines_failing<R: Wait + Threads + Sync>(
     }
 }
 
-/// Whether a new leaf opens its table with one write over all that a crash now leaves: from memory, or where the region is
-/// lost from the log.
+/// Whether a new leaf opens its table with one write over all that a crash now leaves: from memory, or where the region
+/// is lost from the log.
 fn is_there_twice<R: Wait + Threads + Sync>(
     rt: &R,
     alloc: Global,
@@ -139,7 +139,8 @@ fn a_drained_leaf_is_adopted_by_the_next_run(rt: HostRuntime) -> Result<(), Fail
         "a play that is done",
     );
 
-    // A read of the disk would fail, but there is none. The closing of the region fails once, and the next start goes well.
+    // A read of the disk would fail, but there is none. The closing of the region fails once, and the next start goes
+    // well.
     for (method, script, want) in [
         (
             Method::DiskRead,
@@ -170,7 +171,8 @@ const DRAINED: &str =
 const LINES: &str =
     "0 errors #1 opened 0\nstart 0 disk nohead\n0 errors #2 added 1 late 0\n0 errors #3 closed 1\n0 errors #4 flushed 1\n0 errors #5 handed\ndrain 0 done\n0 errors #6 opened 1\nstart 0 memory\n0 errors #7 asked\nanswer named 1 of 1 lines 1\n1\n";
 
-/// The lines of that life over a berth that lets so many calls pass, and with how many writes a new leaf then opens its table.
+/// The lines of that life over a berth that lets so many calls pass, and with how many writes a new leaf then opens its
+/// table.
 fn fused<R: Wait + Threads + Sync>(
     rt: &R,
     alloc: Global,

@@ -8,8 +8,8 @@ use std::thread::yield_now;
 /// How often a caller looks for the other one before it gives up: some seconds.
 const LOOKS: u64 = 4_000_000;
 
-/// A gate that holds a caller inside a turn of leaf 0 until another is inside one of leaf 1, and the other way round. It lets the first
-/// turn of each pass, which is that of its start.
+/// A gate that holds a caller inside a turn of leaf 0 until another is inside one of leaf 1, and the other way round.
+/// It lets the first turn of each pass, which is that of its start.
 #[derive(Drop)]
 struct BothInside {
     turns: [AtomicU64; 2],

@@ -1,4 +1,5 @@
-//! Tests of whole runs: over streams and berths that fail, over what a crash or the run before left, over two leaves that are asked at once, with rollovers, and of soaks.
+//! Tests of whole runs: over streams and berths that fail, over what a crash or the run before left, over two leaves
+//! that are asked at once, with rollovers, and of soaks.
 #![tactic(auto)]
 
 #[cfg(test)]

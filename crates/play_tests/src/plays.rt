@@ -55,7 +55,8 @@ pub fn played<R: Wait + Threads + Sync>(
     }
 }
 
-/// The lines that a play of the script over so many empty berths prints, with this gate; none where the play is not done.
+/// The lines that a play of the script over so many empty berths prints, with this gate; none where the play is not
+/// done.
 pub fn lines_of<R: Wait + Threads + Sync, G: Gate>(
     rt: &R,
     alloc: Global,

@@ -96,7 +96,8 @@ fn is_wave(event: &RollEvent, at: u32) -> bool
     }
 }
 
-/// The lines of a rollover in two waves with a watch that counts, and one that asks for a halt at the beginning of that wave.
+/// The lines of a rollover in two waves with a watch that counts, and one that asks for a halt at the beginning of that
+/// wave.
 fn lines_halted<R: Wait + Threads + Sync>(
     rt: &R,
     alloc: Global,

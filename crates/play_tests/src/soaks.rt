@@ -40,7 +40,8 @@ fn a_soak_asks_for_a_berth_for_each_of_its_leaves(rt: HostRuntime) -> Result<(),
     Ok(())
 }
 
-/// The lines up to the answer of the first query: each leaf has one of the eight rows, whose times are those from 0 to 7.
+/// The lines up to the answer of the first query: each leaf has one of the eight rows, whose times are those from 0 to
+/// 7.
 const FRONT: &str =
     "0 events #1 opened 0\nstart 0 disk nohead\n1 events #1 opened 0\nstart 1 disk nohead\n2 events #1 opened 0\nstart 2 disk nohead\n3 events #1 opened 0\nstart 3 disk nohead\n4 events #1 opened 0\nstart 4 disk nohead\n5 events #1 opened 0\nstart 5 disk nohead\n6 events #1 opened 0\nstart 6 disk nohead\n7 events #1 opened 0\nstart 7 disk nohead\n0 events #2 added 1 late 0\n1 events #2 added 1 late 0\n2 events #2 added 1 late 0\n3 events #2 added 1 late 0\n4 events #2 added 1 late 0\n5 events #2 added 1 late 0\n6 events #2 added 1 late 0\n7 events #2 added 1 late 0\n0 events #3 asked\n1 events #3 asked\n2 events #3 asked\n3 events #3 asked\n4 events #3 asked\n5 events #3 asked\n6 events #3 asked\n7 events #3 asked\nanswer named 8 of 8 lines 1\n8 0 7\n";
 

@@ -44,8 +44,8 @@ fn ending(alloc: Global, status: &Status) -> Result<String, AllocError> {
     Ok(fault_text(alloc, status)?.into_inner())
 }
 
-/// How a run ends over a source of the text and a sink of one byte a call, of which these calls fail, and what it wrote. Call 0
-/// is never made.
+/// How a run ends over a source of the text and a sink of one byte a call, of which these calls fail, and what it
+/// wrote. Call 0 is never made.
 fn run_failing<R: Wait + Threads + Sync>(
     rt: &R,
     alloc: Global,

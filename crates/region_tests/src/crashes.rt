@@ -32,7 +32,8 @@ fn looked_at(alloc: Global, mut berth: MemBerth, names: &Names, whole: &[u8]) ->
     }
 }
 
-/// How many images of these moments are the whole image, which now stands in the region; none where one is neither that nor closed.
+/// How many images of these moments are the whole image, which now stands in the region; none where one is neither that
+/// nor closed.
 fn whole_images(
     alloc: Global,
     berth: &MemBerth,
@@ -55,7 +56,8 @@ fn whole_images(
     Ok(Some(whole))
 }
 
-/// The steps of a drain over an old closed region, each with the number of moments after it, and the berth that they leave.
+/// The steps of a drain over an old closed region, each with the number of moments after it, and the berth that they
+/// leave.
 fn moments_of_steps(alloc: Global) -> Result<(Vec<(DrainStep, u64)>, MemBerth), AllocError> {
     let mut berth = berth_on(alloc, &[0, 7, 7])?;
     let mut steps = Vec::new(alloc);

@@ -1,4 +1,5 @@
-//! Tests of a leaf's tables that are moved into a region of columns and taken back: a worked example, two tables with a cut, and crashes.
+//! Tests of a leaf's tables that are moved into a region of columns and taken back: a worked example, two tables with a
+//! cut, and crashes.
 #![tactic(auto)]
 
 #[cfg(test)]

@@ -24,8 +24,8 @@ impl Watch for Leaver {
     }
 }
 
-/// Tells both watches a drain that was done, and the one that is left of two starts and a drain. Gives back how many are
-/// left, and their lines.
+/// Tells both watches a drain that was done, and the one that is left of two starts and a drain. Gives back how many
+/// are left, and their lines.
 fn lines_left(alloc: Global) -> Result<(usize, Vec<u8>), AllocError> {
     let mut watches: Vec<Box<dyn Watch>> = Vec::new(alloc);
     watches.push(Box::new(

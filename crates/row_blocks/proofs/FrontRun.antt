@@ -1,4 +1,5 @@
--- Of cells in the order of their headings, those at the front under one heading are a column, and what stands behind them is left of the rows.
+-- Of cells in the order of their headings, those at the front under one heading are a column, and what stands behind
+-- them is left of the rows.
 use Rattle.std.proofs.Common.{◌≡◌, ◌⊎◌, inl, inr, ℕ, zero, suc, ◌+◌, ◌-◌, ◌<◌, ◌≤◌, Bool, true, false, List, [], ◌∷◌, ◌++◌, length, map, take, drop, set, cond, slice_index_or, Option, Some, None, option_map, if◌then◌else◌, refl, sym, ap, subst, ◌∙◌, arith, eq-eqb, eqb-true}
 use Rattle.std.specs.List.{All, AllByRecursion, filter, last_or, prefix_len}
 use Rattle.std.specs.List.Sorted.{IsStrictlySortedBy}

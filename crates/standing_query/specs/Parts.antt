@@ -1,4 +1,4 @@
--- Groups in parts: each has those of some rows, and all rows stand in the order of the parts.
+-- Groups in parts: the groups of consecutive runs of the rows.
 use Rattle.std.specs.Prelude.{◌≡◌, ℕ, ◌+◌, ◌<◌, ◌≤◌, ◌^◌, Bool, true, List, [], ◌∷◌, length, ◌++◌, ℤ, int_le, filter, ⊤}
 use Rattle.std.specs.List.{AllByRecursion}
 use Rattle.leaf_model.specs.declared.rows.Row.{Row}
@@ -54,7 +54,7 @@ abbrev pub begins_from : ℤ → List Group → Bool
 begins_from horizon [] = true
 begins_from horizon (g ∷ gs) = int_le horizon (time_in g.keys)
 
--- rows without so many late ones, where a horizon cuts off so many
+-- the rows without the late ones, if some horizon has exactly `late` rows below it
 abbrev pub IsCut : List Row → ℕ → List Row → Type 0
 IsCut rows late kept = (h : ℤ) → late + length (rows_from h rows) ≡ length rows → kept ≡ rows_from h rows
 

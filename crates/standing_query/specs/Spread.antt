@@ -30,7 +30,7 @@ agg_names (Avg name) = name ∷ []
 abbrev pub names_read : Query → List (List ℕ)
 names_read q = map (λ (c : Cond). c.name) q.conds ++ (q.keys ++ flat_map agg_names q.aggs)
 
--- names before others that ascend: without `time`, each once in its place
+-- names put into an ascending list: each in its place and once, without `time`
 abbrev pub names_before : List (List ℕ) → List (List ℕ) → List (List ℕ)
 names_before [] others = others
 names_before (n ∷ ns) others = if bytes_eq n time_name then names_before ns others else insert_key text_cmp (names_before ns others) n

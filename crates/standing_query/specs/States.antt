@@ -1,4 +1,4 @@
--- What the state of a standing query means, and what entries of its table's history make of it.
+-- The state of a standing query, and what an entry of its table's history does to it.
 use Rattle.std.specs.Prelude.{◌≡◌, ℕ, ◌+◌, ◌<◌, ◌≤◌, ◌^◌, ◌==◌, Bool, true, false, nat_lt, List, length, ◌++◌, ℤ}
 use Rattle.leaf_model.specs.declared.rows.Row.{Row}
 use Rattle.leaf_model.specs.declared.queries.Query.{Query}
@@ -40,7 +40,7 @@ is_idle Other = true
 is_idle (Kept removed) = removed == 0
 is_idle _ = false
 
--- nothing but an add of rows that were not all late takes memory
+-- the entry takes memory: only an add of rows that are not all late
 abbrev pub TakesMemory : Fed → Type 0
 TakesMemory (Added rows late) = late < length rows
 TakesMemory _ = ⊥

@@ -1,4 +1,4 @@
-// What a state is fed.
+// What a standing query is fed of an entry.
 ghost use Rattle.std.specs.Prelude.{◌≡◌};
 ghost use Rattle.standing_query.specs.States.{is_idle};
 

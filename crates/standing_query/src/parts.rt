@@ -1,4 +1,4 @@
-// Groups of a spread in parts.
+// The groups of a spread, kept in parts.
 ghost use Rattle.std.specs.Prelude.{◌≡◌, ◌≢◌, ℕ, ◌+◌, ◌<◌, ◌≤◌, ◌^◌, ◌==◌, List, [], ◌∷◌, ◌++◌, length, map, not, IfOk, IfErr, OnOk, OnSome, option_to_list, true};
 ghost use Rattle.std.specs.List.{AllByRecursion, list_all};
 ghost use Rattle.std.specs.Vec.{vec_len, vec_capacity};
@@ -36,7 +36,7 @@ fn pop_groups(list: &mut Vec<Part>) -> Option<Groups>
     }
 }
 
-/// The last part, where it has at most about twice as many groups.
+/// Removes the last part, if it has at most about twice as many groups as the new one.
 fn pop_short(list: &mut Vec<Part>, groups: usize) -> Option<Groups>
     ensures items { list.old.items ≡ list.new.items ++ option_to_list result }
     ensures fewer { OnSome result (vec_len list.new < vec_len list.old) }
@@ -49,7 +49,7 @@ fn pop_short(list: &mut Vec<Part>, groups: usize) -> Option<Groups>
     if is_short { pop_groups(list) } else { None }
 }
 
-/// A part more, which takes up those before it that are short beside it.
+/// Appends a part, after it was merged with each last part that is short beside it.
 fn put_part(alloc: Global, list: &mut Vec<Part>, part: Groups) -> Result<(), AllocError>
     requires { AreCounted (list.old.items ++ part ∷ []) }
     ensures rows { (q : Query) (rows : List Row) → AreParts q rows (list.old.items ++ part ∷ []) → OnOk result (AreParts q rows list.new.items) }
@@ -63,7 +63,7 @@ fn put_part(alloc: Global, list: &mut Vec<Part>, part: Groups) -> Result<(), All
     Ok(())
 }
 
-/// The groups of times below the horizon go, in each part.
+/// Removes the groups of times below the horizon from each part.
 fn forget(list: &mut Vec<Part>, horizon: &i64)
     requires { AllByRecursion NeverFall list.old.items }
     ensures groups { list.new.items ≡ map (groups_from horizon.now) list.old.items }

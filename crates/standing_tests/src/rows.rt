@@ -16,7 +16,8 @@ pub type Spelled = (i64, i64, &'static str);
 /// What is told of a host: the number of its rows, and the sum, the least and the greatest of their codes.
 pub type Told = (&'static str, u64, i128, i64, i64);
 
-/// The rows of a table in their order, of which that of the time 10 is behind the range of the query, and one has a code that is too small.
+/// The rows of a table in their order, of which that of the time 10 is behind the range of the query, and one has a
+/// code that is too small.
 pub const FIRST: &[Spelled] = &[
     (1, 5, "a"),
     (3, 1, "a"),

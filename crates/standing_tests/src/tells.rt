@@ -58,7 +58,8 @@ const FROM_FIVE: &[Spelled] = &[
 /// What is told of them.
 const TOLD: &[Told] = &[("a", 1, 3, 3, 3), ("b", 2, 6, 2, 4)];
 
-/// Entries behind the one by which a state of the first rows became fresh, the rows that are left behind each, and what is told of these.
+/// Entries behind the one by which a state of the first rows became fresh, the rows that are left behind each, and what
+/// is told of these.
 const LIFE: &[(Step, &[Spelled], &[Told])] = &[
     (Step::Other, FIRST, &[("a", 2, 6, 1, 5), ("b", 1, 2, 2, 2)]),
     (

@@ -1,4 +1,5 @@
--- How many columns blocks have, and how many rows and cells there are: of lists behind one another, and of what is left of a list.
+-- How many columns blocks have, and how many rows and cells there are: of lists behind one another, and of what is left
+-- of a list.
 use Rattle.std.proofs.Common.{cond, ◌≡◌, ℕ, zero, suc, ◌+◌, ◌≤◌, Bool, true, false, List, [], ◌∷◌, ◌++◌, length, take, drop, filter, ℤ, int_le, sym, ap, ◌∙◌, arith}
 use Rattle.std.proofs.lemmas.List.{take-append-drop}
 use Rattle.leaf_model.specs.declared.rows.Row.{Row}

@@ -46,6 +46,7 @@ from_few t h rows low = lower t h low (rows_from h rows) (left_from h rows)
 
 -- ---- a walk
 
--- what is not below a time of those that the walk has still to pass, is not below it of all, up to the least time so far
+-- what is not below a time of those that the walk has still to pass, is not below it of all, up to the least time so
+-- far
 abbrev pub Passed : ℤ → List Row → ℤ → List Row → Type 0
 Passed h rows least left = (t : ℤ) → int_le t least ≡ true → AreFrom t (rows_from h left) → AreFrom t (rows_from h rows)

@@ -16,8 +16,8 @@ pub enum Why {
     Command,
     /// No fleet stands before the command.
     NoFleet,
-    /// A fleet stands before this one, a lane or an end stands outside a burst, a burst or a fleet inside one, or another
-    /// command before a burst's first lane; or the text's last line leaves a burst open.
+    /// A fleet stands before this one, a lane or an end stands outside a burst, a burst or a fleet inside one, or
+    /// another command before a burst's first lane; or the text's last line leaves a burst open.
     Place,
     /// The words behind the first are not those of the command, or a number is out of its range.
     Words,

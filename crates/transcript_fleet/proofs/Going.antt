@@ -48,7 +48,8 @@ pub record Leaves {B : Type 0} (meaning : B → Meaning) (fleet : Fleet) (known 
   pub each : (leaf : ℕ) (old : B) (x : Hold B) → slice_get olds leaf ≡ Some old → slice_get xs leaf ≡ Some x
       → LeafSession meaning leaf fleet.names (known leaf) (meaning old) before (start leaf) items x
 
--- What is known behind more pieces of a command: of each leaf; that it grew, and who holds what stays; that seats that are told as worn are; and of which leaves and tables they are.
+-- What is known behind more pieces of a command: of each leaf; that it grew, and who holds what stays; that seats that
+-- are told as worn are; and of which leaves and tables they are.
 pub record Behind {B : Type 0} (meaning : B → Meaning) (fleet : Fleet) (known : ℕ → Option Known) (olds : List B) (before : List Piece) (start : ℕ → ℕ → List Entry)
     (items : List PlayedItem) (c0 : Command) (ps more : List Piece) (xs ys : List (Hold B)) : Type 0 where
   pub leaves : Leaves meaning fleet known olds before start (with_pieces items c0 (ps ++ more)) ys

@@ -1,4 +1,5 @@
--- Histories of the leaves of a fleet as somebody's seats have seen them: those of one leaf, and how they grow while who holds what stays.
+-- Histories of the leaves of a fleet as somebody's seats have seen them: those of one leaf, and how they grow while who
+-- holds what stays.
 use Rattle.std.proofs.Common.{◌≡◌, ℕ, zero, suc, ◌≤◌, Bool, true, false, List, [], ◌∷◌, ◌++◌, length, refl, sym, ap, subst, ◌∙◌, arith, Some}
 use Rattle.std.specs.Prelude.{slice_get, slice_set, nat_lt}
 use Rattle.std.proofs.lemmas.Bool.{ltb-true, ltb-false}

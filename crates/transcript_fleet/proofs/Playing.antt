@@ -20,7 +20,8 @@ use Rattle.transcript_fleet.proofs.Growing.{AllGrow, Becomes, becomes_self, beco
 use Rattle.transcript_fleet.proofs.Going.{Leaves, LeavesAlone, alone_on, command_goes}
 use Rattle.transcript_fleet.proofs.Asking.{answers_known}
 
--- What is known of commands that were played: each printed what belongs to it, and its answers, and the seats that it told as worn, are right however histories go on from these holds.
+-- What is known of commands that were played: each printed what belongs to it, and its answers, and the seats that it
+-- told as worn, are right however histories go on from these holds.
 pub record AreRight {B : Type 0} (fleet : Fleet) (known : ℕ → Option Known) (plays : List Played) (xs : List (Hold B)) : Type 0 where
   pub prints : AllByRecursion (λ (p : Played). Prints fleet p.command p.pieces) plays
   pub answered : (histories : ℕ → ℕ → List Entry) → GoOn xs histories → AllByRecursion (Answers fleet (grounds_of fleet known) histories) plays

@@ -1,4 +1,5 @@
--- What refused starts leave of region and disk: what was handed, but for the flag of an open region and the first byte of a disk of at most one.
+-- What refused starts leave of region and disk: what was handed, but for the flag of an open region and the first byte
+-- of a disk of at most one.
 use Rattle.std.proofs.Common.{◌≡◌, ◌∙◌, inl, inr, ℕ, ◌≤◌, List, [], ◌∷◌, ◌++◌, length, take, min, refl, sym, ap, subst, arith, length-append}
 use Rattle.berth_face.specs.Berth.{Meaning}
 use Rattle.row_records.specs.Records.{LogRecord}

@@ -1,4 +1,5 @@
--- How many writes of a table were taken and are flushed, as its steward's seat has seen it, and what entries of callers and of the steward make of that.
+-- How many writes of a table were taken and are flushed, as its steward's seat has seen it, and what entries of callers
+-- and of the steward make of that.
 use Rattle.std.proofs.Common.{◌≡◌, ℕ, ◌≤◌, Bool, true, List, [], ◌∷◌, ◌++◌, refl, sym, ap, subst, ◌∙◌, arith}
 use Rattle.leaf_history.specs.Calls.{Call}
 use Rattle.leaf_history.specs.Calls as call

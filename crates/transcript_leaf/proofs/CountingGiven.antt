@@ -1,4 +1,5 @@
--- What is given of a steward's command that tells no fault of the disk, and what holds of each: how many writes there are counts for, and what a leaf that is left alone keeps.
+-- What is given of a steward's command that tells no fault of the disk, and what holds of each: how many writes there
+-- are counts for, and what a leaf that is left alone keeps.
 use Rattle.std.proofs.Common.{◌≡◌, ℕ, List, [], length, sym, ap, subst, ◌∙◌, Some}
 use Rattle.berth_face.specs.Berth.{Meaning, Pair}
 use Rattle.crash_moments.specs.Left.{NamedStates}

@@ -1,4 +1,5 @@
--- What the entries of a steward's command make of all tables of a leaf, and of how many of their writes are known to be on the disk.
+-- What the entries of a steward's command make of all tables of a leaf, and of how many of their writes are known to be
+-- on the disk.
 use Rattle.std.proofs.Common.{◌≡◌, ◌⊎◌, inl, inr, ℕ, zero, suc, ◌<◌, true, List, [], ◌∷◌, ◌++◌, length, refl, sym, ap, subst, ◌∙◌, arith, Option, Some, None}
 use Rattle.std.specs.Prelude.{◌≢◌, slice_get, slice_set, ⊤}
 use Rattle.std.specs.List.{AllByRecursion}

@@ -1,4 +1,5 @@
--- The counts of a leaf: at its beginning, at a meeting, and behind each of its steward's deeds that tells no fault of the disk.
+-- The counts of a leaf: at its beginning, at a meeting, and behind each of its steward's deeds that tells no fault of
+-- the disk.
 use Rattle.std.proofs.Common.{◌≡◌, ℕ, false, List, map, Some, sym, ap, subst, ◌∙◌, arith}
 use Rattle.std.specs.Prelude.{slice_get}
 use Rattle.berth_face.specs.Berth.{Meaning}

@@ -126,8 +126,8 @@ stays P counts x notes y none part holds =
 
 -- ---- a leaf that shuts its tables
 
--- Nothing is owed, all that was taken of each table is flushed, and the first tables are shut with all of their writes taken.
--- What the berth holds makes no difference.
+-- Nothing is owed, all that was taken of each table is flushed, and the first tables are shut with all of their writes
+-- taken. What the berth holds makes no difference.
 abbrev pub IsClean : NamedStates → List ℕ → Progress → Seated → Type 0
 IsClean base counts p x = (p.owed ≡ None) × AtCounts (IsSettled base) x counts × AtEach (ShutBelow base (first_open p)) x
 

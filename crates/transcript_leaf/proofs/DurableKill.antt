@@ -1,4 +1,5 @@
--- A leaf of which the counts are known is killed: each open table is closed, which changes no count, and the berth is not touched, so that its log has what was flushed.
+-- A leaf of which the counts are known is killed: each open table is closed, which changes no count, and the berth is
+-- not touched, so that its log has what was flushed.
 use Rattle.std.proofs.Common.{◌≡◌, ℕ, List, refl, sym, subst, None}
 use Rattle.berth_face.specs.Berth.{Meaning, Pair}
 use Rattle.leaf_machine.specs.States.{Serving}

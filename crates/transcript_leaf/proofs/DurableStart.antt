@@ -1,4 +1,5 @@
--- A start of a leaf of which the log's counts are known: it opens each table with just so many writes, and these are flushed then.
+-- A start of a leaf of which the log's counts are known: it opens each table with just so many writes, and these are
+-- flushed then.
 use Rattle.std.proofs.Common.{◌≡◌, ℕ, zero, suc, ◌+◌, List, [], ◌∷◌, length, map, Option, Some, None, refl, sym, ap, subst, ◌∙◌, arith}
 use Rattle.std.specs.Prelude.{slice_get}
 use Rattle.table_state.specs.Tables.{HeldTables, Table}

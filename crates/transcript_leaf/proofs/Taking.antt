@@ -18,7 +18,8 @@ use Rattle.transcript_leaf.proofs.TableMeets.{ids_if}
 
 -- ---- who has which ids then, and what has been seen
 
--- what is taken back of a table: the steward's seat is that which stayed, where the lane has none; or it comes back and meets the callers'
+-- what is taken back of a table: the steward's seat is that which stayed, where the lane has none; or it comes back and
+-- meets the callers'
 abbrev pub ComesBackAt : Option SeatView → Option SeatView → Option SeatView → Option SeatView → Option SeatView → Type 0
 ComesBackAt v None joined w e = (w ≡ v) × (e ≡ joined)
 ComesBackAt None (Some u) joined (Some w) e = MeetsIf u joined w e

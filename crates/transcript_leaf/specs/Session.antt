@@ -84,7 +84,7 @@ pub record TableSession (g : Ground) (start : List Entry) (number table : ℕ) (
 
 -- ---- the leaf, and what is printed of it
 
--- all that was taken of the table is flushed, and it is so much
+-- all that was taken of the table is flushed: n writes
 abbrev pub IsSettled : NamedStates → Shared → SeatView → ℕ → Type 0
 IsSettled base t v n = ((after true (base (name_of t)) (seen_of v)).taken ≡ n) × ((after true (base (name_of t)) (seen_of v)).flushed ≡ n)
 

@@ -59,7 +59,8 @@ abbrev pub CountUp : ℕ → List Shown → ℕ → Type 0
 CountUp n [] m = m ≡ n
 CountUp n (s ∷ ss) m = (s.number ≡ n + 1) × CountUp (n + 1) ss m
 
--- a fresh state means the rows behind the first n entries, these have times, and none of them is below the table's horizon
+-- a fresh state means the rows behind the first n entries, these have times, and none of them is below the table's
+-- horizon
 abbrev pub Knows : Ground → List Entry → ℕ → StandingState → Type 0
 Knows g entries n t = Means t (rows_behind g entries n) × AreTimes (rows_behind g entries n) × NoneBelow (contents_behind g entries n)
 

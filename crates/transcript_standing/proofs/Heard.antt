@@ -1,4 +1,5 @@
--- Behind an item that was played, what is heard of a table is what the lines of its entries tell, each by the call that its piece names.
+-- Behind an item that was played, what is heard of a table is what the lines of its entries tell, each by the call that
+-- its piece names.
 use Rattle.std.proofs.Common.{◌≡◌, inl, inr, ℕ, suc, ◌<◌, List, [], ◌∷◌, ◌++◌, length, map, refl, sym, ap, subst, ◌∙◌, append_assoc}
 use Rattle.std.specs.Prelude.{◌⊎◌, Some, None, option_to_list, slice_get}
 use Rattle.std.specs.List.{AllByRecursion, flat_map, range_with_len}

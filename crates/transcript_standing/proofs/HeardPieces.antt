@@ -54,7 +54,8 @@ heard_as number f = record { number = number; fed = f }
 abbrev pub heard_of : Shown → Heard
 heard_of s = heard_as s.number (fed_of s.call s.said)
 
--- what callers are told stands with a call of callers, and that rows were added with an add; what stewards are told, with none
+-- what callers are told stands with a call of callers, and that rows were added with an add; what stewards are told,
+-- with none
 abbrev pub IsSaidOf : Option Call → Said → Type 0
 IsSaidOf c (Added kept late) = (rows : List Row) × (c ≡ Some (call.Add rows))
 IsSaidOf c (Opened writes) = c ≡ None

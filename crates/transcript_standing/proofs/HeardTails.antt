@@ -28,7 +28,8 @@ use Rattle.transcript_standing.proofs.HeardPieces.{AreProper, Hears, IsSaidOf, T
 abbrev tail_calls : Option (List Row) → List Meant → CallsLeft
 tail_calls left more = record { current = now.Tail left; rest = more }
 
--- The calls that are left are those of a tail with these rows, whether it has a line of the table yet or none, and then these.
+-- The calls that are left are those of a tail with these rows, whether it has a line of the table yet or none, and then
+-- these.
 pub record InTail (left : Option (List Row)) (more : List Meant) (calls : CallsLeft) : Type 0 where
   pub feeds : (told : Said) → fed_called calls told ≡ fed_by_tail left told
   pub moves : (told : Said) → left_called calls told ≡ tail_calls (rows_left left told) more

@@ -1,4 +1,5 @@
--- Entries of a table's legal history that a state of a standing query heeds, one after another in the order of their numbers.
+-- Entries of a table's legal history that a state of a standing query heeds, one after another in the order of their
+-- numbers.
 use Rattle.std.proofs.Common.{◌≡◌, ℕ, ◌+◌, Bool, false, ◌||◌, refl, sym, ap, subst, ◌∙◌, arith}
 use Rattle.std.specs.Prelude.{List, [], ◌∷◌, map, set, get_or, swap, IsPermutation}
 use Rattle.std.specs.List.{AllByRecursion, list_any}

@@ -180,7 +180,8 @@ module _ (fleet : Fleet) (known : ℕ → Option Known) (items : List Item) (out
     x = One (record { command = c; pieces = pieces })
 
     module _ (cut : t.played ≡ before ++ x ∷ behind) where
-      -- the number of an ask that was answered is that of the last entry behind it, and what the table held before it, it holds behind it
+      -- the number of an ask that was answered is that of the last entry behind it, and what the table held before it,
+      -- it holds behind it
       pub record IsNow (f : Follower) (number : ℕ) (gs : List Group) : Type 0 where
         pub last_is : number ≡ last_number (shown f.leaf f.table (all_pieces (before ++ x ∷ [])))
         pub knows : Knows (grounds f.leaf f.table) (t.histories f.leaf f.table) number (settled number gs f).standing

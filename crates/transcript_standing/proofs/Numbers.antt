@@ -20,7 +20,8 @@ numbers ss = map (λ (s : Shown). s.number) ss
 abbrev pub ShowsIn : List Entry → Shown → Type 0
 ShowsIn entries s = (0 < s.number) × ((e : Entry) × (slice_get entries (s.number - 1) ≡ Some e) × Shows s.call s.said e)
 
--- What is known of lines behind others: they have the numbers above `low` and up to `high`, each once, and each shows its entry.
+-- What is known of lines behind others: they have the numbers above `low` and up to `high`, each once, and each shows
+-- its entry.
 pub record IsStretch (entries : List Entry) (low high : ℕ) (lines : List Shown) : Type 0 where
   pub rise : low ≤ high
   pub within : high ≤ length entries

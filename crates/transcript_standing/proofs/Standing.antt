@@ -1,4 +1,5 @@
--- Where standing queries stand behind the items of a transcript: a fresh one knows the rows behind the last entry that was printed of its table.
+-- Where standing queries stand behind the items of a transcript: a fresh one knows the rows behind the last entry that
+-- was printed of its table.
 use Rattle.std.proofs.Common.{◌≡◌, ◌⊎◌, inl, inr, ℕ, zero, suc, ◌+◌, ◌-◌, ◌<◌, ◌≤◌, ◌||◌, Bool, true, false, List, [], ◌∷◌, ◌++◌, length, map, refl, sym, ap, ap₂, subst, ◌∙◌, arith, Option, Some}
 use Rattle.std.specs.Prelude.{IsPermutation, MatchBool, not, slice_get, ◌&&◌}
 use Rattle.std.specs.List.{AllByRecursion, list_any, range_with_len}

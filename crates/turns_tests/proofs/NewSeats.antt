@@ -1,4 +1,5 @@
--- A caller's seat and the steward's at each leaf of a new fleet, at its one table; and that a table without a base may be opened empty.
+-- A caller's seat and the steward's at each leaf of a new fleet, at its one table; and that a table without a base may
+-- be opened empty.
 use Rattle.std.proofs.Common.{◌≡◌, ℕ, ◌<◌, false, List, [], ◌∷◌, length, Option, Some, None, refl, sym, subst, ◌∙◌, arith, Vec, Global}
 use Rattle.std.specs.Prelude.{slice_get, slice_index_or}
 use Rattle.std.proofs.lemmas.Option.{slice_get_within}

@@ -54,7 +54,8 @@ pub fn open<R: Wait + Threads + Sync>(
     }
 }
 
-/// Takes the writes of an open table, and notes that the disk holds them: how many there are, and the numbers of both entries.
+/// Takes the writes of an open table, and notes that the disk holds them: how many there are, and the numbers of both
+/// entries.
 fn take_and_flush<R: Wait + Threads + Sync>(
     rt: &R,
     table: &SharedTable,
