@@ -6,7 +6,7 @@ use Rattle.std.proofs.lemmas.Int.{ints, to_z-of_z, to_z_pos}
 use Rattle.std.specs.Prelude.{FitsSigned, IfSome, slice_index}
 use Rattle.std.specs.Char.{is_ascii_digit, digit_value}
 use Rattle.std.specs.Str.Parse.{AllDigits, digits_value}
-use Rattle.std.proofs.lemmas.Bool.{or_parts, or_cases, not-true, eqb-true}
+use Rattle.std.proofs.lemmas.Bool.{or_parts, or_cases, not-true, eqb-true, false≢true}
 use Rattle.std.proofs.lemmas.List.{drop_more, drop_all, length-drop, take_all}
 use Rattle.std.proofs.lemmas.Int.Digits.{digits_more, digits_value_more}
 use Rattle.std.proofs.lemmas.Str.{digit_value_digit}
