@@ -35,6 +35,8 @@ KEEPS = os.environ.get("SCUBA_KEEP") == "1"
 SECONDS_A_BYTE = 0.003
 # Compiling a program takes about as long as proving so many bytes of source.
 COMPILES = 8000
+# A second job pays only where there are so many bytes of source a job (lane_play, of 6,600 bytes, took 72 seconds with one, 91 with two, 116 with four).
+BYTES_A_JOB = 7000
 
 
 class OtherWords(Exception):
@@ -334,7 +336,7 @@ class Build:
         leave idle while it is proved. (Each job reads again what the others have read: four of them take twice the processor seconds of one.)"""
         beside = sum(it.weight for it in others) + sum(run.crate.weight for run in self.running) / 2
         taken = min(round(beside / crate.weight), len(others) + len(self.running))
-        return max(min(self.at_once, 8) - taken, 1)
+        return max(min(min(self.at_once, 8) - taken, crate.weight // BYTES_A_JOB), 1)
 
     def start_ready(self):
         """Starts what stands on built crates alone, as far as there are processors and memory."""

@@ -4,10 +4,10 @@ use Rattle.std.proofs.lemmas.List.{append-nil, drop-append-le, drop_all, drop_mo
 use Rattle.std.proofs.lemmas.List.Elements.{filter-append}
 use Rattle.std.proofs.lemmas.List.FromFn.{length-map-range_with_len}
 use Rattle.std.proofs.Math.Seq.{drop-nil}
-use Rattle.leaf_model.specs.declared.rows.Row.{Row}
+use Rattle.row_model.specs.declared.rows.Row.{Row}
 use Rattle.leaf_model.specs.Content.{rows_from}
 use Rattle.std.specs.List.{AllByRecursion}
-use Rattle.leaf_model.specs.Values.{IsTime}
+use Rattle.row_model.specs.Values.{IsTime}
 use Rattle.table_state.specs.declared.parts.Parts.{Parts}
 use Rattle.table_state.specs.Tables.{IsParts, most_rows}
 use Rattle.row_blocks.specs.Blocks.{Block, IsBlock, row_at, rows_in}

@@ -3,7 +3,7 @@ use Rattle.std.proofs.Common.{Err, List, Ok, Result, [], ℕ, ◌++◌, ◌<◌,
 use Rattle.std.specs.Prelude.{Contains}
 use Rattle.std.specs.List.{AllByRecursion, flat_map}
 use Rattle.std.proofs.lemmas.List.{append-nil, map-append}
-use Rattle.leaf_model.specs.Names.{AreDistinct}
+use Rattle.row_model.specs.Names.{AreDistinct}
 use Rattle.region_layout.specs.Images.{TableImage}
 use Rattle.column_bytes.specs.Column.{kind_in}
 use Rattle.row_blocks.specs.declared.column.BlockColumn.{BlockColumn}
@@ -19,8 +19,8 @@ use Rattle.region_layout.specs.Drained.{images_of}
 use Rattle.region_layout.proofs.Ending.{table_columns}
 use Rattle.region_layout.proofs.Images.{table_in}
 use Rattle.table_state.specs.Tables.{IsParts}
-use Rattle.adopt.specs.declared.found.AdoptFault.{AdoptFault}
-use Rattle.adopt.specs.declared.found.AdoptFault.TheVariants as fault
+use Rattle.region_reading.specs.declared.fault.AdoptFault.{AdoptFault}
+use Rattle.region_reading.specs.declared.fault.AdoptFault.TheVariants as fault
 use Rattle.adopt.specs.declared.found.AdoptStep.{AdoptStep}
 use Rattle.adopt.specs.declared.found.AdoptStep.TheVariants as step
 use Rattle.adopt.specs.Adopting.{Adopting, AdoptsOn, AreAdopted, IsLeftBehind}

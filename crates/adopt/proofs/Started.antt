@@ -8,12 +8,12 @@ use Rattle.table_state.specs.Tables.{HeldTables, Table}
 use Rattle.region_head.proofs.Heads.{closed_head}
 use Rattle.region_layout.specs.Region.{IsAdoptable}
 use Rattle.region_layout.specs.Drained.{images_of}
-use Rattle.adopt.specs.declared.found.AdoptFault.{AdoptFault}
-use Rattle.adopt.specs.declared.found.AdoptFault.TheVariants as fault
+use Rattle.region_reading.specs.declared.fault.AdoptFault.{AdoptFault}
+use Rattle.region_reading.specs.declared.fault.AdoptFault.TheVariants as fault
 use Rattle.adopt.specs.declared.found.AdoptStep.{AdoptStep}
 use Rattle.adopt.specs.declared.found.AdoptStep.TheVariants as step
 use Rattle.leaf_words.specs.declared.ways.WhyDisk.TheVariants as why
-use Rattle.adopt.specs.declared.found.Drained.{Drained}
+use Rattle.adopt.specs.declared.found.ImageTables.{ImageTables}
 use Rattle.adopt.specs.declared.found.Adopted.{Adopted}
 use Rattle.adopt.specs.declared.found.Adoption.TheVariants.{NoTables, Tables}
 use Rattle.adopt.specs.Adopting.{Adopting, AdoptsOn, AreAdopted, Finds, HasNoStranger, KeepsOn, cut_at}
@@ -85,11 +85,11 @@ module _ (first a : AdoptState) (old mid new : Meaning) (so_far : TookSome first
       let none = subst (λ (s : AdoptStep). AdoptsOn region a new.held.region (Ok s)) is (told region (told_mid t) (so_far.told region t adopting)) in
       (none.1, none.2)
 
-  pub all_made : (d : Drained) (made : AdoptStep) → made ≡ step.Finished d.tables d.log_end → ((region : List ℕ) → IsTrue mid.tells → Adopting region a mid.held.region → AdoptsOn region a new.held.region (Ok made))
+  pub all_made : (d : ImageTables) (made : AdoptStep) → made ≡ step.Finished d.tables d.log_end → ((region : List ℕ) → IsTrue mid.tells → Adopting region a mid.held.region → AdoptsOn region a new.held.region (Ok made))
       → (region : List ℕ) → IsTrue old.tells → Adopting region first old.held.region → TakesAll region new.held.region (Ok (Some d))
   all_made d made is told region t adopting = subst (λ (s : AdoptStep). AdoptsOn region a new.held.region (Ok s)) is (told region (told_mid t) (so_far.told region t adopting))
 
-  pub all_drained : (d : Drained) (made : AdoptStep) → made ≡ step.Finished d.tables d.log_end → AreAdopted a.names (Ok made) → IsDrained first.names d
+  pub all_drained : (d : ImageTables) (made : AdoptStep) → made ≡ step.Finished d.tables d.log_end → AreAdopted a.names (Ok made) → IsDrained first.names d
   all_drained d made is adopted = subst (λ (names : List (List ℕ)). IsDrained names d) so_far.names (subst (λ (s : AdoptStep). AreAdopted a.names (Ok s)) is adopted)
 
   pub step_fails : (e : AdoptFault) → ((region : List ℕ) → IsTrue mid.tells → Adopting region a mid.held.region → AdoptsOn region a new.held.region (Err e))
@@ -129,13 +129,13 @@ none_adopted names region new none = (
   none.2,
 )
 
-pub image_adopted : (names : List (List ℕ)) (region new : List ℕ) (d : Drained) (got : Adopted) → IsDrained names d → AreArranged names d got → TakesAll region new (Ok (Some d)) → Adopts names region new (Ok (Tables got))
+pub image_adopted : (names : List (List ℕ)) (region new : List ℕ) (d : ImageTables) (got : Adopted) → IsDrained names d → AreArranged names d got → TakesAll region new (Ok (Some d)) → Adopts names region new (Ok (Tables got))
 image_adopted names region new d got drained arranged took = (
   (images_of d.tables, subst (λ (n : ℕ). IsAdoptable region (images_of d.tables) n) (sym arranged.log_end) took.0, all_known names d.tables drained.0.known, arranged.tables),
   took.1,
 )
 
-pub has_tables : (names : List (List ℕ)) (d : Drained) (got : Adopted) → IsDrained names d → AreArranged names d got → HasTables (length names) (Tables got)
+pub has_tables : (names : List (List ℕ)) (d : ImageTables) (got : Adopted) → IsDrained names d → AreArranged names d got → HasTables (length names) (Tables got)
 has_tables names d got drained arranged = (
   ap (λ (h : HeldTables). length h.each) arranged.tables ∙ tables_size names (images_of d.tables),
   subst (λ (h : HeldTables). AllByRecursion (λ (t : Table). (t.pending ≡ None) × (t.writes < 2 ^ 63)) h.each) (sym arranged.tables) (each_adopted names d.tables drained.0.writes),

@@ -5,8 +5,8 @@ use Rattle.berth_face.specs.Berth.{IsClosed}
 use Rattle.region_layout.specs.declared.directory.Directory.{Directory}
 use Rattle.region_layout.specs.Region.{allows}
 use Rattle.adopt.specs.declared.spans.Span.{Span}
-use Rattle.adopt.specs.declared.found.AdoptFault.{AdoptFault}
-use Rattle.adopt.specs.declared.found.AdoptFault.TheVariants.{RegionFault, NoMemory}
+use Rattle.region_reading.specs.declared.fault.AdoptFault.{AdoptFault}
+use Rattle.region_reading.specs.declared.fault.AdoptFault.TheVariants.{RegionFault, NoMemory}
 use Rattle.adopt.specs.declared.found.AdoptStep.{AdoptStep}
 use Rattle.adopt.specs.Adopting.{Adopting, AdoptsOn, IsInImage, IsLeftBehind, IsNoImage}
 use Rattle.adopt.specs.Finding.{TakesSpan}

@@ -7,11 +7,11 @@ use Rattle.column_bytes.specs.Column.{kind_in}
 use Rattle.region_head.specs.declared.head.Head.TheVariants as head
 use Rattle.region_layout.specs.Images.{TableImage}
 use Rattle.region_head.specs.Head.{head_of}
-use Rattle.leaf_model.specs.Names.{AreDistinct}
+use Rattle.row_model.specs.Names.{AreDistinct}
 use Rattle.leaf_words.specs.declared.ways.WhyDisk.{WhyDisk}
 use Rattle.leaf_words.specs.declared.ways.WhyDisk.TheVariants as why
-use Rattle.adopt.specs.declared.found.AdoptFault.{AdoptFault}
-use Rattle.adopt.specs.declared.found.AdoptFault.TheVariants.{RegionFault, NoMemory}
+use Rattle.region_reading.specs.declared.fault.AdoptFault.{AdoptFault}
+use Rattle.region_reading.specs.declared.fault.AdoptFault.TheVariants.{RegionFault, NoMemory}
 use Rattle.adopt.specs.declared.found.Found.{Found}
 use Rattle.adopt.specs.declared.found.Found.TheVariants as found
 use Rattle.adopt.specs.declared.found.AdoptStep.{AdoptStep}
@@ -73,8 +73,8 @@ pub record IsLeftBehind (old new : List ℕ) : Type 0 where
 abbrev pub cut_at : AdoptState → List ℕ → ℕ
 cut_at a region = get_or (map (λ (p : Place). p.place) (columns_of a.directory)) a.left (directory_from region)
 
--- an adoption in progress: part of this image, whose flag was open, was taken, each column of a kind that its version
--- allows; the region is the rest of it
+-- an adoption in progress: part of this image, whose flag was open, was taken; the region is the rest of it; each
+-- column that was taken has a kind that its version allows
 pub record Adopting (region : List ℕ) (a : AdoptState) (now : List ℕ) : Type 0 where
   pub reads_it : reads a.version ≡ true
   pub has : HasDirectory a.version region a.directory

@@ -4,7 +4,7 @@ use Rattle.column_bytes.specs.declared.kind.Kind.{Kind}
 use Rattle.column_bytes.specs.Column.{kind_in}
 use Rattle.row_blocks.specs.Columns.{MeanCells}
 
--- the bytes mean so many cells and are of this kind, or mean none
+-- Some: the bytes mean this number of cells of this kind; None: they mean no cells
 abbrev pub TellsCells : List ℕ → Option (ℕ × Kind) → Type 0
 TellsCells bytes (Some told) = MeanCells bytes told.0 × (kind_in bytes ≡ told.1)
 TellsCells bytes None = (n : ℕ) → MeanCells bytes n → ⊥

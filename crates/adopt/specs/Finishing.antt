@@ -10,8 +10,8 @@ use Rattle.region_layout.specs.declared.directory.Place.{Place}
 use Rattle.region_layout.specs.declared.directory.BlockPlaces.{BlockPlaces}
 use Rattle.region_layout.specs.declared.directory.TablePlaces.{TablePlaces}
 use Rattle.region_layout.specs.declared.directory.Directory.{Directory}
-use Rattle.adopt.specs.declared.found.AdoptFault.{AdoptFault}
-use Rattle.adopt.specs.declared.found.AdoptFault.TheVariants as fault
+use Rattle.region_reading.specs.declared.fault.AdoptFault.{AdoptFault}
+use Rattle.region_reading.specs.declared.fault.AdoptFault.TheVariants as fault
 use Rattle.adopt.specs.declared.found.AdoptStep.{AdoptStep}
 use Rattle.adopt.specs.declared.found.AdoptStep.TheVariants as step
 
@@ -69,8 +69,8 @@ FinishesAs d columns (Err fault.NoMemory) = Unit {0}
 unfoldable pub live_count : List Block → ℕ → ℤ → ℕ
 live_count blocks cut horizon = length (blocks_held blocks cut horizon)
 
--- things one after another, of which some were made
-pub record SoFar {T M : Type 0} (one : T → List (List ℕ) → M) (after : T → List (List ℕ) → List (List ℕ)) (P : M → Type 0) (all : List T) (columns : List (List ℕ)) (made : List M) (rest : List T) (left : List (List ℕ)) : Type 0 where
+-- things that are made one after another: some are made, the others are left
+pub record MadeSoFar {T M : Type 0} (one : T → List (List ℕ) → M) (after : T → List (List ℕ) → List (List ℕ)) (P : M → Type 0) (all : List T) (columns : List (List ℕ)) (made : List M) (rest : List T) (left : List (List ℕ)) : Type 0 where
   pub made_is : made ++ made_from one after rest left ≡ made_from one after all columns
   pub left_is : left_by after rest left ≡ left_by after all columns
   pub each : AllByRecursion P made

@@ -1,5 +1,4 @@
 pub mod Taken
-pub mod Faults
 pub mod Adopting
 pub mod Cells
 pub mod Finding

@@ -8,9 +8,9 @@ use Rattle.region_layout.specs.Images.{TableImage, held_of, image_names}
 use Rattle.region_layout.specs.Names.{IsName}
 use Rattle.region_layout.specs.Region.{IsAdoptable}
 use Rattle.region_layout.specs.Drained.{images_of}
-use Rattle.adopt.specs.declared.found.AdoptFault.{AdoptFault}
-use Rattle.adopt.specs.declared.found.AdoptFault.TheVariants.{RegionFault, NoMemory}
-use Rattle.adopt.specs.declared.found.Drained.{Drained}
+use Rattle.region_reading.specs.declared.fault.AdoptFault.{AdoptFault}
+use Rattle.region_reading.specs.declared.fault.AdoptFault.TheVariants.{RegionFault, NoMemory}
+use Rattle.adopt.specs.declared.found.ImageTables.{ImageTables}
 use Rattle.adopt.specs.declared.found.Adopted.{Adopted}
 use Rattle.adopt.specs.declared.found.Adoption.{Adoption}
 use Rattle.adopt.specs.declared.found.Adoption.TheVariants.{NoTables, Stranger, Tables}
@@ -22,14 +22,14 @@ use Rattle.adopt.specs.Taken.{AdoptState}
 -- ---- all columns of an image
 
 -- all columns were taken, and these are the tables of the image; or it is none
-abbrev pub TakesAll : List ℕ → List ℕ → Result (Option Drained) AdoptFault → Type 0
+abbrev pub TakesAll : List ℕ → List ℕ → Result (Option ImageTables) AdoptFault → Type 0
 TakesAll region new (Ok None) = IsNoImage region × IsLeftBehind region new
 TakesAll region new (Ok (Some d)) = IsAdoptable region (images_of d.tables) d.log_end × IsLeftBehind region new
 TakesAll region new (Err RegionFault) = IsClosed new
 TakesAll region new (Err NoMemory) = IsLeftBehind region new
 
 -- on every berth
-abbrev pub IsDrained : List (List ℕ) → Drained → Type 0
+abbrev pub IsDrained : List (List ℕ) → ImageTables → Type 0
 IsDrained names d = AreDrained names d.tables × (d.log_end < 2 ^ 63)
 
 -- some of the columns that were left at first were taken
@@ -45,7 +45,7 @@ pub record TookSome (first now : AdoptState) (old new : Meaning) : Type 0 where
 -- ---- the tables of a leaf
 
 -- the tables of these names, out of those of the image
-pub record AreArranged (names : List (List ℕ)) (d : Drained) (a : Adopted) : Type 0 where
+pub record AreArranged (names : List (List ℕ)) (d : ImageTables) (a : Adopted) : Type 0 where
   pub tables : a.tables ≡ held_of names (images_of d.tables)
   pub log_end : a.log_end ≡ d.log_end
 

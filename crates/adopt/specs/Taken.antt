@@ -41,8 +41,8 @@ span_bytes (s ∷ spans) = s.length + span_bytes spans
 
 -- ---- what an adoption keeps on every berth
 
--- each table has one of the names; a prefix of the directory's columns is left; and the others are on the heap, with so
--- many bytes
+-- the state of an adoption: each table has one of the names; a prefix of the directory's columns is left; the others
+-- are on the heap, with so many bytes
 pub record KeepsTrack (names : List (List ℕ)) (d : Directory) (place : ℕ) (left : List Span) (heap : List (List ℕ)) (held : ℕ) : Type 0 where
   pub read : IsRead place d
   pub known : AllByRecursion (λ (t : TablePlaces). Contains names t.name) d.tables

@@ -4,7 +4,7 @@ ghost use Rattle.berth_face.specs.Berth.{Meaning, IsClosed, Passes, Ended, SameD
 ghost use Rattle.berth_face.specs.Moments.{Meanwhile, Throughout};
 ghost use Rattle.berth_face.specs.Causes.{Rose};
 ghost use Rattle.region_layout.specs.Names.{AreNames};
-ghost use Rattle.adopt.specs.declared.found.AdoptFault.TheVariants as fault;
+ghost use Rattle.region_reading.specs.declared.fault.AdoptFault.TheVariants as fault;
 ghost use Rattle.region_head.specs.declared.head.Head.TheVariants.{Version};
 ghost use Rattle.region_head.specs.Head.{head_of};
 ghost use Rattle.adopt.specs.Adopting.{Adopting, AdoptsOn, AreAdopted, Finds, IsInImage, KeepsNames, KeepsOn};
@@ -14,14 +14,14 @@ ghost use Rattle.adopt.specs.Finding.{TakesSpan};
 use crate::cells::mean_cells;
 use crate::finding::find_closed;
 use crate::finishing::finished;
-use crate::found::{AdoptFault, AdoptStep, Found};
+use crate::found::{AdoptStep, Found};
 use crate::lists::put;
 use crate::spans::Span;
 use crate::taken::Adopt;
 use berth_face::Berth;
 use leaf_model::Names;
 use region_head::{Head, close_flag, cut};
-use region_reading::{read_front, read_piece};
+use region_reading::{AdoptFault, read_front, read_piece};
 use row_blocks::ColumnBytes;
 use std::alloc::Global;
 

@@ -1,6 +1,6 @@
 // Tests whether bytes mean cells of a kind that a version allows.
 ghost use Rattle.std.specs.Prelude.{◌≡◌, ◌↔◌, ◌<◌, ℕ, List, length, Option, IfSome, IsSome, IsTrue};
-ghost use Rattle.leaf_model.specs.declared.rows.Value.{Value};
+ghost use Rattle.row_model.specs.declared.rows.Value.{Value};
 ghost use Rattle.column_bytes.specs.Column.{HasCells};
 ghost use Rattle.region_layout.specs.Region.{MeanIn};
 ghost use Rattle.adopt.specs.Cells.{TellsCells};

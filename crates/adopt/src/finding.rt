@@ -8,20 +8,20 @@ ghost use Rattle.region_head.specs.Head.{head_of};
 ghost use Rattle.region_layout.specs.declared.directory.TablePlaces.{TablePlaces};
 ghost use Rattle.region_layout.specs.Region.{reads};
 ghost use Rattle.region_reading.specs.Reading.{IsRead, LooksAt};
-ghost use Rattle.adopt.specs.declared.found.AdoptFault.TheVariants as fault;
+ghost use Rattle.region_reading.specs.declared.fault.AdoptFault.TheVariants as fault;
 ghost use Rattle.region_head.specs.Closing.{ClosedFrom, closed_flag};
 ghost use Rattle.adopt.specs.Adopting.{Finds, KeepsNames};
 ghost use Rattle.region_strangers.specs.Strangers.{stranger_of};
 ghost use Rattle.adopt.specs.Taken.{spans_of};
 
-use crate::found::{AdoptFault, Found};
+use crate::found::Found;
 use crate::spans::{Span, spans_of};
 use crate::taken::Adopt;
 use berth_face::Berth;
 use leaf_model::Names;
 use region_head::cut;
 use region_layout::{Directory, reads};
-use region_reading::{Looked, look};
+use region_reading::{AdoptFault, Looked, look};
 use region_strangers::all_known;
 use std::alloc::Global;
 use std::snapshot::Snapshot;
@@ -135,7 +135,14 @@ fn begun(alloc: Global, names: &Names, version: u32, looked: Looked, left: Vec<S
     requires known { stranger_of names.now (map (λ (t : TablePlaces). t.name) looked.directory.tables) ≡ None }
     requires left { left.items ≡ spans_of looked.directory }
     ensures { result
-        ≡ record { names = names.now; version = version; image_len = looked.image_len; directory = looked.directory; left = length left.items; heap = [] } }
+        ≡ record {
+          names = names.now;
+          version = version;
+          image_len = looked.image_len;
+          directory = looked.directory;
+          left = length left.items;
+          heap = [];
+        } }
 {
     Adopt {
         names: Snapshot::of(names),

@@ -8,9 +8,10 @@ ghost use Rattle.table_state.specs.Tables.{IsParts, most_rows};
 ghost use Rattle.adopt.specs.Finishing.{FinishesAs, IsMade, after_block, after_column, after_table, block_from, front_of, left_by, live_count, made_from, named_front, table_from, tables_from};
 ghost use Rattle.table_state.specs.Stored.{IsCut};
 
-use crate::found::{AdoptFault, AdoptStep};
+use crate::found::AdoptStep;
 use crate::lists::put;
 use region_layout::{BlockPlaces, Directory, DrainTable, DrainTables, Place, TablePlaces};
+use region_reading::AdoptFault;
 use row_blocks::{BlockColumn, BlockColumns, BlockFault, Blocks, ColumnBytes, RowBlock};
 use std::alloc::{AllocError, Global};
 use std::collections::VecDeque;

@@ -1,52 +1,12 @@
 // What a look at a region finds, and what a step of an adoption comes to.
-ghost use Rattle.std.specs.Prelude.{◌≡◌};
-ghost use Rattle.adopt.specs.declared.found.AdoptFault.TheVariants.{RegionFault, NoMemory};
-ghost use Rattle.adopt.specs.Faults.{told_of_look};
 
 use crate::taken::Adopt;
-use berth_face::Failed;
 use leaf_model::Text;
 use leaf_words::WhyDisk;
 use region_layout::DrainTables;
-use region_reading::LookFault;
-use std::alloc::AllocError;
 use table_state::Tables;
 
-/// Why an adoption is given up: the region refused a call, or there is no memory.
-#[derive(Clone, Copy, Debug, PartialEq, Eq)]
-pub enum AdoptFault {
-    RegionFault,
-    NoMemory,
-}
-
-impl From<Failed> for AdoptFault {
-    ghost from_gives = { λ _ e. e ≡ RegionFault };
-
-    fn from(_e: Failed) -> AdoptFault {
-        AdoptFault::RegionFault
-    }
-}
-
-impl From<AllocError> for AdoptFault {
-    ghost from_gives = { λ _ e. e ≡ NoMemory };
-
-    fn from(_e: AllocError) -> AdoptFault {
-        AdoptFault::NoMemory
-    }
-}
-
-impl From<LookFault> for AdoptFault {
-    ghost from_gives = { λ f e. e ≡ told_of_look f };
-
-    fn from(fault: LookFault) -> AdoptFault {
-        match fault {
-            LookFault::RegionFault => AdoptFault::RegionFault,
-            LookFault::NoMemory => AdoptFault::NoMemory,
-        }
-    }
-}
-
-/// What a look at the region finds.
+/// The result of a look at the region.
 #[derive(Drop)]
 pub enum Found {
     /// It is shorter than a head.
@@ -63,7 +23,7 @@ pub enum Found {
     Ready(Adopt),
 }
 
-/// What a step comes to.
+/// The result of a step.
 #[derive(Drop)]
 pub enum AdoptStep {
     /// One more column was taken; this is left.
@@ -76,7 +36,7 @@ pub enum AdoptStep {
 
 /// The tables of an image, and where the log ends.
 #[derive(Drop)]
-pub struct Drained {
+pub struct ImageTables {
     pub tables: DrainTables,
     pub log_end: u64,
 }
@@ -89,7 +49,7 @@ pub struct Adopted {
     pub log_end: u64,
 }
 
-/// What an adoption of all columns comes to.
+/// The result of an adoption of all columns.
 #[derive(Drop)]
 pub enum Adoption {
     /// The region has no tables, for this reason.

@@ -13,7 +13,8 @@ mod tables;
 mod taken;
 
 pub use adopting::find;
-pub use found::{AdoptFault, AdoptStep, Adopted, Adoption, Found};
+pub use found::{AdoptStep, Adopted, Adoption, Found};
 pub use leaf_words::WhyDisk;
+pub use region_reading::AdoptFault;
 pub use starting::adopt;
 pub use taken::Adopt;

@@ -3,20 +3,21 @@ ghost use Rattle.std.specs.Prelude.{◌≡◌, List, ℕ, length, IsTrue, IfOk, 
 ghost use Rattle.berth_face.specs.Berth.{Passes, Ended, SameDisk};
 ghost use Rattle.berth_face.specs.Moments.{Throughout};
 ghost use Rattle.berth_face.specs.Causes.{Rose};
-ghost use Rattle.leaf_model.specs.Names.{AreDistinct};
+ghost use Rattle.row_model.specs.Names.{AreDistinct};
 ghost use Rattle.region_layout.specs.Names.{AreNames};
-ghost use Rattle.adopt.specs.declared.found.AdoptFault.TheVariants as fault;
+ghost use Rattle.region_reading.specs.declared.fault.AdoptFault.TheVariants as fault;
 ghost use Rattle.adopt.specs.Adopting.{Adopting};
 ghost use Rattle.region_head.specs.Closing.{AdoptsFrom, ClosedFrom};
 ghost use Rattle.adopt.specs.Starting.{Adopts, AreArranged, HasTables, IsDrained, TakesAll};
 
 use crate::adopting::find;
-use crate::found::{AdoptFault, AdoptStep, Adopted, Adoption, Drained, Found};
+use crate::found::{AdoptStep, Adopted, Adoption, Found, ImageTables};
 use crate::tables::arranged;
 use crate::taken::Adopt;
 use berth_face::Berth;
 use leaf_model::Names;
 use leaf_words::WhyDisk;
+use region_reading::AdoptFault;
 use std::alloc::{AllocError, Global};
 
 /// Takes the tables of a leaf out of the region's image. It closes an open flag before anything else is read or
@@ -79,12 +80,12 @@ fn adopt_image<B: Berth>(
 }
 
 /// The table for each name.
-fn adopted(alloc: Global, names: &Names, drained: Drained) -> Result<Adopted, AllocError>
+fn adopted(alloc: Global, names: &Names, drained: ImageTables) -> Result<Adopted, AllocError>
     requires distinct { AreDistinct names.now }
     requires drained { IsDrained names.now drained }
     ensures { IfOk result (AreArranged names.now drained) }
 {
-    let Drained { tables, log_end } = drained;
+    let ImageTables { tables, log_end } = drained;
     Ok(Adopted {
         tables: arranged(alloc, names.as_slice(), tables.into_inner())?,
         log_end,
@@ -96,7 +97,7 @@ fn take_all<B: Berth>(
     alloc: Global,
     image: Adopt,
     berth: &mut B,
-) -> Result<Option<Drained>, AdoptFault>
+) -> Result<Option<ImageTables>, AdoptFault>
     ensures told { (region : List ℕ) → IsTrue (B.meaning berth.old).tells
         → Adopting region image (B.meaning berth.old).held.region
         → TakesAll region (B.meaning berth.new).held.region result }
@@ -118,7 +119,7 @@ fn take_all<B: Berth>(
             AdoptStep::More(more) => left = more,
             AdoptStep::NoImage => return Ok(None),
             AdoptStep::Finished { tables, log_end } => {
-                return Ok(Some(Drained { tables, log_end }));
+                return Ok(Some(ImageTables { tables, log_end }));
             }
         }
     }

@@ -1,7 +1,7 @@
 // The tables of a leaf out of those of an image.
 ghost use Rattle.std.specs.Prelude.{◌≡◌, IfOk};
 ghost use Rattle.std.specs.List.{AllByRecursion, position};
-ghost use Rattle.leaf_model.specs.Names.{AreDistinct};
+ghost use Rattle.row_model.specs.Names.{AreDistinct};
 ghost use Rattle.row_blocks.specs.Held.{columns_count};
 ghost use Rattle.table_state.specs.Tables.{bare, columns_most};
 ghost use Rattle.region_layout.specs.Images.{held_of, table_named, table_of};

@@ -30,7 +30,14 @@ impl Model for Adopt {
 
     ghost Value = { AdoptState };
 
-    ghost view = { λ a. record { names = a.names.value; version = a.version; image_len = a.image_len; directory = a.directory; left = length a.left.items; heap = reverse a.taken.items } };
+    ghost view = { λ a. record {
+      names = a.names.value;
+      version = a.version;
+      image_len = a.image_len;
+      directory = a.directory;
+      left = length a.left.items;
+      heap = reverse a.taken.items;
+    } };
 
     ghost invariant = { λ a. KeepsTrack a.names.value a.directory a.place a.left.items (reverse a.taken.items) a.held };
 }

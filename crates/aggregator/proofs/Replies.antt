@@ -3,13 +3,13 @@ use Rattle.std.proofs.Common.{◌≡◌, ℕ, suc, ◌+◌, ◌-◌, List, [], �
 use Rattle.std.specs.Prelude.{slice_get, option_and_then}
 use Rattle.std.specs.List.{AllByRecursion}
 use Rattle.std.proofs.lemmas.List.{append-nil, append_assoc, length-map}
-use Rattle.leaf_model.specs.declared.rows.Row.{Row}
+use Rattle.row_model.specs.declared.rows.Row.{Row}
 use Rattle.leaf_model.specs.declared.queries.Query.{Query}
 use Rattle.leaf_model.specs.Groups.{groups}
 use Rattle.leaf_history.specs.Calls.{Call}
 use Rattle.leaf_history.specs.Calls as call
 use Rattle.leaf_history.specs.Replies as reply
-use Rattle.leaf_history.specs.History.{Entry, HistoryState, AskReply, held}
+use Rattle.leaf_history.specs.History.{Entry, HistoryState, AskReply, contents_held}
 use Rattle.leaf_table.specs.declared.base.TableBase.{TableBase}
 use Rattle.leaf_table.specs.declared.replies.Reply.{Reply}
 use Rattle.leaf_table.specs.declared.replies.Reply.TheVariants as told
@@ -18,12 +18,12 @@ use Rattle.leaf_table.specs.Turns as turns
 use Rattle.leaf_table.specs.Calls.{SeatView, Answered, IsToldAs, Made, base_seen, entry_seen, seen_of, state_of, state_before}
 use Rattle.aggregator.specs.Asks.{Asked}
 use Rattle.aggregator.specs.Sorts.{named_of}
-use Rattle.aggregator.specs.Partial.{rows_before, rows_of_all, bases_in, GoOn}
+use Rattle.aggregator.specs.Partial.{rows_seen_before, rows_of_all, bases_in, SeatsGoOn}
 use Rattle.aggregator.specs.Merges.{IsAnswer, IsOver, AreOver}
 
 -- ---- which replies come
 
-told_answer : (s : HistoryState) (q : Query) (n : ℕ) (r : reply.Reply) (x : Reply) → AskReply s q r → OverFew s r → IsToldAs n r x → IsAnswer x
+told_answer : (s : HistoryState) (q : Query) (n : ℕ) (r : reply.EntryReply) (x : Reply) → AskReply s q r → OverFew s r → IsToldAs n r x → IsAnswer x
 told_answer s q n (reply.Groups gs) x may few is = subst IsAnswer (sym is) few.1
 told_answer s q n reply.Shut x may few is = subst IsAnswer (sym is) tt
 told_answer s q n reply.NoMemory x may few is = subst IsAnswer (sym is) tt
@@ -49,18 +49,18 @@ take_all [] ys = refl
 take_all (x ∷ xs) ys = ap (λ zs. x ∷ zs) (take_all xs ys)
 
 -- the rows before the last entry of a seat's, however its history goes on
-before_last : (base : Option TableBase) (v w : SeatView) (c : Call) (r : reply.Reply) (m : Made base 0 v c r w) (entries more : List Entry)
-    → entries ≡ seen_of w ++ more → rows_before base entries (length w.seen) ≡ (held (state_before base v m.between)).rows
+before_last : (base : Option TableBase) (v w : SeatView) (c : Call) (r : reply.EntryReply) (m : Made base 0 v c r w) (entries more : List Entry)
+    → entries ≡ seen_of w ++ more → rows_seen_before base entries (length w.seen) ≡ (contents_held (state_before base v m.between)).rows
 before_last base v w c r m entries more is =
     let front : List Entry = seen_of v ++ m.between in
     let last : List Entry = entry_seen v.id 0 c r ∷ [] in
     let size : length w.seen ≡ length front + 1 = sym (length-map w.seen turns.told) ∙ (ap (λ (es : List Entry). length es) m.seen ∙ length-append front last) in
     let number : length w.seen - 1 ≡ length front = omega (arith, size) in
     let parts : entries ≡ front ++ (last ++ more) = is ∙ (ap (λ (es : List Entry). es ++ more) m.seen ∙ append_assoc front last more) in
-    ap (λ (es : List Entry). (held (state_of base es)).rows) (ap (λ n. take n entries) number ∙ (ap (λ (es : List Entry). take (length front) es) parts ∙ take_all front (last ++ more)))
+    ap (λ (es : List Entry). (contents_held (state_of base es)).rows) (ap (λ n. take n entries) number ∙ (ap (λ (es : List Entry). take (length front) es) parts ∙ take_all front (last ++ more)))
 
-told_over : (s : HistoryState) (q : Query) (rows : ℕ → ℕ → List Row) (leaf n : ℕ) (r : reply.Reply) (x : Reply) → AskReply s q r → IsToldAs n r x
-    → rows leaf n ≡ (held s).rows → IsOver q (rows_of_all rows (named_of leaf x)) x
+told_over : (s : HistoryState) (q : Query) (rows : ℕ → ℕ → List Row) (leaf n : ℕ) (r : reply.EntryReply) (x : Reply) → AskReply s q r → IsToldAs n r x
+    → rows leaf n ≡ (contents_held s).rows → IsOver q (rows_of_all rows (named_of leaf x)) x
 told_over s q rows leaf n (reply.Groups gs) x may is there =
     subst (λ (y : Reply). IsOver q (rows_of_all rows (named_of leaf y)) y) (sym is) (may.1 ∙ ap (groups q) (sym (append-nil (rows leaf n) ∙ there)))
 told_over s q rows leaf n reply.Shut x may is there = subst (λ (y : Reply). IsOver q (rows_of_all rows (named_of leaf y)) y) (sym is) refl
@@ -73,7 +73,7 @@ told_over s q rows leaf n reply.Noted x may is there = absurd may
 
 -- a reply is over the rows before its entry
 over_before : (base : Option TableBase) (q : Query) (leaf : ℕ) (rows : ℕ → ℕ → List Row) (v : SeatView) (x : Reply) (w : SeatView) (entries more : List Entry)
-    → entries ≡ seen_of w ++ more → ((n : ℕ) → rows leaf n ≡ rows_before base entries n)
+    → entries ≡ seen_of w ++ more → ((n : ℕ) → rows leaf n ≡ rows_seen_before base entries n)
     → Answered base v (call.Ask q) x w → IsOver q (rows_of_all rows (named_of leaf x)) x
 over_before base q leaf rows v (told.Groups number gs) w entries more is are a =
     told_over (state_before base v a.2.between) q rows leaf (length w.seen) a.1 (told.Groups number gs) a.2.allowed.1 a.3
@@ -110,14 +110,14 @@ module _ (q : Query) (fleet : List (List Shared)) (table : ℕ) where
 
   over_from : (histories : ℕ → List Entry) (leaf : ℕ) (vs : List SeatView) (rs : List Reply) (ws : List SeatView)
       → ((i : ℕ) (w : SeatView) → slice_get ws i ≡ Some w → (more : List Entry) × (histories (leaf + i) ≡ seen_of w ++ more))
-      → Asked q fleet table leaf vs rs ws → AreOver q (λ l n. rows_before (bases_in fleet table l) (histories l) n) leaf rs
+      → Asked q fleet table leaf vs rs ws → AreOver q (λ l n. rows_seen_before (bases_in fleet table l) (histories l) n) leaf rs
   over_from histories leaf [] [] [] each h = tt
   over_from histories leaf (v ∷ vs) (r ∷ rs) (w ∷ ws) each h =
       let here = each 0 w refl in
       let seen : histories leaf ≡ seen_of w ++ here.0 = subst (λ (n : ℕ). histories n ≡ seen_of w ++ here.0) (same_leaf leaf) here.1 in
       let base : bases_in fleet table leaf ≡ base_seen h.0.shared = ap (λ (t : Option Shared). option_and_then base_seen t) h.0.stands in (
-        over_before (base_seen h.0.shared) q leaf (λ l n. rows_before (bases_in fleet table l) (histories l) n) v r w (histories leaf) here.0 seen
-            (λ n. ap (λ (b : Option TableBase). rows_before b (histories leaf) n) base) h.0.answered,
+        over_before (base_seen h.0.shared) q leaf (λ l n. rows_seen_before (bases_in fleet table l) (histories l) n) v r w (histories leaf) here.0 seen
+            (λ n. ap (λ (b : Option TableBase). rows_seen_before b (histories leaf) n) base) h.0.answered,
         over_from histories (suc leaf) vs rs ws (go_on_behind leaf w ws histories each) h.1,
       )
   over_from histories leaf [] [] (w ∷ ws) each h = absurd h
@@ -126,8 +126,8 @@ module _ (q : Query) (fleet : List (List Shared)) (table : ℕ) where
   over_from histories leaf (v ∷ vs) (r ∷ rs) [] each h = absurd h
 
   -- each reply is over the rows of its leaf before its entry
-  pub all_over : (histories : ℕ → List Entry) (vs : List SeatView) (rs : List Reply) (ws : List SeatView) → GoOn ws histories → Asked q fleet table 0 vs rs ws
-      → AreOver q (λ l n. rows_before (bases_in fleet table l) (histories l) n) 0 rs
+  pub all_over : (histories : ℕ → List Entry) (vs : List SeatView) (rs : List Reply) (ws : List SeatView) → SeatsGoOn ws histories → Asked q fleet table 0 vs rs ws
+      → AreOver q (λ l n. rows_seen_before (bases_in fleet table l) (histories l) n) 0 rs
   all_over histories vs rs ws go h =
       over_from histories 0 vs rs ws (λ i w is. let here = go i w is in (here.0, subst (λ (n : ℕ). histories n ≡ seen_of w ++ here.0) (from_zero i) here.1)) h
     where

@@ -3,7 +3,7 @@ use Rattle.std.proofs.Common.{◌≡◌, ℕ, suc, ◌+◌, ◌*◌, ◌^◌, �
 use Rattle.std.specs.List.{AllByRecursion}
 use Rattle.std.proofs.lemmas.List.{append-nil, append_assoc}
 use Rattle.std.proofs.lemmas.List.Concat.{flat_map-append}
-use Rattle.leaf_model.specs.declared.rows.Row.{Row}
+use Rattle.row_model.specs.declared.rows.Row.{Row}
 use Rattle.leaf_model.specs.declared.queries.Query.{Query}
 use Rattle.leaf_model.specs.Groups.{groups}
 use Rattle.leaf_model.specs.declared.groups.Group.{Group}

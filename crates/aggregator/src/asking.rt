@@ -33,7 +33,8 @@ pub fn ask_each<'q, R: Threads + Wait + Sync, G: Gate>(
     replies: &mut [Reply],
 )
     requires { MayAsk question.now.fleet.now question.now.table first seats.old replies.old }
-    ensures { Asked question.now.query.now question.now.fleet.now question.now.table first seats.old replies.new seats.new }
+    ensures { Asked question.now.query.now question.now.fleet.now question.now.table first seats.old replies.new
+        seats.new }
 {
     if seats.len() < 2 {
         ask_first(rt, gate, question, first, seats, replies);
@@ -61,8 +62,10 @@ fn ask_both<'q, R: Threads + Wait + Sync, G: Gate>(
     requires some { (0 < length low.old) × (0 < length high.old) }
     requires low { MayAsk question.now.fleet.now question.now.table first low.old front.old }
     requires high { MayAsk question.now.fleet.now question.now.table (first + length low.old) high.old back.old }
-    ensures low { Asked question.now.query.now question.now.fleet.now question.now.table first low.old front.new low.new }
-    ensures high { Asked question.now.query.now question.now.fleet.now question.now.table (first + length low.old) high.old back.new high.new }
+    ensures low { Asked question.now.query.now question.now.fleet.now question.now.table first low.old front.new
+        low.new }
+    ensures high { Asked question.now.query.now question.now.fleet.now question.now.table (first + length low.old)
+        high.old back.new high.new }
 {
     let next = first + low.len() as u32;
     if is_part(question, low.len(), high.len())
@@ -73,12 +76,16 @@ fn ask_both<'q, R: Threads + Wait + Sync, G: Gate>(
         return;
     }
     let mut one = ||
-        requires { IsSync R.row × IsSync G.row × (0 < length low.now) × MayAsk question.now.fleet.now question.now.table first low.now front.now }
-        ensures { Asked question.entry.now.query.now question.entry.now.fleet.now question.entry.now.table first low.entry.now front.exit.now low.exit.now }
+        requires { IsSync R.row × IsSync G.row × (0 < length low.now)
+            × MayAsk question.now.fleet.now question.now.table first low.now front.now }
+        ensures { Asked question.entry.now.query.now question.entry.now.fleet.now question.entry.now.table first
+            low.entry.now front.exit.now low.exit.now }
     { ask_each(rt, gate, question, first, low, front) };
     let mut other = ||
-        requires { IsSync R.row × IsSync G.row × (0 < length high.now) × MayAsk question.now.fleet.now question.now.table next high.now back.now }
-        ensures { Asked question.entry.now.query.now question.entry.now.fleet.now question.entry.now.table next high.entry.now back.exit.now high.exit.now }
+        requires { IsSync R.row × IsSync G.row × (0 < length high.now)
+            × MayAsk question.now.fleet.now question.now.table next high.now back.now }
+        ensures { Asked question.entry.now.query.now question.entry.now.fleet.now question.entry.now.table next
+            high.entry.now back.exit.now high.exit.now }
     { ask_each(rt, gate, question, next, high, back) };
     join_mut(rt, &mut one, &mut other);
 }
@@ -105,7 +112,8 @@ fn ask_first<'q, R: Wait + Threads + Sync, G: Gate>(
 )
     requires may { MayAsk question.now.fleet.now question.now.table first seats.old replies.old }
     requires one { length seats.old < 2 }
-    ensures { Asked question.now.query.now question.now.fleet.now question.now.table first seats.old replies.new seats.new }
+    ensures { Asked question.now.query.now question.now.fleet.now question.now.table first seats.old replies.new
+        seats.new }
 {
     if !seats.is_empty() {
         replies[0] = ask_leaf(rt, gate, question, first, &mut seats[0]);

@@ -5,7 +5,7 @@ ghost use Rattle.leaf_history.specs.History.{Entry};
 ghost use Rattle.aggregator.specs.Asks.{AreSeatsAt, AllAsked, Asked};
 ghost use Rattle.aggregator.specs.Halves.{MayAsk};
 ghost use Rattle.aggregator.specs.Sorts.{Divides};
-ghost use Rattle.aggregator.specs.Partial.{bases_in, partial, GoOn};
+ghost use Rattle.aggregator.specs.Partial.{bases_in, partial, SeatsGoOn};
 
 use crate::asking::{Question, ask_each};
 use crate::fanned::Fanned;
@@ -17,8 +17,8 @@ use std::alloc::{AllocError, Global};
 use std::sync::Wait;
 use std::thread::Threads;
 
-/// Asks the table with this index at each leaf, by the seat there, in threads if these can be started. Err is want of
-/// memory: either no leaf was asked, or all were asked and their entries stay.
+/// Asks the table with this index at each leaf, by the seat there, in threads if these can be started. Err if memory
+/// runs out: either no leaf was asked, or all were and their entries stay.
 pub fn ask_all<R: Threads + Wait + Sync, G: Gate>(
     rt: &R,
     alloc: Global,
@@ -30,12 +30,14 @@ pub fn ask_all<R: Threads + Wait + Sync, G: Gate>(
 ) -> Result<Fanned, AllocError>
     requires seats { AreSeatsAt fleet.now table seats.old }
     // Either no leaf was asked, or all were, and each leaf is in the list of its reply.
-    ensures asked { (IsErr result × (seats.new ≡ seats.old)) ⊎ AllAsked query.now fleet.now table seats.old seats.new result }
+    ensures asked { (IsErr result × (seats.new ≡ seats.old))
+        ⊎ AllAsked query.now fleet.now table seats.old seats.new result }
     // Each leaf of the fleet is in exactly one list, and each list ascends.
     ensures divides { IfOk result (Divides (length fleet.now)) }
     // The groups are those of the rows of exactly the named leaves, each as before its entry, however the histories go
     // on.
-    ensures groups { (histories : ℕ → List Entry) → GoOn seats.new histories → IfOk result (λ f. f.groups ≡ groups query.now (partial (bases_in fleet.now table) histories f.named)) }
+    ensures groups { (histories : ℕ → List Entry) → SeatsGoOn seats.new histories
+        → IfOk result (λ f. f.groups ≡ groups query.now (partial (bases_in fleet.now table) histories f.named)) }
 {
     let mut replies = unasked(alloc, seats.len())?;
     ask_by_copy(rt, alloc, fleet, table, seats, query, gate, &mut replies);

@@ -1,7 +1,7 @@
 // Sorts the leaves by their replies, in the order of the leaves, and merges the groups.
 ghost use Rattle.std.specs.Prelude.{◌≡◌, ◌+◌, ◌*◌, ◌^◌, ◌<◌, ◌≤◌, ◌++◌, ◌∷◌, [], ℕ, List, length, IfOk, OnOk};
 ghost use Rattle.std.specs.List.{AllByRecursion};
-ghost use Rattle.leaf_model.specs.declared.rows.Row.{Row};
+ghost use Rattle.row_model.specs.declared.rows.Row.{Row};
 ghost use Rattle.leaf_model.specs.declared.queries.Query.{Query};
 ghost use Rattle.leaf_model.specs.Groups.{groups};
 ghost use Rattle.group_table.specs.Joined.{IsWithin};
@@ -40,7 +40,8 @@ impl Fanned {
         requires within { AllByRecursion (IsWithin (leaf * 2 ^ 40)) self.old.groups }
         ensures puts { OnOk result (PutsOne leaf reply self.old self.new) }
         ensures within { OnOk result (AllByRecursion (IsWithin (leaf * 2 ^ 40 + 2 ^ 40)) self.new.groups) }
-        ensures over { (q : Query) (xs ys : List Row) → self.old.groups ≡ groups q xs → IsOver q ys reply → OnOk result (self.new.groups ≡ groups q (xs ++ ys)) }
+        ensures over { (q : Query) (xs ys : List Row) → self.old.groups ≡ groups q xs → IsOver q ys reply
+            → OnOk result (self.new.groups ≡ groups q (xs ++ ys)) }
     {
         match reply {
             Reply::Groups { number, groups } => self.put_named(
@@ -63,7 +64,8 @@ impl Fanned {
         ensures named { OnOk result (self.new.named ≡ self.old.named ++ named ∷ []) }
         ensures others { OnOk result (SameRefusals self.old self.new) }
         ensures within { OnOk result (AllByRecursion (IsWithin (named.leaf * 2 ^ 40 + 2 ^ 40)) self.new.groups) }
-        ensures over { (q : Query) (xs ys : List Row) → self.old.groups ≡ groups q xs → theirs ≡ groups q ys → OnOk result (self.new.groups ≡ groups q (xs ++ ys)) }
+        ensures over { (q : Query) (xs ys : List Row) → self.old.groups ≡ groups q xs → theirs ≡ groups q ys
+            → OnOk result (self.new.groups ≡ groups q (xs ++ ys)) }
     {
         let mine = replace(&mut self.groups, Groups::of(Vec::new(alloc)));
         self.groups = merge_few(alloc, named.leaf, mine, theirs)?;
@@ -77,7 +79,8 @@ fn merge_few(alloc: Global, leaves: u32, mine: Groups, theirs: Groups) -> Result
     requires mine { AllByRecursion (IsWithin (leaves * 2 ^ 40)) mine }
     requires theirs { AllByRecursion (IsWithin (2 ^ 40)) theirs }
     ensures within { IfOk result (λ gs. AllByRecursion (IsWithin (leaves * 2 ^ 40 + 2 ^ 40)) gs) }
-    ensures both { (q : Query) (xs ys : List Row) → mine ≡ groups q xs → theirs ≡ groups q ys → IfOk result (λ gs. gs ≡ groups q (xs ++ ys)) }
+    ensures both { (q : Query) (xs ys : List Row) → mine ≡ groups q xs → theirs ≡ groups q ys
+        → IfOk result (λ gs. gs ≡ groups q (xs ++ ys)) }
 {
     merge(alloc, mine, theirs)
 }
@@ -89,7 +92,8 @@ pub fn sort_all(alloc: Global, replies: Vec<Reply>) -> Result<Fanned, AllocError
     requires answers { AllByRecursion IsAnswer replies.items }
     ensures sorts { IfOk result (Sorts replies.items) }
     ensures divides { IfOk result (Divides (length replies.items)) }
-    ensures over { (q : Query) (rows : ℕ → ℕ → List Row) → AreOver q rows 0 replies.items → IfOk result (λ f. f.groups ≡ groups q (rows_of_all rows f.named)) }
+    ensures over { (q : Query) (rows : ℕ → ℕ → List Row) → AreOver q rows 0 replies.items
+        → IfOk result (λ f. f.groups ≡ groups q (rows_of_all rows f.named)) }
 {
     let mut fanned = Fanned::new(alloc);
     let mut leaf: u32 = 0;

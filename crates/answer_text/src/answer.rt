@@ -8,9 +8,8 @@ use crate::print::line;
 use leaf_model::{Group, Groups, Query, Text};
 use std::alloc::{AllocError, Global};
 
-/// The lines that answer a query, one for each of its groups, at most `limit` of them. They are in the order of the
-/// keys, ascending; or, if `order` is the place of an aggregate, by that, the greatest first, and then by key. A place
-/// without an aggregate, or of an AVG, orders nothing.
+/// The lines that answer a query: one for each of its groups, at most `limit`. Groups ascend by key. If `order` is the
+/// place of an aggregate other than an AVG, they descend by it first.
 pub fn lines(alloc: Global, query: &Query, groups: &Groups) -> Result<Lines, AllocError>
     ensures { IfOk result (λ lines. lines ≡ answer_lines query.now groups.now) }
 {

@@ -12,7 +12,7 @@ pub struct Lines {
 
 impl Model for Lines {
     ghost use Rattle.std.specs.Prelude.{List};
-    ghost use Rattle.leaf_model.specs.declared.text.Text.{Text};
+    ghost use Rattle.row_model.specs.declared.text.Text.{Text};
 
     ghost Value = { List Text };
 

@@ -49,7 +49,8 @@ fn refs_of(alloc: Global, groups: &[Group]) -> Result<Vec<&Group>, AllocError>
 
 /// A stable sort. It is one pass if the groups stand in order.
 fn sort(query: &Query, groups: &mut Vec<&Group>) -> Result<(), AllocError>
-    ensures { OnOk result (map (λ g. g.now) groups.new.items ≡ in_order (group_cmp query.now) (map (λ g. g.now) groups.old.items)) }
+    ensures { OnOk result (map (λ g. g.now) groups.new.items
+        ≡ in_order (group_cmp query.now) (map (λ g. g.now) groups.old.items)) }
 {
     groups.sort_by(|a, b| compare_groups(query, a, b))
 }

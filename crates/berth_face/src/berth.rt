@@ -82,11 +82,14 @@ pub trait Berth: Send {
 
     /// A crash now leaves the region that reads give. If the machine goes down, it may leave any closed region instead.
     /// Nothing of a closed region is used.
-    ghost keeps_region: { (b : Self) (p : Pair) → IsTrue (meaning b).tells → (meaning b).leaves (meaning b).clock p → (p.region ≡ (meaning b).held.region) ⊎ IsClosed p.region };
+    ghost keeps_region: { (b : Self) (p : Pair) → IsTrue (meaning b).tells → (meaning b).leaves (meaning b).clock p
+        → (p.region ≡ (meaning b).held.region) ⊎ IsClosed p.region };
 
-    /// What stands now is the region that reads give.
-    ghost region_now: { (b : Self) (region : List ℕ) → IsTrue (meaning b).tells → (meaning b).regions (meaning b).clock region ↔ (region ≡ (meaning b).held.region) };
+    /// The region now is what reads give.
+    ghost region_now: { (b : Self) (region : List ℕ) → IsTrue (meaning b).tells
+        → (meaning b).regions (meaning b).clock region ↔ (region ≡ (meaning b).held.region) };
 
     /// Contents are shorter than 2^63 bytes.
-    ghost short: { (b : Self) → IsTrue (meaning b).tells → (length (meaning b).held.region < 2 ^ 63) × (length (meaning b).held.disk < 2 ^ 63) };
+    ghost short: { (b : Self) → IsTrue (meaning b).tells → (length (meaning b).held.region < 2 ^ 63)
+        × (length (meaning b).held.disk < 2 ^ 63) };
 }

@@ -2,8 +2,8 @@
 
 /// Lets a test hold a command before it is played, or a caller inside a table's turn. It changes no answer.
 pub trait Gate: Sync {
-    /// Called before each command. In a burst it is told the lane's number and the command's place in the lane, both
-    /// from 0. Outside bursts it is told lane 0 and the command's place among those outside bursts.
+    /// Waits, or not, before a command. In a burst it gets the lane's number and the command's place in the lane, both
+    /// from 0; outside bursts 0 and the command's place among those outside bursts.
     fn pass(&self, lane: u32, step: u32);
 
     /// Called inside a turn of this table of this leaf.

@@ -6,14 +6,14 @@ use Rattle.berth_face.specs.Berth.{Meaning, Torn, Passes, Stays, Ticks, RegionWr
 use Rattle.berth_face.proofs.Moments as moments
 use Rattle.berth_files.specs.declared.leaf_file.LeafFile.{LeafFile}
 use Rattle.berth_files.specs.declared.leaf_file.LeafFile.TheVariants.{Region, Disk}
-use Rattle.berth_files.specs.Files.{FileWritten, GoesOn, counting}
+use Rattle.berth_files.specs.Files.{FileWritten, FilesGoOn, counting}
 
 -- ---- no call, and two calls
 
-pub time_none : (m : Meaning) → GoesOn m m
+pub time_none : (m : Meaning) → FilesGoOn m m
 time_none m = record { tells = refl; later = omega arith; past = λ t p le. (λ x. x, λ x. x); past_regions = λ t r le. (λ x. x, λ x. x) }
 
-pub time_on : (a b c : Meaning) → GoesOn a b → GoesOn b c → GoesOn a c
+pub time_on : (a b c : Meaning) → FilesGoOn a b → FilesGoOn b c → FilesGoOn a c
 time_on a b c ab bc = record {
   tells = subst (λ x. x ≡ a.tells) (sym bc.tells) ab.tells;
   later = omega (arith, ab.later, bc.later);
@@ -27,7 +27,7 @@ time_on a b c ab bc = record {
 pub stays_none : (m : Meaning) → Stays m m
 stays_none m = moments.stays_none m
 
-pub stays_on : (a b c : Meaning) → GoesOn a b → Stays a b → GoesOn b c → Stays b c → Stays a c
+pub stays_on : (a b c : Meaning) → FilesGoOn a b → Stays a b → FilesGoOn b c → Stays b c → Stays a c
 stays_on a b c ga ab gb bc = moments.stays_over a b c ga.later gb.past gb.past_regions ab bc
 
 -- ---- a write that is not made
@@ -71,7 +71,7 @@ module _ (old new : Meaning) (rf df dr rf' df' dr' : ℕ) where
   abbrev after : Meaning
   after = counting new rf' df' dr'
 
-  pub passes_counting : GoesOn old new → rf ≤ rf' → df ≤ df' → Passes before after
+  pub passes_counting : FilesGoOn old new → rf ≤ rf' → df ≤ df' → Passes before after
   passes_counting time region disk = record { tells = time.tells; later = time.later; past = time.past; past_regions = time.past_regions; region_faults = region; disk_faults = disk }
 
   pub stays_counting : Stays old new → Stays before after

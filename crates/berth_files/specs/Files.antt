@@ -5,15 +5,15 @@ use Rattle.berth_files.specs.declared.leaf_file.LeafFile.{LeafFile}
 use Rattle.berth_files.specs.declared.leaf_file.LeafFile.TheVariants.{Region, Disk}
 
 -- what a read of this file gives
-abbrev pub content : LeafFile → Meaning → List ℕ
-content Region m = m.held.region
-content Disk m = m.held.disk
+abbrev pub file_content : LeafFile → Meaning → List ℕ
+file_content Region m = m.held.region
+file_content Disk m = m.held.disk
 
 -- the bytes from `at` on, any number of them, but at least one if there is one and room for it
-pub record GivesSome (at : ℕ) (content buf : List ℕ) (n : ℕ) : Type 0 where
-  pub within : n ≤ length content - at
-  pub some : 0 < length buf → 0 < length content - at → 0 < n
-  pub bytes : take n buf ≡ take n (drop at content)
+pub record GivesSome (at : ℕ) (file_content buf : List ℕ) (n : ℕ) : Type 0 where
+  pub within : n ≤ length file_content - at
+  pub some : 0 < length buf → 0 < length file_content - at → 0 < n
+  pub bytes : take n buf ≡ take n (drop at file_content)
 
 -- what a write into this file does, as the clauses of a berth say it
 abbrev pub FileWritten : {T E : Type 0} → LeafFile → ℕ → List ℕ → Result T E → Meaning → Meaning → Type 0
@@ -21,7 +21,7 @@ FileWritten Region at bytes result old new = RegionWritten at bytes result old n
 FileWritten Disk at bytes result old new = DiskWritten at bytes result old new
 
 -- time goes on, and past moments stay; nothing is said of the counts
-pub record GoesOn (old new : Meaning) : Type 0 where
+pub record FilesGoOn (old new : Meaning) : Type 0 where
   pub tells : new.tells ≡ old.tells
   pub later : old.clock ≤ new.clock
   pub past : (t : ℕ) (p : Pair) → t ≤ old.clock → new.leaves t p ↔ old.leaves t p

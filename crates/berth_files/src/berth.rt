@@ -37,6 +37,13 @@ impl<F: FileCalls + Send + Drop> FileBerth<F> {
             disk_reads: 0,
         }
     }
+
+    /// The files of this berth.
+    pub fn files(&self) -> &F
+        ensures { MeansFiles (F.holds result.now) (⟦<FileBerth<F> as Berth>⟧.meaning self.now) }
+    {
+        &self.files
+    }
 }
 
 impl FileBerth<FolderFiles> {

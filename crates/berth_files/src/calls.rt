@@ -2,7 +2,7 @@
 ghost use Rattle.std.specs.Prelude.{◌≡◌, ◌⊎◌, ◌↔◌, ◌+◌, ◌^◌, ◌<◌, ℕ, List, [], length, IfOk, IsTrue};
 ghost use Rattle.std.specs.Io.{ReadsAtMost};
 ghost use Rattle.berth_face.specs.Berth.{Pair, Meaning, IsClosed, Stays, RegionCut, DiskSynced};
-ghost use Rattle.berth_files.specs.Files.{GivesSome, FileWritten, GoesOn, content};
+ghost use Rattle.berth_files.specs.Files.{GivesSome, FileWritten, FilesGoOn, file_content};
 
 use crate::leaf_file::LeafFile;
 use berth_face::Failed;
@@ -20,16 +20,17 @@ use berth_face::Failed;
 /// The device may then have that flag open. Nothing was written to the disk in between, because the leaf did not come
 /// up.
 pub trait FileCalls {
-    /// What the files hold, and what a crash at each moment may leave of them. Its counts of faults and of reads claim
-    /// nothing.
+    /// What the files hold, and what a crash at each moment may leave of them. It claims nothing of its counts of
+    /// faults and of reads.
     ghost holds: { Self → Meaning };
 
     /// The number of bytes of the file; 0 if it is not there.
     fn len(&mut self, file: LeafFile) -> Result<u64, Failed>
         ensures bound { IfOk result (λ n. n < 2 ^ 63) }
-        ensures told { IsTrue (holds self.old).tells → IfOk result (λ n. n ≡ length (content file (holds self.old)))
+        ensures told { IsTrue (holds self.old).tells
+            → IfOk result (λ n. n ≡ length (file_content file (holds self.old)))
             × Stays (holds self.old) (holds self.new) }
-        ensures time { GoesOn (holds self.old) (holds self.new) };
+        ensures time { FilesGoOn (holds self.old) (holds self.new) };
 
     /// Reads bytes from `at` on into the buffer, and tells how many. They may be fewer than there are, but at least one
     /// if there is one and room for it.
@@ -37,9 +38,9 @@ pub trait FileCalls {
         requires { at + length buf.old < 2 ^ 63 }
         ensures bound { ReadsAtMost result buf.new }
         ensures told { IsTrue (holds self.old).tells
-            → IfOk result (λ n. GivesSome at (content file (holds self.old)) buf.new n)
+            → IfOk result (λ n. GivesSome at (file_content file (holds self.old)) buf.new n)
             × Stays (holds self.old) (holds self.new) }
-        ensures time { GoesOn (holds self.old) (holds self.new) };
+        ensures time { FilesGoOn (holds self.old) (holds self.new) };
 
     /// Writes all of a piece, which is not empty, and fills a gap before it with zeros. It makes a file that is not
     /// there.
@@ -48,7 +49,7 @@ pub trait FileCalls {
         requires near { at + length bytes.now < 2 ^ 63 }
         ensures told { IsTrue (holds self.old).tells
             → FileWritten file at bytes.now result (holds self.old) (holds self.new) }
-        ensures time { GoesOn (holds self.old) (holds self.new) };
+        ensures time { FilesGoOn (holds self.old) (holds self.new) };
 
     /// Lengthens the file with zeros, as a write of no bytes at `len` does. A file that is at least as long stays as it
     /// is. It makes a file that is not there.
@@ -56,29 +57,32 @@ pub trait FileCalls {
         requires { len < 2 ^ 63 }
         ensures told { IsTrue (holds self.old).tells
             → FileWritten file len [] result (holds self.old) (holds self.new) }
-        ensures time { GoesOn (holds self.old) (holds self.new) };
+        ensures time { FilesGoOn (holds self.old) (holds self.new) };
 
     /// Cuts the region's file to `len` bytes. One that is no longer stays as it is.
     fn shorten_region(&mut self, len: u64) -> Result<(), Failed>
         ensures told { IsTrue (holds self.old).tells → RegionCut len result (holds self.old) (holds self.new) }
-        ensures time { GoesOn (holds self.old) (holds self.new) };
+        ensures time { FilesGoOn (holds self.old) (holds self.new) };
 
     /// Syncs the disk's file and its entry in the folder to the device. After it, a crash leaves the disk that a read
     /// gives. It does not sync the folder's own entry in its parent: whoever made the folder does that.
     fn sync_disk(&mut self) -> Result<(), Failed>
         ensures told { IsTrue (holds self.old).tells → DiskSynced result (holds self.old) (holds self.new) }
-        ensures time { GoesOn (holds self.old) (holds self.new) };
+        ensures time { FilesGoOn (holds self.old) (holds self.new) };
 
     /// A crash now may leave what reads give.
     ghost stands: { (f : Self) → IsTrue (holds f).tells → (holds f).leaves (holds f).clock (holds f).held };
 
     /// A crash now leaves the region that reads give. If the machine goes down, it may leave any closed region instead:
     /// nothing of a region in memory, and on a device any bytes after a closed flag.
-    ghost keeps_region: { (f : Self) (p : Pair) → IsTrue (holds f).tells → (holds f).leaves (holds f).clock p → (p.region ≡ (holds f).held.region) ⊎ IsClosed p.region };
+    ghost keeps_region: { (f : Self) (p : Pair) → IsTrue (holds f).tells → (holds f).leaves (holds f).clock p
+        → (p.region ≡ (holds f).held.region) ⊎ IsClosed p.region };
 
-    /// What stands now is the region that reads give.
-    ghost region_now: { (f : Self) (region : List ℕ) → IsTrue (holds f).tells → (holds f).regions (holds f).clock region ↔ (region ≡ (holds f).held.region) };
+    /// The region now is what reads give.
+    ghost region_now: { (f : Self) (region : List ℕ) → IsTrue (holds f).tells → (holds f).regions (holds f).clock region
+        ↔ (region ≡ (holds f).held.region) };
 
     /// A file is shorter than 2^63 bytes.
-    ghost short: { (f : Self) → IsTrue (holds f).tells → (length (holds f).held.region < 2 ^ 63) × (length (holds f).held.disk < 2 ^ 63) };
+    ghost short: { (f : Self) → IsTrue (holds f).tells → (length (holds f).held.region < 2 ^ 63)
+        × (length (holds f).held.disk < 2 ^ 63) };
 }

@@ -11,7 +11,7 @@ use std::io::ErrorKind;
 use std::mem;
 use std::os::unix::fs::FileExt;
 
-/// How many bytes are written again at once.
+/// The number of bytes that are written again at once.
 const PIECE: usize = 4096;
 
 /// A file of a folder, which is made at its first write. One that is not there holds nothing.
@@ -22,7 +22,7 @@ pub(crate) struct Kept {
     path: String,
     access: Access,
     file: Option<File>,
-    /// Whether a call was told that the file is not there, and no later call failed.
+    /// Whether a call found no file, and no later call failed.
     is_missing: bool,
     /// Whether the folder's own entry of the file was synced since the file was opened.
     is_entered: bool,
@@ -155,10 +155,9 @@ impl Kept {
         self.file.as_mut().ok_or(Failed)
     }
 
-    /// Opens the file. If it is to be written, it is locked and synced. None is a file that is not there.
-    ///
-    /// A file that was told as missing has no bytes, unless another program has made it since. The sync gives the
-    /// device what a program wrote that ended before its own sync.
+    /// Opens the file; to write, it also locks and syncs it. None if there is no file. A file that was found missing
+    /// has no bytes, unless another program has made it since. The sync gives the device what an earlier program wrote
+    /// before it ended without a sync.
     fn open(&mut self, create: bool) -> Result<Option<File>, Failed> {
         let was_missing = mem::replace(&mut self.is_missing, false);
         if matches!(self.access, Access::Look) {

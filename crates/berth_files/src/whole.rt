@@ -2,7 +2,7 @@
 ghost use Rattle.std.specs.Prelude.{◌≡◌, ◌↔◌, ◌+◌, ◌-◌, ◌^◌, ◌<◌, ◌≤◌, length, min, take, drop, IfOk, IsErr, IsTrue};
 ghost use Rattle.std.specs.Io.{ReadsAtMost};
 ghost use Rattle.berth_face.specs.Berth.{Gives, Stays};
-ghost use Rattle.berth_files.specs.Files.{FileWritten, GoesOn, content};
+ghost use Rattle.berth_files.specs.Files.{FileWritten, FilesGoOn, file_content};
 
 use crate::calls::FileCalls;
 use crate::leaf_file::LeafFile;
@@ -20,9 +20,9 @@ pub(crate) fn read_whole<F: FileCalls>(
     buf: &mut [u8],
 ) -> Result<usize, Failed>
     ensures bound { ReadsAtMost result buf.new }
-    ensures told { IsTrue (F.holds files.old).tells → Gives at (content file (F.holds files.old)) result buf.new
+    ensures told { IsTrue (F.holds files.old).tells → Gives at (file_content file (F.holds files.old)) result buf.new
         × Stays (F.holds files.old) (F.holds files.new) }
-    ensures time { GoesOn (F.holds files.old) (F.holds files.new) }
+    ensures time { FilesGoOn (F.holds files.old) (F.holds files.new) }
 {
     if at >= LIMIT {
         return Ok(0);
@@ -48,9 +48,9 @@ fn fill<F: FileCalls>(
 ) -> Result<usize, Failed>
     requires { at + length room.old < 2 ^ 63 }
     ensures bound { ReadsAtMost result room.new }
-    ensures told { IsTrue (F.holds files.old).tells → Gives at (content file (F.holds files.old)) result room.new
+    ensures told { IsTrue (F.holds files.old).tells → Gives at (file_content file (F.holds files.old)) result room.new
         × Stays (F.holds files.old) (F.holds files.new) }
-    ensures time { GoesOn (F.holds files.old) (F.holds files.new) }
+    ensures time { FilesGoOn (F.holds files.old) (F.holds files.new) }
 {
     let mut done = 0;
     for _ in 0..room.len() {
@@ -78,11 +78,14 @@ fn read_on<F: FileCalls>(
     requires within { done ≤ length room.old }
     ensures bound { IfOk result (λ n. done + n ≤ length room.new) }
     ensures length { length room.new ≡ length room.old }
-    ensures told { IsTrue (F.holds files.old).tells → take done room.old ≡ take done (drop at (content file (F.holds files.old))) → done ≤ length (content file (F.holds files.old)) - at
-        → IfOk result (λ n. (done + n ≤ length (content file (F.holds files.old)) - at) × (done < length room.old → done < length (content file (F.holds files.old)) - at → 0 < n)
-        × (take (done + n) room.new ≡ take (done + n) (drop at (content file (F.holds files.old))))) }
+    ensures told { IsTrue (F.holds files.old).tells
+        → take done room.old ≡ take done (drop at (file_content file (F.holds files.old)))
+        → done ≤ length (file_content file (F.holds files.old)) - at
+        → IfOk result (λ n. (done + n ≤ length (file_content file (F.holds files.old)) - at)
+        × (done < length room.old → done < length (file_content file (F.holds files.old)) - at → 0 < n)
+        × (take (done + n) room.new ≡ take (done + n) (drop at (file_content file (F.holds files.old))))) }
     ensures stays { IsTrue (F.holds files.old).tells → Stays (F.holds files.old) (F.holds files.new) }
-    ensures time { GoesOn (F.holds files.old) (F.holds files.new) }
+    ensures time { FilesGoOn (F.holds files.old) (F.holds files.new) }
 {
     files.read_some(file, at + done as u64, &mut room[done..])
 }
@@ -98,7 +101,7 @@ pub(crate) fn write_near<F: FileCalls>(
     ensures too_far { 2 ^ 63 ≤ at + length bytes.now → IsErr result }
     ensures told { IsTrue (F.holds files.old).tells
         → FileWritten file at bytes.now result (F.holds files.old) (F.holds files.new) }
-    ensures time { GoesOn (F.holds files.old) (F.holds files.new) }
+    ensures time { FilesGoOn (F.holds files.old) (F.holds files.new) }
 {
     if is_far(at, bytes.len()) {
         return Err(Failed);
@@ -117,7 +120,7 @@ fn write_here<F: FileCalls>(
     requires { at + length bytes.now < 2 ^ 63 }
     ensures told { IsTrue (F.holds files.old).tells
         → FileWritten file at bytes.now result (F.holds files.old) (F.holds files.new) }
-    ensures time { GoesOn (F.holds files.old) (F.holds files.new) }
+    ensures time { FilesGoOn (F.holds files.old) (F.holds files.new) }
 {
     if bytes.is_empty() {
         // The system takes a piece of no bytes for no write at all.

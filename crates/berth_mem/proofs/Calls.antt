@@ -3,15 +3,15 @@ use Rattle.std.proofs.Common.{◌≡◌, inl, inr, ⊎_elim, ℕ, suc, ◌+◌, 
 use Rattle.berth_face.specs.Berth.{Pair, Meaning, Torn, Cut, Passes, RegionWritten, RegionCut, DiskWritten, DiskSynced, written}
 use Rattle.berth_mem.specs.declared.record.Wrote.{Wrote}
 use Rattle.berth_mem.specs.declared.record.CutOff.{CutOff}
-use Rattle.berth_mem.specs.declared.record.Call.{Call}
-use Rattle.berth_mem.specs.declared.record.Call.TheVariants.{WroteRegion, CutRegion, WroteDisk, SyncedDisk}
+use Rattle.berth_mem.specs.declared.record.BerthCall.{BerthCall}
+use Rattle.berth_mem.specs.declared.record.BerthCall.TheVariants.{WroteRegion, CutRegion, WroteDisk, SyncedDisk}
 use Rattle.berth_mem.specs.Record.{Describes, undone, region_undone, disk_undone, disk_before, disks_after, resting, during, made_of, moments, leaves_at, meaning_of}
 use Rattle.berth_mem.specs.Laws.{disks_at, at_end, disk_stands, lost_closed}
 use Rattle.berth_mem.proofs.Contents.{torn_written, undone_written}
 use Rattle.berth_mem.proofs.Moments.{Pred, moments_push, disk_push, past_push, inside_push, after_push, past_regions_push, making_push}
 
 -- the disks that a crash may leave now
-abbrev pub disks_now : List Call → List ℕ → Pred
+abbrev pub disks_now : List BerthCall → List ℕ → Pred
 disks_now calls disk = disks_at calls disk (λ d. d ≡ disk_before calls disk)
 
 to : {A B : Type 0} → A ≡ B → A → B
@@ -20,7 +20,7 @@ to e a = subst (λ (X : Type 0). X) e a
 from : {A B : Type 0} → A ≡ B → B → A
 from e b = subst (λ (X : Type 0). X) (sym e) b
 
-module _ (region disk region' disk' : List ℕ) (calls : List Call) (c : Call) (rf df dr : ℕ) (region_is : region_undone c region' ≡ region) (disk_is : disk_undone c disk' ≡ disk) where
+module _ (region disk region' disk' : List ℕ) (calls : List BerthCall) (c : BerthCall) (rf df dr : ℕ) (region_is : region_undone c region' ≡ region) (disk_is : disk_undone c disk' ≡ disk) where
   abbrev old : Meaning
   old = meaning_of region disk calls rf df dr
 
@@ -65,7 +65,7 @@ module _ (region disk region' disk' : List ℕ) (calls : List Call) (c : Call) (
   pair_now d left = from (at_end calls region disk (λ e. e ≡ disk_before calls disk) (record { region = region; disk = d })) (inl refl, left)
 
 -- a pair of now, by its parts
-pub now_back : (region disk : List ℕ) (calls : List Call) (rf df dr : ℕ) (q : Pair) → resting region (disks_now calls disk) q → (meaning_of region disk calls rf df dr).leaves (moments calls) q
+pub now_back : (region disk : List ℕ) (calls : List BerthCall) (rf df dr : ℕ) (q : Pair) → resting region (disks_now calls disk) q → (meaning_of region disk calls rf df dr).leaves (moments calls) q
 now_back region disk calls rf df dr q rests = from (at_end calls region disk (λ e. e ≡ disk_before calls disk) q) rests
 
 pub undone_is : (w : Wrote) (at : ℕ) (bytes old : List ℕ) → w.at ≡ at → w.was ≡ length old → w.lost.items ≡ take (length bytes) (drop at old) → undone w (written at bytes old) ≡ old
@@ -75,11 +75,11 @@ undone_is w at bytes old at_is was_is lost_is =
     ∙ undone_written at bytes old w.lost.items lost_is
 
 -- the same, where the new contents and the new record are known by equations
-same_meaning : (region disk region' disk' : List ℕ) (calls calls' : List Call) (rf df dr : ℕ) → region' ≡ region → disk' ≡ disk → calls' ≡ calls → meaning_of region disk calls rf df dr ≡ meaning_of region' disk' calls' rf df dr
+same_meaning : (region disk region' disk' : List ℕ) (calls calls' : List BerthCall) (rf df dr : ℕ) → region' ≡ region → disk' ≡ disk → calls' ≡ calls → meaning_of region disk calls rf df dr ≡ meaning_of region' disk' calls' rf df dr
 same_meaning region disk region' disk' calls calls' rf df dr r d c =
-    sym (ap (λ (l : List ℕ). meaning_of l disk' calls' rf df dr) r ∙ ap (λ (l : List ℕ). meaning_of region l calls' rf df dr) d ∙ ap (λ (l : List Call). meaning_of region disk l rf df dr) c)
+    sym (ap (λ (l : List ℕ). meaning_of l disk' calls' rf df dr) r ∙ ap (λ (l : List ℕ). meaning_of region l calls' rf df dr) d ∙ ap (λ (l : List BerthCall). meaning_of region disk l rf df dr) c)
 
-module _ {T E : Type 0} (region disk : List ℕ) (calls : List Call) (rf df dr : ℕ) where
+module _ {T E : Type 0} (region disk : List ℕ) (calls : List BerthCall) (rf df dr : ℕ) where
   pub region_wrote : (v : T) (at : ℕ) (bytes : List ℕ) (w : Wrote) → Describes w at bytes region → at + length bytes < 2 ^ 63
       → Passes (meaning_of region disk calls rf df dr) (meaning_of (written at bytes region) disk (calls ++ WroteRegion w ∷ []) rf df dr) × RegionWritten {E = E} at bytes (Ok v) (meaning_of region disk calls rf df dr) (meaning_of (written at bytes region) disk (calls ++ WroteRegion w ∷ []) rf df dr)
   region_wrote v at bytes w says near =
@@ -185,25 +185,25 @@ module _ {T E : Type 0} (region disk : List ℕ) (calls : List Call) (rf df dr :
         },
       )
 
-  pub wrote_region : (v : T) (at : ℕ) (bytes region' : List ℕ) (calls' : List Call) → region' ≡ written at bytes region → (w : Wrote) × Describes w at bytes region × (calls' ≡ calls ++ WroteRegion w ∷ []) → at + length bytes < 2 ^ 63
+  pub wrote_region : (v : T) (at : ℕ) (bytes region' : List ℕ) (calls' : List BerthCall) → region' ≡ written at bytes region → (w : Wrote) × Describes w at bytes region × (calls' ≡ calls ++ WroteRegion w ∷ []) → at + length bytes < 2 ^ 63
       → Passes (meaning_of region disk calls rf df dr) (meaning_of region' disk calls' rf df dr) × RegionWritten {E = E} at bytes (Ok v) (meaning_of region disk calls rf df dr) (meaning_of region' disk calls' rf df dr)
   wrote_region v at bytes region' calls' region_is made near =
       subst (λ (m : Meaning). Passes (meaning_of region disk calls rf df dr) m × RegionWritten {E = E} at bytes (Ok v) (meaning_of region disk calls rf df dr) m)
       (same_meaning (written at bytes region) disk region' disk (calls ++ WroteRegion made.0 ∷ []) calls' rf df dr region_is refl made.2) (region_wrote v at bytes made.0 made.1 near)
 
-  pub wrote_disk : (v : T) (at : ℕ) (bytes disk' : List ℕ) (calls' : List Call) → disk' ≡ written at bytes disk → (w : Wrote) × Describes w at bytes disk × (calls' ≡ calls ++ WroteDisk w ∷ []) → at + length bytes < 2 ^ 63
+  pub wrote_disk : (v : T) (at : ℕ) (bytes disk' : List ℕ) (calls' : List BerthCall) → disk' ≡ written at bytes disk → (w : Wrote) × Describes w at bytes disk × (calls' ≡ calls ++ WroteDisk w ∷ []) → at + length bytes < 2 ^ 63
       → Passes (meaning_of region disk calls rf df dr) (meaning_of region disk' calls' rf df dr) × DiskWritten {E = E} at bytes (Ok v) (meaning_of region disk calls rf df dr) (meaning_of region disk' calls' rf df dr)
   wrote_disk v at bytes disk' calls' disk_is made near =
       subst (λ (m : Meaning). Passes (meaning_of region disk calls rf df dr) m × DiskWritten {E = E} at bytes (Ok v) (meaning_of region disk calls rf df dr) m)
       (same_meaning region (written at bytes disk) region disk' (calls ++ WroteDisk made.0 ∷ []) calls' rf df dr refl disk_is made.2) (disk_wrote v at bytes made.0 made.1 near)
 
-  pub cut_region : (v : T) (len : ℕ) (region' : List ℕ) (calls' : List Call) → region' ≡ take len region → (w : CutOff) × (w.len ≡ len) × (w.lost.items ≡ drop len region) × (calls' ≡ calls ++ CutRegion w ∷ [])
+  pub cut_region : (v : T) (len : ℕ) (region' : List ℕ) (calls' : List BerthCall) → region' ≡ take len region → (w : CutOff) × (w.len ≡ len) × (w.lost.items ≡ drop len region) × (calls' ≡ calls ++ CutRegion w ∷ [])
       → Passes (meaning_of region disk calls rf df dr) (meaning_of region' disk calls' rf df dr) × RegionCut {E = E} len (Ok v) (meaning_of region disk calls rf df dr) (meaning_of region' disk calls' rf df dr)
   cut_region v len region' calls' region_is made =
       subst (λ (m : Meaning). Passes (meaning_of region disk calls rf df dr) m × RegionCut {E = E} len (Ok v) (meaning_of region disk calls rf df dr) m)
       (same_meaning (take len region) disk region' disk (calls ++ CutRegion made.0 ∷ []) calls' rf df dr region_is refl made.3) (region_cut_off v len made.0 made.1 made.2)
 
-  pub synced_disk : (v : T) (calls' : List Call) → calls' ≡ calls ++ SyncedDisk ∷ []
+  pub synced_disk : (v : T) (calls' : List BerthCall) → calls' ≡ calls ++ SyncedDisk ∷ []
       → Passes (meaning_of region disk calls rf df dr) (meaning_of region disk calls' rf df dr) × DiskSynced {E = E} (Ok v) (meaning_of region disk calls rf df dr) (meaning_of region disk calls' rf df dr)
   synced_disk v calls' made =
       subst (λ (m : Meaning). Passes (meaning_of region disk calls rf df dr) m × DiskSynced {E = E} (Ok v) (meaning_of region disk calls rf df dr) m)

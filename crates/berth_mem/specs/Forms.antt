@@ -14,11 +14,11 @@ use Rattle.berth_mem.specs.Record.{meaning_of}
 abbrev pub source_plan : MemSource → Plan
 source_plan source = source.plan
 
--- which calls of a sink fail by plan; it may fail for want of memory, too
+-- the calls of a sink that the plan fails; the sink may also run out of memory
 abbrev pub sink_plan : MemSink → Plan
 sink_plan sink = sink.plan
 
--- which calls of a berth fail by plan; writes, cuts and syncs may fail for want of memory, too
+-- the calls of a berth that the plan fails; writes, cuts and syncs may also run out of memory
 abbrev pub berth_plan : MemBerth → Plan
 berth_plan berth = berth.plan
 

@@ -15,7 +15,7 @@ use crate::bytes::{copied, is_far};
 use crate::faults::{Fails, Method, Plan, count};
 use crate::pick;
 use crate::puts::{disk_put, region_put, region_shorten, settled};
-use crate::record::Call;
+use crate::record::BerthCall;
 use berth_face::{Berth, Failed};
 use std::alloc::AllocError;
 
@@ -24,7 +24,7 @@ use std::alloc::AllocError;
 pub struct MemBerth {
     region: Vec<u8>,
     disk: Vec<u8>,
-    calls: Vec<Call>,
+    calls: Vec<BerthCall>,
     plan: Plan,
     region_faults: u64,
     disk_faults: u64,
@@ -48,7 +48,7 @@ impl MemBerth {
         MemBerth::planned(region, disk, Plan::failing(fails))
     }
 
-    /// A berth whose first `calls` calls pass, and whose every later one fails.
+    /// A berth that passes its first `calls` calls and fails every later one.
     pub fn fused(region: Vec<u8>, disk: Vec<u8>, calls: u64) -> MemBerth
         ensures fresh { FreshOn region.items disk.items result }
         ensures plan { berth_plan result ≡ Fused calls }
@@ -127,11 +127,14 @@ impl MemBerth {
 impl Berth for MemBerth {
     ghost meaning = { λ b. meaning b };
 
-    ghost stands = { λ b told. stands b.region.items b.disk.items b.calls.items b.region_faults b.disk_faults b.disk_reads };
+    ghost stands = { λ b told. stands b.region.items b.disk.items b.calls.items b.region_faults b.disk_faults
+        b.disk_reads };
 
-    ghost keeps_region = { λ b p told left. keeps_or_closed b.region.items b.disk.items b.calls.items b.region_faults b.disk_faults b.disk_reads p left };
+    ghost keeps_region = { λ b p told left. keeps_or_closed b.region.items b.disk.items b.calls.items b.region_faults
+        b.disk_faults b.disk_reads p left };
 
-    ghost region_now = { λ b region told. region_now b.region.items b.disk.items b.calls.items b.region_faults b.disk_faults b.disk_reads region };
+    ghost region_now = { λ b region told. region_now b.region.items b.disk.items b.calls.items b.region_faults
+        b.disk_faults b.disk_reads region };
 
     ghost short = { λ b told. (vec_short b.region, vec_short b.disk) };
 

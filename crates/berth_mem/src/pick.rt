@@ -5,7 +5,7 @@ ghost use Rattle.berth_mem.specs.Picked.{IsUnsynced, Unsynced, breaks_at};
 ghost use Rattle.berth_mem.specs.Record.{moments, leaves_at, undone, region_undone, disk_undone, region_before, disk_before};
 
 use crate::bytes::{is_far, write_at};
-use crate::record::{Call, Wrote};
+use crate::record::{BerthCall, Wrote};
 use std::alloc::{AllocError, Global};
 
 // Puts back what a write overwrote.
@@ -33,30 +33,30 @@ fn undo(content: &mut Vec<u8>, wrote: &Wrote) -> Result<(), AllocError>
     Ok(())
 }
 
-fn undo_region(content: &mut Vec<u8>, call: &Call) -> Result<(), AllocError>
+fn undo_region(content: &mut Vec<u8>, call: &BerthCall) -> Result<(), AllocError>
     ensures { OnOk result (content.new.items ≡ region_undone call.now content.old.items) }
 {
     match call {
-        Call::WroteRegion(wrote) => undo(content, wrote),
-        Call::CutRegion(cut) => content.extend_from_slice(&cut.lost),
-        Call::WroteDisk(_) => Ok(()),
-        Call::SyncedDisk => Ok(()),
+        BerthCall::WroteRegion(wrote) => undo(content, wrote),
+        BerthCall::CutRegion(cut) => content.extend_from_slice(&cut.lost),
+        BerthCall::WroteDisk(_) => Ok(()),
+        BerthCall::SyncedDisk => Ok(()),
     }
 }
 
-fn undo_disk(content: &mut Vec<u8>, call: &Call) -> Result<(), AllocError>
+fn undo_disk(content: &mut Vec<u8>, call: &BerthCall) -> Result<(), AllocError>
     ensures { OnOk result (content.new.items ≡ disk_undone call.now content.old.items) }
 {
     match call {
-        Call::WroteRegion(_) => Ok(()),
-        Call::CutRegion(_) => Ok(()),
-        Call::WroteDisk(wrote) => undo(content, wrote),
-        Call::SyncedDisk => Ok(()),
+        BerthCall::WroteRegion(_) => Ok(()),
+        BerthCall::CutRegion(_) => Ok(()),
+        BerthCall::WroteDisk(wrote) => undo(content, wrote),
+        BerthCall::SyncedDisk => Ok(()),
     }
 }
 
 /// The region as it was before call k and all later ones.
-pub fn region_at(now: &Vec<u8>, calls: &[Call], k: usize) -> Result<Vec<u8>, AllocError>
+pub fn region_at(now: &Vec<u8>, calls: &[BerthCall], k: usize) -> Result<Vec<u8>, AllocError>
     requires { k ≤ length calls.now }
     ensures { IfOk result (λ v. v.items ≡ region_before (drop k calls.now) now.now.items) }
 {
@@ -70,7 +70,7 @@ pub fn region_at(now: &Vec<u8>, calls: &[Call], k: usize) -> Result<Vec<u8>, All
     Ok(content)
 }
 
-pub fn disk_at(now: &Vec<u8>, calls: &[Call], k: usize) -> Result<Vec<u8>, AllocError>
+pub fn disk_at(now: &Vec<u8>, calls: &[BerthCall], k: usize) -> Result<Vec<u8>, AllocError>
     requires { k ≤ length calls.now }
     ensures { IfOk result (λ v. v.items ≡ disk_before (drop k calls.now) now.now.items) }
 {
@@ -132,7 +132,7 @@ fn broken(
 }
 
 // The first call whose write a crash takes: call k, or the one after the last sync before it.
-fn kept(calls: &[Call], k: usize, unsynced_lost: bool) -> usize
+fn kept(calls: &[BerthCall], k: usize, unsynced_lost: bool) -> usize
     requires { k ≤ length calls.now }
     ensures bound { result ≤ k }
     ensures unsynced { Unsynced (take (k - result) (drop result calls.now)) }
@@ -144,14 +144,14 @@ fn kept(calls: &[Call], k: usize, unsynced_lost: bool) -> usize
     from
 }
 
-fn is_sync(call: &Call) -> bool
+fn is_sync(call: &BerthCall) -> bool
     ensures { result ≡ false → IsUnsynced call.now }
 {
     match call {
-        Call::WroteRegion(_) => false,
-        Call::CutRegion(_) => false,
-        Call::WroteDisk(_) => false,
-        Call::SyncedDisk => true,
+        BerthCall::WroteRegion(_) => false,
+        BerthCall::CutRegion(_) => false,
+        BerthCall::WroteDisk(_) => false,
+        BerthCall::SyncedDisk => true,
     }
 }
 
@@ -159,7 +159,7 @@ fn is_sync(call: &Call) -> bool
 fn broken_at(
     region: &Vec<u8>,
     disk: &Vec<u8>,
-    calls: &[Call],
+    calls: &[BerthCall],
     k: usize,
     from: Vec<u8>,
     shape: u64,
@@ -171,18 +171,18 @@ fn broken_at(
     let alloc = *region.allocator();
     let old_region = region_at(region, calls, k)?;
     match &calls[k] {
-        Call::WroteRegion(wrote) => {
+        BerthCall::WroteRegion(wrote) => {
             let after = region_at(region, calls, k + 1)?;
             let made = broken(alloc, &old_region, &after, wrote, shape)?;
             Ok((made, from))
         }
-        Call::CutRegion(_) => Ok((old_region, from)),
-        Call::WroteDisk(wrote) => {
+        BerthCall::CutRegion(_) => Ok((old_region, from)),
+        BerthCall::WroteDisk(wrote) => {
             let after = disk_at(disk, calls, k + 1)?;
             let made = broken(alloc, &from, &after, wrote, shape)?;
             Ok((old_region, made))
         }
-        Call::SyncedDisk => Ok((old_region, from)),
+        BerthCall::SyncedDisk => Ok((old_region, from)),
     }
 }
 
@@ -190,7 +190,7 @@ fn broken_at(
 pub fn image(
     region: &Vec<u8>,
     disk: &Vec<u8>,
-    calls: &[Call],
+    calls: &[BerthCall],
     moment: u64,
     unsynced_lost: bool,
     shape: u64,

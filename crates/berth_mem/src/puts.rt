@@ -4,10 +4,10 @@ ghost use Rattle.berth_face.specs.Berth.{written};
 ghost use Rattle.berth_mem.specs.Record.{Describes};
 ghost use Rattle.berth_mem.specs.declared.record.Wrote.{Wrote};
 ghost use Rattle.berth_mem.specs.declared.record.CutOff.{CutOff};
-ghost use Rattle.berth_mem.specs.declared.record.Call.TheVariants.{WroteRegion, CutRegion, WroteDisk, SyncedDisk};
+ghost use Rattle.berth_mem.specs.declared.record.BerthCall.TheVariants.{WroteRegion, CutRegion, WroteDisk, SyncedDisk};
 
 use crate::bytes::{lost, tail, write_at};
-use crate::record::{Call, CutOff, Wrote};
+use crate::record::{BerthCall, CutOff, Wrote};
 use std::alloc::AllocError;
 
 // A write as the record has it, before it is made.
@@ -27,7 +27,7 @@ fn recorded(content: &Vec<u8>, at: u64, len: usize) -> Result<Wrote, AllocError>
 /// Writes to the region.
 pub fn region_put(
     region: &mut Vec<u8>,
-    calls: &mut Vec<Call>,
+    calls: &mut Vec<BerthCall>,
     at: u64,
     bytes: &[u8],
 ) -> Result<(), AllocError>
@@ -40,14 +40,14 @@ pub fn region_put(
     let wrote = recorded(region, at, bytes.len())?;
     calls.reserve(1)?;
     write_at(region, at, bytes)?;
-    calls.push_reserved(Call::WroteRegion(wrote));
+    calls.push_reserved(BerthCall::WroteRegion(wrote));
     Ok(())
 }
 
 /// Writes to the disk.
 pub fn disk_put(
     disk: &mut Vec<u8>,
-    calls: &mut Vec<Call>,
+    calls: &mut Vec<BerthCall>,
     at: u64,
     bytes: &[u8],
 ) -> Result<(), AllocError>
@@ -60,14 +60,14 @@ pub fn disk_put(
     let wrote = recorded(disk, at, bytes.len())?;
     calls.reserve(1)?;
     write_at(disk, at, bytes)?;
-    calls.push_reserved(Call::WroteDisk(wrote));
+    calls.push_reserved(BerthCall::WroteDisk(wrote));
     Ok(())
 }
 
 /// Cuts the region.
 pub fn region_shorten(
     region: &mut Vec<u8>,
-    calls: &mut Vec<Call>,
+    calls: &mut Vec<BerthCall>,
     len: u64,
 ) -> Result<(), AllocError>
     ensures region { OnOk result (region.new.items ≡ take len region.old.items) }
@@ -77,16 +77,16 @@ pub fn region_shorten(
 {
     let alloc = *region.allocator();
     let lost = tail(alloc, region, len)?;
-    calls.push(Call::CutRegion(CutOff { len, lost }))?;
+    calls.push(BerthCall::CutRegion(CutOff { len, lost }))?;
     region.truncate(len as usize);
     Ok(())
 }
 
 /// Syncs the disk.
-pub fn settled(calls: &mut Vec<Call>) -> Result<(), AllocError>
+pub fn settled(calls: &mut Vec<BerthCall>) -> Result<(), AllocError>
     ensures call { OnOk result (calls.new.items ≡ calls.old.items ++ SyncedDisk ∷ []) }
     ensures err { OnErr result (calls.new.items ≡ calls.old.items) }
 {
-    calls.push(Call::SyncedDisk)?;
+    calls.push(BerthCall::SyncedDisk)?;
     Ok(())
 }

@@ -15,7 +15,7 @@ pub struct CutOff {
 
 /// A call that changed something, or a sync.
 #[derive(Drop)]
-pub enum Call {
+pub enum BerthCall {
     WroteRegion(Wrote),
     CutRegion(CutOff),
     WroteDisk(Wrote),

@@ -54,7 +54,7 @@ fn high_word(all: u128) -> u64
     (all >> 64) as u64
 }
 
-/// How many bytes so many codes take, at most.
+/// An upper bound on the number of bytes of `count` codes.
 fn room_for(count: usize, width: u8) -> usize {
     count.saturating_mul(usize::from(width)) / 8 + 8
 }

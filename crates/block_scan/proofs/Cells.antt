@@ -5,14 +5,14 @@ use Rattle.std.proofs.lemmas.List.{append-nil, drop_more, map_more, map_push}
 use Rattle.std.proofs.lemmas.List.Concat.{flat_map-append}
 use Rattle.std.proofs.lemmas.List.Elements.{filter_more}
 use Rattle.std.proofs.lemmas.List.FromFn.{get_or-map-range_with_len}
-use Rattle.leaf_model.specs.declared.rows.Value.{Value}
-use Rattle.leaf_model.specs.declared.rows.Value.TheVariants as values
-use Rattle.leaf_model.specs.declared.rows.Cell.{Cell}
+use Rattle.row_model.specs.declared.rows.Value.{Value}
+use Rattle.row_model.specs.declared.rows.Value.TheVariants as values
+use Rattle.row_model.specs.declared.rows.Cell.{Cell}
 use Rattle.leaf_model.specs.declared.queries.Query.{Query}
 use Rattle.column_bytes.specs.Cells.{cell_at, integer_cells}
 use Rattle.row_blocks.specs.declared.column.BlockColumn.{BlockColumn}
 use Rattle.row_blocks.specs.Columns.{cells_in}
-use Rattle.row_blocks.specs.Blocks.{IsTimeCell, cell_of, cells_at, time_of, value_in}
+use Rattle.row_blocks.specs.Blocks.{IsTimeCell, cell_at_place, cells_at, time_in_cell, value_in}
 use Rattle.block_scan.specs.declared.reading.ReadColumn.{ReadColumn}
 use Rattle.block_scan.specs.Reads.{IsRead, columns_of}
 use Rattle.block_scan.specs.Scanning.{is_named, named_columns}
@@ -24,11 +24,11 @@ cell_read rows c read i within =
     ∙ get_or-map-range_with_len (cell_at c.view) 0 (length c.view.codes) i i None within (omega arith)
 
 pub cells_more : (place i : ℕ) (read : List ReadColumn) (c : ReadColumn) (cells now : List Cell) → i < length read → c ≡ get_or read i c
-    → cells ≡ cells_at place (columns_of (take i read)) → now ≡ cells ++ cell_of c.column.now.name (value_in c.column.now.bytes place)
+    → cells ≡ cells_at place (columns_of (take i read)) → now ≡ cells ++ cell_at_place c.column.now.name (value_in c.column.now.bytes place)
     → now ≡ cells_at place (columns_of (take (i + 1) read))
 cells_more place i read c cells now within at so_far pushed =
     let f = λ (r : ReadColumn). r.column.now in
-    let g = λ (b : BlockColumn). cell_of b.name (value_in b.bytes place) in
+    let g = λ (b : BlockColumn). cell_at_place b.name (value_in b.bytes place) in
     pushed ∙ ap (λ (l : List Cell). l ++ g (f c)) so_far
     ∙ ap (λ (l : List Cell). flat_map g (columns_of (take i read)) ++ l) (sym (append-nil (g (f c))))
     ∙ sym (flat_map-append g (columns_of (take i read)) (f c ∷ []))
@@ -38,15 +38,15 @@ cells_more place i read c cells now within at so_far pushed =
 -- ---- times
 
 pub time_at : (bytes : List ℕ) (present : List Bool) (times : List ℤ) (i : ℕ) → i < length present → cells_in bytes ≡ integer_cells present times → IsTimeCell (value_in bytes i)
-    → slice_index_or times i (pos 0) ≡ time_of (value_in bytes i)
+    → slice_index_or times i (pos 0) ≡ time_in_cell (value_in bytes i)
 time_at bytes present times i within cells timed = by (slice_index_or present i false) (value_in bytes i) at timed
   where
     at : value_in bytes i ≡ cond (slice_index_or present i false) (Some (values.Int (slice_index_or times i (pos 0)))) None
     at = ap (λ (l : List (Option Value)). slice_index_or l i None) cells
         ∙ get_or-map-range_with_len (λ k. cond (slice_index_or present k false) (Some (values.Int (slice_index_or times k (pos 0)))) None) 0 (length present) i i None within (omega arith)
 
-    by : (b : Bool) (v : Option Value) → v ≡ cond b (Some (values.Int (slice_index_or times i (pos 0)))) None → IsTimeCell v → slice_index_or times i (pos 0) ≡ time_of v
-    by true v e t = ap time_of (sym e)
+    by : (b : Bool) (v : Option Value) → v ≡ cond b (Some (values.Int (slice_index_or times i (pos 0)))) None → IsTimeCell v → slice_index_or times i (pos 0) ≡ time_in_cell v
+    by true v e t = ap time_in_cell (sym e)
     by false v e t = absurd (subst IsTimeCell e t)
 
 pub places_more : (p : ℕ → Bool) (skip place : ℕ) (places now : List ℕ) → skip ≤ place → places ≡ filter p (range_with_len skip (place - skip)) → now ≡ places ++ cond (p place) (place ∷ []) []

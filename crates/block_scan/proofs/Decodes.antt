@@ -6,16 +6,16 @@ use Rattle.std.proofs.lemmas.List.{get_or-map, length-map}
 use Rattle.std.proofs.lemmas.List.Elements.{filter_agree}
 use Rattle.std.proofs.lemmas.List.Folds.{list_all_more}
 use Rattle.std.proofs.lemmas.List.FromFn.{get_or-map-range_with_len, length-map-range_with_len, map-range_with_len_more}
-use Rattle.leaf_model.specs.declared.rows.Value.{Value}
-use Rattle.leaf_model.specs.declared.rows.Value.TheVariants as values
-use Rattle.leaf_model.specs.declared.rows.Cell.{Cell}
-use Rattle.leaf_model.specs.declared.rows.Row.{Row}
+use Rattle.row_model.specs.declared.rows.Value.{Value}
+use Rattle.row_model.specs.declared.rows.Value.TheVariants as values
+use Rattle.row_model.specs.declared.rows.Cell.{Cell}
+use Rattle.row_model.specs.declared.rows.Row.{Row}
 use Rattle.leaf_model.specs.declared.queries.Cond.{Cond}
 use Rattle.leaf_model.specs.declared.queries.Query.{Query}
 use Rattle.leaf_model.specs.Groups.{as_int, cell_value, cond_accepts, groups, passes, value_of}
 use Rattle.column_bytes.specs.Cells.{Codebook, Base, Anchors, Entries, Sets, entries, entry_cells, integer_cells, no_value}
 use Rattle.row_blocks.specs.Columns.{cells_in}
-use Rattle.row_blocks.specs.Blocks.{cell_of, value_in}
+use Rattle.row_blocks.specs.Blocks.{cell_at_place, value_in}
 use Rattle.block_scan.specs.declared.decoded.EntryCodes.{EntryCodes}
 use Rattle.block_scan.specs.declared.decoded.Decoded.TheVariants.{Codes}
 use Rattle.block_scan.specs.Decoded.{IsSized, accepted_codes, conds_hold}
@@ -52,7 +52,7 @@ no_integers rows d place sized within = by (slice_index_or d.present.items place
 
 -- ---- the column of a name
 
-pub cell_same : (name other : List ℕ) (v : Option Value) (cells : List Cell) → bytes_eq name other ≡ true → cell_value name cells ≡ None → cell_value name (cell_of other v ++ cells) ≡ v
+pub cell_same : (name other : List ℕ) (v : Option Value) (cells : List Cell) → bytes_eq name other ≡ true → cell_value name cells ≡ None → cell_value name (cell_at_place other v ++ cells) ≡ v
 cell_same name other None cells e none = none
 cell_same name other (Some v) cells e none = ap (λ (b : Bool). cond b (Some v) (cell_value name cells)) e
 

@@ -2,14 +2,14 @@
 use Rattle.std.proofs.Common.{◌≡◌, ℕ, ◌+◌, ◌-◌, ◌<◌, ◌≤◌, Bool, true, false, ◌&&◌, List, ◌∷◌, length, map, drop, filter, slice_index_or, ℤ, pos, int_le, refl, sym, ap, ap₂, ◌∙◌, arith}
 use Rattle.std.specs.List.{AllByRecursion, range_with_len}
 use Rattle.std.proofs.lemmas.List.{drop-map, length-map}
-use Rattle.leaf_model.specs.declared.rows.Row.{Row}
+use Rattle.row_model.specs.declared.rows.Row.{Row}
 use Rattle.leaf_model.specs.declared.queries.Query.{Query}
 use Rattle.leaf_model.specs.declared.groups.Group.{Group}
 use Rattle.leaf_model.specs.Groups.{groups, passes}
 use Rattle.group_table.specs.Joined.{IsWithin}
 use Rattle.group_table.proofs.Within.{groups_grow}
 use Rattle.row_blocks.specs.declared.column.BlockColumn.{BlockColumn}
-use Rattle.row_blocks.specs.Blocks.{Block, row_at, rows_in, time_of, value_in}
+use Rattle.row_blocks.specs.Blocks.{Block, row_at, rows_in, time_in_cell, value_in}
 use Rattle.row_blocks.specs.Held.{live_rows}
 use Rattle.block_scan.specs.Reads.{is_wanted, row_of, wanted_places}
 use Rattle.block_scan.proofs.Lists.{all_within, both_tests, drop_range, filter_mapped, filter_within, map_within, no_longer, weaker_test}
@@ -28,7 +28,7 @@ pub groups_in_range : (q : Query) (rows : List Row) → groups q (filter (in_ran
 groups_in_range q rows = ap (groups_of q) (weaker_test (in_range q) (passes q) (λ row e. range_of (int_le q.from row.time) (int_le row.time q.to) _ e) rows)
 
 module _ (q : Query) (rows : ℕ) (times : BlockColumn) (others : List BlockColumn) (ts : List ℤ) (skip : ℕ) (horizon : ℤ)
-    (counted : length ts ≡ rows) (some : skip ≤ rows) (each : (i : ℕ) → i < rows → slice_index_or ts i (pos 0) ≡ time_of (value_in times.bytes i)) where
+    (counted : length ts ≡ rows) (some : skip ≤ rows) (each : (i : ℕ) → i < rows → slice_index_or ts i (pos 0) ≡ time_in_cell (value_in times.bytes i)) where
   abbrev pub block : Block
   block = record { rows = rows; columns = times ∷ others }
 

@@ -7,10 +7,10 @@ use Rattle.std.proofs.lemmas.Bool.{false≢true}
 use Rattle.std.proofs.lemmas.List.{length-map}
 use Rattle.std.proofs.lemmas.List.Elements.{filter_agree}
 use Rattle.std.proofs.lemmas.Slice.Eq.{bytes_eq-Decides}
-use Rattle.leaf_model.specs.declared.rows.Value.{Value}
-use Rattle.leaf_model.specs.declared.rows.Value.TheVariants as value
-use Rattle.leaf_model.specs.declared.rows.Cell.{Cell}
-use Rattle.leaf_model.specs.declared.rows.Row.{Row}
+use Rattle.row_model.specs.declared.rows.Value.{Value}
+use Rattle.row_model.specs.declared.rows.Value.TheVariants as value
+use Rattle.row_model.specs.declared.rows.Cell.{Cell}
+use Rattle.row_model.specs.declared.rows.Row.{Row}
 use Rattle.leaf_model.specs.declared.queries.Cond.{Cond}
 use Rattle.leaf_model.specs.declared.queries.Agg.{Agg}
 use Rattle.leaf_model.specs.declared.queries.Agg.TheVariants.{Count, Sum, Min, Max, Avg}
@@ -18,10 +18,11 @@ use Rattle.leaf_model.specs.declared.queries.Query.{Query}
 use Rattle.leaf_model.specs.declared.groups.Key.{Key}
 use Rattle.leaf_model.specs.declared.groups.Group.{Group}
 use Rattle.leaf_model.specs.declared.groups.Fold.{Fold}
-use Rattle.leaf_model.specs.Values.{time_name}
-use Rattle.leaf_model.specs.Groups.{agg_ints, as_int, cell_value, cond_accepts, distinct_keys, fold_of, group_of, groups, ints_of, key_of, keys_cmp, keys_of, passes, rows_with, value_of, with_keys}
+use Rattle.row_model.specs.Values.{time_name}
+use Rattle.std.specs.BTreeSet.{insert_key}
+use Rattle.leaf_model.specs.Groups.{agg_ints, as_int, cell_value, cond_accepts, distinct_keys, fold_of, group_of, groups, ints_of, key_of, keys_cmp, keys_of, passes, rows_with, value_of}
 use Rattle.row_blocks.specs.declared.column.BlockColumn.{BlockColumn}
-use Rattle.row_blocks.specs.Blocks.{cell_of, cells_at, row_at, value_in}
+use Rattle.row_blocks.specs.Blocks.{cell_at_place, cells_at, row_at, value_in}
 use Rattle.block_scan.specs.Scanning.{is_named, is_of_agg, is_of_cond, named_columns}
 use Rattle.block_scan.proofs.Lists.{any_within, filter_mapped, or_left, or_right}
 
@@ -113,7 +114,7 @@ group_kept q keys rows =
 
 distinct_kept : (q : Query) (rows : List Row) → distinct_keys q (map (narrowed q) rows) ≡ distinct_keys q rows
 distinct_kept q [] = refl
-distinct_kept q (row ∷ rows) = ap₂ with_keys (keys_kept q row) (distinct_kept q rows)
+distinct_kept q (row ∷ rows) = ap₂ (λ (k : List Key) (ks : List (List Key)). insert_key keys_cmp ks k) (keys_kept q row) (distinct_kept q rows)
 
 with_kept : (q : Query) (keys : List Key) (rows : List Row) → rows_with q keys (map (narrowed q) rows) ≡ map (narrowed q) (rows_with q keys rows)
 with_kept q keys rows =
@@ -144,12 +145,12 @@ cells_named q i [] = refl
 cells_named q i (c ∷ columns) = by (is_named q c.name) (value_in c.bytes i) refl (cells_named q i columns) ∙ sym (either (is_named q c.name))
   where
     either : (b : Bool) → cells_at i (cond b (c ∷ named_columns q columns) (named_columns q columns))
-        ≡ cond b (cell_of c.name (value_in c.bytes i) ++ cells_at i (named_columns q columns)) (cells_at i (named_columns q columns))
+        ≡ cond b (cell_at_place c.name (value_in c.bytes i) ++ cells_at i (named_columns q columns)) (cells_at i (named_columns q columns))
     either true = refl
     either false = refl
 
     by : (b : Bool) (v : Option Value) → is_named q c.name ≡ b → named_cells q (cells_at i columns) ≡ cells_at i (named_columns q columns)
-        → named_cells q (cell_of c.name v ++ cells_at i columns) ≡ cond b (cell_of c.name v ++ cells_at i (named_columns q columns)) (cells_at i (named_columns q columns))
+        → named_cells q (cell_at_place c.name v ++ cells_at i columns) ≡ cond b (cell_at_place c.name v ++ cells_at i (named_columns q columns)) (cells_at i (named_columns q columns))
     by true None e rest = rest
     by true (Some v) e rest =
         let cell : Cell = record { name = c.name; value = v } in

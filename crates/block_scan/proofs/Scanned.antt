@@ -7,11 +7,11 @@ use Rattle.std.proofs.lemmas.List.Concat.{flat_map-append}
 use Rattle.std.proofs.lemmas.List.Elements.{filter-append}
 use Rattle.std.proofs.lemmas.List.FromFn.{length-map-range_with_len}
 use Rattle.std.proofs.lemmas.List.Sums.{sum_by-cons}
-use Rattle.leaf_model.specs.declared.rows.Row.{Row}
+use Rattle.row_model.specs.declared.rows.Row.{Row}
 use Rattle.leaf_model.specs.declared.queries.Query.{Query}
 use Rattle.leaf_model.specs.Content.{rows_from}
 use Rattle.leaf_model.specs.Groups.{groups}
-use Rattle.leaf_model.specs.Values.{time_name}
+use Rattle.row_model.specs.Values.{time_name}
 use Rattle.group_table.specs.Joined.{joined}
 use Rattle.group_table.proofs.Laws.{groups-append, joined-nil}
 use Rattle.row_blocks.specs.declared.column.BlockColumn.{BlockColumn}

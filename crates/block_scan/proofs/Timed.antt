@@ -10,18 +10,19 @@ use Rattle.std.proofs.lemmas.List.{length-map}
 use Rattle.std.proofs.lemmas.List.Elements.{filter_agree}
 use Rattle.std.proofs.lemmas.List.FromFn.{get_or-map-range_with_len, length-map-range_with_len}
 use Rattle.std.proofs.lemmas.Slice.Eq.{bytes_eq-Decides}
-use Rattle.leaf_model.specs.declared.rows.Value.TheVariants as value
-use Rattle.leaf_model.specs.declared.rows.Row.{Row}
+use Rattle.row_model.specs.declared.rows.Value.TheVariants as value
+use Rattle.row_model.specs.declared.rows.Row.{Row}
 use Rattle.leaf_model.specs.declared.queries.Cond.{Cond}
 use Rattle.leaf_model.specs.declared.queries.Agg.{Agg}
 use Rattle.leaf_model.specs.declared.queries.Agg.TheVariants.{Count, Sum, Min, Max, Avg}
 use Rattle.leaf_model.specs.declared.queries.Query.{Query}
 use Rattle.leaf_model.specs.declared.groups.Key.{Key}
 use Rattle.leaf_model.specs.declared.groups.Fold.{Fold}
-use Rattle.leaf_model.specs.Values.{time_name}
-use Rattle.leaf_model.specs.Groups.{agg_ints, as_int, cell_value, cond_accepts, distinct_keys, fold_of, group_of, groups, ints_of, key_of, keys_cmp, keys_of, passes, rows_with, value_of, with_keys}
+use Rattle.row_model.specs.Values.{time_name}
+use Rattle.std.specs.BTreeSet.{insert_key}
+use Rattle.leaf_model.specs.Groups.{agg_ints, as_int, cell_value, cond_accepts, distinct_keys, fold_of, group_of, groups, ints_of, key_of, keys_cmp, keys_of, passes, rows_with, value_of}
 use Rattle.row_blocks.specs.declared.column.BlockColumn.{BlockColumn}
-use Rattle.row_blocks.specs.Blocks.{Block, row_at, rows_in, time_of, times_of, value_in}
+use Rattle.row_blocks.specs.Blocks.{Block, row_at, rows_in, time_in_cell, times_of, value_in}
 use Rattle.time_range.specs.Ranges.{IsRange}
 use Rattle.row_blocks.specs.Held.{live_rows}
 use Rattle.block_scan.specs.Reads.{is_wanted, row_of, wanted_places}
@@ -129,7 +130,7 @@ module _ (t : ℤ) where
 
     distinct_timed : (rows : List Row) → distinct_keys q (map (timed t) rows) ≡ distinct_keys q rows
     distinct_timed [] = refl
-    distinct_timed (row ∷ rows) = ap₂ with_keys (keys_timed row) (distinct_timed rows)
+    distinct_timed (row ∷ rows) = ap₂ (λ (k : List Key) (ks : List (List Key)). insert_key keys_cmp ks k) (keys_timed row) (distinct_timed rows)
 
     with_timed : (keys : List Key) (rows : List Row) → rows_with q keys (map (timed t) rows) ≡ map (timed t) (rows_with q keys rows)
     with_timed keys rows =
@@ -187,7 +188,7 @@ wanted_between q horizon from to t low high above below =
 
 -- times that are read, as a list
 abbrev read_times : ℕ → BlockColumn → List ℤ
-read_times rows times = map (λ i. time_of (value_in times.bytes i)) (range_with_len 0 rows)
+read_times rows times = map (λ i. time_in_cell (value_in times.bytes i)) (range_with_len 0 rows)
 
 -- the least and the greatest time of a block lie around each of its times
 pub range_between : (b : Block) (rows : ℕ) (times : BlockColumn) (others : List BlockColumn) (from to low high : ℤ) → rows ≡ b.rows → b.columns ≡ times ∷ others
@@ -197,11 +198,11 @@ range_between b rows times others from to low high counted columns range first l
     let each : times_of (rows_in b) ≡ map time (range_with_len 0 b.rows)
     = ap (λ (cs : List BlockColumn). times_of (map (row_at cs) (range_with_len 0 b.rows))) columns ∙ map_map (λ (row : Row). row.time) (row_at (times ∷ others)) (range_with_len 0 b.rows) in
     let count = ap (λ (l : List ℤ). length l) each ∙ length-map-range_with_len time 0 b.rows in
-    let at : slice_index_or (times_of (rows_in b)) i (pos 0) ≡ time_of (value_in times.bytes i)
+    let at : slice_index_or (times_of (rows_in b)) i (pos 0) ≡ time_in_cell (value_in times.bytes i)
     = ap (λ (l : List ℤ). slice_index_or l i (pos 0)) each ∙ get_or-map-range_with_len time 0 b.rows i i (pos 0) (omega (arith, h, counted)) (omega arith) in
     let both = range.within i (omega (arith, h, counted, count)) in (
-      subst (λ (t : ℤ). t ≤ℤ time_of (value_in times.bytes i)) (sym first) (subst (λ (t : ℤ). from ≤ℤ t) at both.0),
-      subst (λ (t : ℤ). time_of (value_in times.bytes i) ≤ℤ t) (sym last) (subst (λ (t : ℤ). t ≤ℤ to) at both.1),
+      subst (λ (t : ℤ). t ≤ℤ time_in_cell (value_in times.bytes i)) (sym first) (subst (λ (t : ℤ). from ≤ℤ t) at both.0),
+      subst (λ (t : ℤ). time_in_cell (value_in times.bytes i) ≤ℤ t) (sym last) (subst (λ (t : ℤ). t ≤ℤ to) at both.1),
     )
 
 -- one time stands for all, where all are wanted
@@ -231,10 +232,10 @@ alike_stand q rows times skip horizon from to found some between wanted none cou
     ts = read_times rows times
 
     long : length ts ≡ rows
-    long = length-map-range_with_len (λ i. time_of (value_in times.bytes i)) 0 rows
+    long = length-map-range_with_len (λ i. time_in_cell (value_in times.bytes i)) 0 rows
 
-    each : (i : ℕ) → i < rows → slice_index_or ts i (pos 0) ≡ time_of (value_in times.bytes i)
-    each i h = get_or-map-range_with_len (λ i. time_of (value_in times.bytes i)) 0 rows i i (pos 0) h (omega arith)
+    each : (i : ℕ) → i < rows → slice_index_or ts i (pos 0) ≡ time_in_cell (value_in times.bytes i)
+    each i h = get_or-map-range_with_len (λ i. time_in_cell (value_in times.bytes i)) 0 rows i i (pos 0) h (omega arith)
 
     ends : (is_wanted q horizon from ≡ true) × (is_wanted q horizon to ≡ true)
     ends = both_true (is_wanted q horizon from) (is_wanted q horizon to) wanted
@@ -248,11 +249,11 @@ alike_stand q rows times skip horizon from to found some between wanted none cou
         ap (λ (n : ℕ). filter (λ i. is_wanted q horizon (slice_index_or found i (pos 0))) (range_with_len skip n)) same
         ∙ filter_within (λ i. is_wanted q horizon (slice_index_or found i (pos 0))) (λ i. is_wanted q horizon (slice_index_or ts i (pos 0))) skip (length ts - skip)
         (λ i h. ap (is_wanted q horizon) (alike i (inside i h)) ∙ ends.0
-        ∙ sym (ap (is_wanted q horizon) (each i (inside i h)) ∙ wanted_between q horizon from to (time_of (value_in times.bytes i)) ends.0 ends.1 (between i (inside i h)).0 (between i (inside i h)).1))
+        ∙ sym (ap (is_wanted q horizon) (each i (inside i h)) ∙ wanted_between q horizon from to (time_in_cell (value_in times.bytes i)) ends.0 ends.1 (between i (inside i h)).0 (between i (inside i h)).1))
 
 -- and so do the times themselves
 pub own_stand : (q : Query) (rows : ℕ) (times : BlockColumn) (skip : ℕ) (horizon : ℤ) (found : List ℤ) → skip ≤ rows
-    → length found ≡ rows → ((i : ℕ) → i < rows → slice_index_or found i (pos 0) ≡ time_of (value_in times.bytes i)) → StandForTimes q rows times skip horizon found
+    → length found ≡ rows → ((i : ℕ) → i < rows → slice_index_or found i (pos 0) ≡ time_in_cell (value_in times.bytes i)) → StandForTimes q rows times skip horizon found
 own_stand q rows times skip horizon found some count each = record {
   count = count;
   same = λ others.

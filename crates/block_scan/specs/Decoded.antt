@@ -1,22 +1,22 @@
 -- The cells of a name at the places of a block, decoded at once.
 use Rattle.std.specs.Prelude.{◌≡◌, ℕ, ◌<◌, ⊤, Bool, true, false, List, length, map, pos, slice_index, slice_index_or, Option, Some, None, if◌then◌else◌}
 use Rattle.std.specs.List.{list_all, range_with_len}
-use Rattle.leaf_model.specs.declared.rows.Value.{Value}
-use Rattle.leaf_model.specs.declared.rows.Value.TheVariants as values
-use Rattle.leaf_model.specs.declared.rows.Row.{Row}
+use Rattle.row_model.specs.declared.rows.Value.{Value}
+use Rattle.row_model.specs.declared.rows.Value.TheVariants as values
+use Rattle.row_model.specs.declared.rows.Row.{Row}
 use Rattle.leaf_model.specs.declared.queries.Cond.{Cond}
 use Rattle.leaf_model.specs.Groups.{cell_value, cond_accepts, value_of}
 use Rattle.column_bytes.specs.Cells.{entries, no_value}
 use Rattle.row_blocks.specs.Blocks.{cells_at, value_in}
 use Rattle.block_scan.specs.declared.reading.ReadColumn.{ReadColumn}
-use Rattle.block_scan.specs.declared.finding.Named.{Named}
-use Rattle.block_scan.specs.declared.finding.Named.TheVariants.{Nowhere, Once, Twice}
+use Rattle.block_scan.specs.declared.finding.NamedColumns.{NamedColumns}
+use Rattle.block_scan.specs.declared.finding.NamedColumns.TheVariants.{Nowhere, Once, Twice}
 use Rattle.block_scan.specs.declared.decoded.Decoded.{Decoded}
 use Rattle.block_scan.specs.declared.decoded.Decoded.TheVariants.{Missing, Ints, Codes}
 use Rattle.block_scan.specs.Reads.{IsRead, columns_of}
 
 -- no column has the name; one has it, with this cell at each place; or more than one has it
-abbrev pub IsNamed : ℕ → List ℕ → List ReadColumn → Named → Type 0
+abbrev pub IsNamed : ℕ → List ℕ → List ReadColumn → NamedColumns → Type 0
 IsNamed rows name read Nowhere = (i : ℕ) → cell_value name (cells_at i (columns_of read)) ≡ None
 IsNamed rows name read (Once c) = IsRead rows c.now × ((i : ℕ) → cell_value name (cells_at i (columns_of read)) ≡ value_in c.now.column.now.bytes i)
 IsNamed rows name read Twice = ⊤

@@ -1,7 +1,7 @@
 -- The keys of places, and the slots that were found for them.
 use Rattle.std.specs.Prelude.{◌≡◌, ℕ, ◌+◌, ◌<◌, ◌≤◌, List, length, map, slice_index}
 use Rattle.std.specs.List.{AllZip}
-use Rattle.leaf_model.specs.declared.rows.Row.{Row}
+use Rattle.row_model.specs.declared.rows.Row.{Row}
 use Rattle.leaf_model.specs.declared.groups.Key.{Key}
 use Rattle.leaf_model.specs.Groups.{key_of, value_of}
 use Rattle.block_scan.specs.declared.decoded.Decoded.{Decoded}

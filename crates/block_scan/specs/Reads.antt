@@ -1,9 +1,9 @@
 -- The columns of a block that were read, and the rows that are made of them.
 use Rattle.std.specs.Prelude.{◌≡◌, ℕ, ◌-◌, Bool, ◌&&◌, List, length, map, filter, ℤ, pos, int_le, slice_index_or}
 use Rattle.std.specs.List.{range_with_len}
-use Rattle.leaf_model.specs.declared.rows.Row.{Row}
+use Rattle.row_model.specs.declared.rows.Row.{Row}
 use Rattle.leaf_model.specs.declared.queries.Query.{Query}
-use Rattle.column_bytes.specs.Cells.{cells_of, kind_of}
+use Rattle.column_bytes.specs.Cells.{cells_of, kind_of_book}
 use Rattle.column_bytes.specs.Column.{kind_in}
 use Rattle.row_blocks.specs.declared.column.BlockColumn.{BlockColumn}
 use Rattle.row_blocks.specs.Columns.{cells_in}
@@ -14,7 +14,7 @@ use Rattle.block_scan.specs.declared.reading.ReadColumn.{ReadColumn}
 pub record IsRead (rows : ℕ) (c : ReadColumn) : Type 0 where
   pub count : length c.view.codes ≡ rows
   pub cells : cells_of c.view ≡ cells_in c.column.now.bytes
-  pub kind : kind_of c.view.book ≡ kind_in c.column.now.bytes
+  pub kind : kind_of_book c.view.book ≡ kind_in c.column.now.bytes
 
 -- the columns that were read
 abbrev pub columns_of : List ReadColumn → List BlockColumn

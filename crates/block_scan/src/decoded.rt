@@ -1,15 +1,15 @@
 // Decodes the column of a name: its cell at each place.
 ghost use Rattle.std.specs.Prelude.{◌≡◌, ℕ, ◌<◌, ◌≤◌, true, false, length, pos, slice_index, slice_index_or, IfOk, IfSome, Some, None, if◌then◌else◌};
 ghost use Rattle.std.specs.List.{AllByRecursion};
-ghost use Rattle.leaf_model.specs.declared.rows.Value.TheVariants as cells;
+ghost use Rattle.row_model.specs.declared.rows.Value.TheVariants as cells;
 ghost use Rattle.leaf_model.specs.Groups.{value_of};
 ghost use Rattle.column_bytes.specs.declared.kind.Kind.TheVariants as kinds;
-ghost use Rattle.column_bytes.specs.Cells.{entries, has_entries, kind_of, no_value};
+ghost use Rattle.column_bytes.specs.Cells.{entries, has_entries, kind_of_book, no_value};
 ghost use Rattle.row_blocks.specs.Blocks.{value_in};
 ghost use Rattle.block_scan.specs.Decoded.{IsDecoded};
 ghost use Rattle.block_scan.specs.Reads.{IsRead, columns_of, row_of};
 
-use crate::finding::{Named, find_named};
+use crate::finding::{NamedColumns, find_named};
 use crate::reading::ReadColumn;
 use column_bytes::{ColumnView, Kind};
 use leaf_model::Text;
@@ -46,7 +46,7 @@ fn fill_integers(
     values: &mut [i64],
 )
     requires read { IsRead rows read.now }
-    requires kind { kind_of read.now.view.book ≡ kinds.Ints }
+    requires kind { kind_of_book read.now.view.book ≡ kinds.Ints }
     requires codes { length codes.old ≡ rows }
     requires present { length present.old ≡ rows }
     requires values { length values.old ≡ rows }
@@ -58,7 +58,7 @@ fn fill_integers(
 
 fn decode_integers(alloc: Global, rows: u32, read: &ReadColumn) -> Result<Integers, AllocError>
     requires read { IsRead rows read.now }
-    requires kind { kind_of read.now.view.book ≡ kinds.Ints }
+    requires kind { kind_of_book read.now.view.book ≡ kinds.Ints }
     ensures present { IfOk result (λ d. length d.present.items ≡ rows) }
     ensures values { IfOk result (λ d. length d.values.items ≡ rows) }
     ensures each { IfOk result (λ d.
@@ -80,7 +80,7 @@ fn decode_integers(alloc: Global, rows: u32, read: &ReadColumn) -> Result<Intege
 
 fn fill_codes(rows: u32, read: &ReadColumn, codes: &mut [u64], present: &mut [bool])
     requires read { IsRead rows read.now }
-    requires kind { has_entries (kind_of read.now.view.book) ≡ true }
+    requires kind { has_entries (kind_of_book read.now.view.book) ≡ true }
     requires codes { length codes.old ≡ rows }
     requires present { length present.old ≡ rows }
     ensures each { (i : ℕ) → i < rows → value_in read.now.column.now.bytes i ≡ (if slice_index_or present.new i false
@@ -97,7 +97,7 @@ fn decode_codes<'b, 'a>(
     read: &'b ReadColumn<'a>,
 ) -> Result<EntryCodes<'b, 'a>, AllocError>
     requires read { IsRead rows read.now }
-    requires kind { has_entries (kind_of read.now.view.book) ≡ true }
+    requires kind { has_entries (kind_of_book read.now.view.book) ≡ true }
     ensures view { IfOk result (λ d. d.view.now ≡ read.now.view) }
     ensures present { IfOk result (λ d. length d.present.items ≡ rows) }
     ensures codes { IfOk result (λ d. length d.codes.items ≡ rows) }
@@ -167,11 +167,11 @@ pub(crate) fn decode<'b, 'a>(
     }
     let rows = times.len() as u32;
     match find_named(rows, name, read) {
-        Named::Nowhere => Ok(Some(Decoded::Missing)),
-        Named::Once(column) => {
+        NamedColumns::Nowhere => Ok(Some(Decoded::Missing)),
+        NamedColumns::Once(column) => {
             let decoded = decode_column(alloc, rows, column)?;
             Ok(Some(decoded))
         }
-        Named::Twice => Ok(None),
+        NamedColumns::Twice => Ok(None),
     }
 }

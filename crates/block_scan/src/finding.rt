@@ -11,20 +11,23 @@ use leaf_model::Text;
 
 /// The columns of a name. If there are two, of two kinds, a place may have its cell in either.
 #[derive(Clone, Copy)]
-pub enum Named<'b, 'a> {
+pub enum NamedColumns<'b, 'a> {
     Nowhere,
     Once(&'b ReadColumn<'a>),
     Twice,
 }
 
-fn with_one<'b, 'a>(column: &'b ReadColumn<'a>, others: Named<'b, 'a>) -> Named<'b, 'a>
+fn with_one<'b, 'a>(
+    column: &'b ReadColumn<'a>,
+    others: NamedColumns<'b, 'a>,
+) -> NamedColumns<'b, 'a>
     ensures { (rows : ℕ) (name : List ℕ) (rest : List ReadColumn)
         → IsRead rows column.now → bytes_eq name column.now.column.now.name ≡ true
         → IsNamed rows name rest others.entry → IsNamed rows name (column.now ∷ rest) result }
 {
     match others {
-        Named::Nowhere => Named::Once(column),
-        Named::Once(_) | Named::Twice => Named::Twice,
+        NamedColumns::Nowhere => NamedColumns::Once(column),
+        NamedColumns::Once(_) | NamedColumns::Twice => NamedColumns::Twice,
     }
 }
 
@@ -33,12 +36,12 @@ pub(crate) fn find_named<'b, 'a>(
     rows: u32,
     name: &Text,
     read: &'b [ReadColumn<'a>],
-) -> Named<'b, 'a>
+) -> NamedColumns<'b, 'a>
     requires { AllByRecursion (IsRead rows) read.now }
     ensures { IsNamed rows name.now read.now result }
 {
     match read.split_first() {
-        None => Named::Nowhere,
+        None => NamedColumns::Nowhere,
         Some((first, rest)) => {
             let others = find_named(rows, name, rest);
             if !is_same(name, &first.column.name) {

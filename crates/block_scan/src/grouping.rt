@@ -1,7 +1,7 @@
 // Makes the groups of places, slot by slot.
 ghost use Rattle.std.specs.Prelude.{◌≡◌, ℕ, ◌<◌, ◌≤◌, List, [], ◌∷◌, length, map, IfOk};
 ghost use Rattle.std.specs.List.{AllByRecursion};
-ghost use Rattle.leaf_model.specs.declared.rows.Row.{Row};
+ghost use Rattle.row_model.specs.declared.rows.Row.{Row};
 ghost use Rattle.leaf_model.specs.Groups.{groups};
 ghost use Rattle.group_table.specs.Joined.{IsWithin};
 ghost use Rattle.block_scan.specs.Decoded.{IsSized};
@@ -39,7 +39,11 @@ fn fold_slot(
     requires inside { AllByRecursion (λ place. place < rows) places.now }
     requires few { length places.now ≤ 65536 }
     ensures groups { IfOk result (λ gs. gs
-        ≡ record { keys = keys_at query.now slots.now slot; count = length places.now; folds = map (fold_at places.now) decoded.now }
+        ≡ record {
+          keys = keys_at query.now slots.now slot;
+          count = length places.now;
+          folds = map (fold_at places.now) decoded.now;
+        }
         ∷ []) }
     ensures within { IfOk result (λ gs. AllByRecursion (IsWithin (length places.now)) gs) }
 {

@@ -14,7 +14,7 @@ const GUESSES: u64 = 65_536;
 /// The number of guesses that are tried for a place.
 const TRIES: u64 = 16;
 
-/// The index of a guess: `behind` after the first one of the mark.
+/// The index of a guess: the first one of the mark, plus `behind`.
 fn guess_place(mark: u64, behind: u64) -> usize
     ensures { result < 65536 }
 {

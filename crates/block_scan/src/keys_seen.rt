@@ -2,7 +2,7 @@
 ghost use Rattle.std.specs.Prelude.{◌≡◌, ◌<◌, ◌≤◌, true, length, IfOk, IfSome, Some};
 ghost use Rattle.std.specs.List.{AllByRecursion};
 ghost use Rattle.leaf_model.specs.Groups.{key_of};
-ghost use Rattle.column_bytes.specs.Cells.{value_of};
+ghost use Rattle.column_bytes.specs.Cells.{value_lent};
 ghost use Rattle.block_scan.specs.declared.decoded.Decoded.TheVariants.{Ints, Codes};
 ghost use Rattle.block_scan.specs.Decoded.{IsSized, decoded_at};
 ghost use Rattle.block_scan.specs.Keyed.{AreOfKeys, keys_seen};
@@ -45,7 +45,7 @@ pub(crate) fn decode_keys<'b, 'a>(
 }
 
 pub(crate) fn own_key(alloc: Global, value: &ValueRef) -> Result<Key, AllocError>
-    ensures { IfOk result (λ key. key ≡ key_of (Some (value_of value.now))) }
+    ensures { IfOk result (λ key. key ≡ key_of (Some (value_lent value.now))) }
 {
     match own_value(alloc, value)? {
         Value::Int(number) => Ok(Key::Int(number)),

@@ -1,10 +1,10 @@
 // Narrows places to those that meet the conditions of a query.
 ghost use Rattle.std.specs.Prelude.{◌≡◌, ◌<◌, ◌≤◌, length, filter, slice_index_or, IfOk, IfSome, Some};
 ghost use Rattle.std.specs.List.{AllByRecursion};
-ghost use Rattle.leaf_model.specs.declared.rows.Value.TheVariants as values;
+ghost use Rattle.row_model.specs.declared.rows.Value.TheVariants as values;
 ghost use Rattle.leaf_model.specs.Groups.{cond_accepts, set_accepts};
-ghost use Rattle.leaf_model.specs.Names.{is_among};
-ghost use Rattle.column_bytes.specs.Cells.{entries, no_value, value_of};
+ghost use Rattle.row_model.specs.Names.{is_among};
+ghost use Rattle.column_bytes.specs.Cells.{entries, no_value, value_lent};
 ghost use Rattle.block_scan.specs.declared.decoded.Decoded.TheVariants.{Codes};
 ghost use Rattle.block_scan.specs.Decoded.{accepted_codes, IsSized, conds_hold, decoded_at};
 ghost use Rattle.block_scan.specs.Reads.{IsRead, columns_of, row_of};
@@ -67,7 +67,7 @@ fn accepts_set(cond: &Cond, members: &SetRef) -> bool
 }
 
 fn accepts_value(cond: &Cond, value: &ValueRef) -> bool
-    ensures { result ≡ cond_accepts cond.now (Some (value_of value.now)) }
+    ensures { result ≡ cond_accepts cond.now (Some (value_lent value.now)) }
 {
     match value {
         ValueRef::Int(number) => accepts_integer(cond, number),
@@ -79,7 +79,7 @@ fn accepts_value(cond: &Cond, value: &ValueRef) -> bool
 /// The text or set of a code.
 pub(crate) fn entry_of<'a>(view: &ColumnView<'a>, code: u64) -> ValueRef<'a>
     requires { code < length (entries view.now.book) }
-    ensures { value_of result ≡ slice_index_or (entries view.now.book) code no_value }
+    ensures { value_lent result ≡ slice_index_or (entries view.now.book) code no_value }
 {
     if code >= u64::from(view.entries()) {
         unreachable!()

@@ -1,6 +1,6 @@
 // The places of a block whose times a query wants.
 ghost use Rattle.std.specs.Prelude.{◌≡◌, ◌≤◌, ◌<◌, ℕ, List, [], ◌∷◌, ◌++◌, length, pos, slice_index_or, if◌then◌else◌, IfOk};
-ghost use Rattle.row_blocks.specs.Blocks.{AreTimes, time_of, value_in};
+ghost use Rattle.row_blocks.specs.Blocks.{AreTimes, time_in_cell, value_in};
 ghost use Rattle.block_scan.specs.Reads.{IsRead, is_wanted, wanted_places};
 
 use crate::reading::ReadColumn;
@@ -20,7 +20,7 @@ fn fill_times(
     requires present { length present.old ≡ rows }
     requires found { length found.old ≡ rows }
     ensures { (i : ℕ) → i < rows
-        → slice_index_or found.new i (pos 0) ≡ time_of (value_in times.now.column.now.bytes i) }
+        → slice_index_or found.new i (pos 0) ≡ time_in_cell (value_in times.now.column.now.bytes i) }
 {
     times.view.integers(codes, present, found);
 }
@@ -31,7 +31,8 @@ pub(crate) fn times_in(alloc: Global, rows: u32, times: &ReadColumn) -> Result<V
     requires read { IsRead rows times.now }
     ensures length { IfOk result (λ found. length found.items ≡ rows) }
     ensures each { IfOk result (λ found.
-        (i : ℕ) → i < rows → slice_index_or found.items i (pos 0) ≡ time_of (value_in times.now.column.now.bytes i)) }
+        (i : ℕ) → i < rows → slice_index_or found.items i (pos 0)
+        ≡ time_in_cell (value_in times.now.column.now.bytes i)) }
 {
     let mut codes = vec![in alloc; 0u64; rows as usize]?;
     let mut present = vec![in alloc; false; rows as usize]?;

@@ -27,8 +27,8 @@ pub struct FoundSlots<'b, 'a> {
     pub firsts: Vec<u32>,
 }
 
-/// How places stand in slots: all in one; each by the code of its text or set; or each in a slot that was found for its
-/// keys.
+/// How places stand in slots: all in one; each by the code of its text or set; or each in the slot that was found for
+/// its keys.
 #[derive(Drop)]
 pub enum Slots<'b, 'a> {
     Alone,

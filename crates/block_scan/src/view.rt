@@ -14,8 +14,8 @@ use leaf_model::{Groups, Query};
 use std::alloc::{AllocError, Global};
 use std::marker::Model;
 
-/// The columns of a block that were read, which of its rows are held, and two times between which all times lie.
-/// Contracts see a block of these columns alone.
+/// The columns of a block that were read, the rows that are held, and bounds on all its times. Contracts see a block of
+/// these columns alone.
 #[derive(Drop)]
 pub struct BlockView<'a> {
     rows: u32,
@@ -35,7 +35,8 @@ impl<'a> Model for BlockView<'a> {
 
     ghost Value = { SeenBlock };
 
-    ghost view = { λ v. seen v.skip v.horizon (record { rows = v.rows; columns = v.times.column.now ∷ columns_of v.others.items }) };
+    ghost view = { λ v. seen v.skip v.horizon
+        (record { rows = v.rows; columns = v.times.column.now ∷ columns_of v.others.items }) };
 
     ghost invariant = { λ v. IsViewed v.rows v.skip v.horizon v.from v.to v.times v.others.items };
 }

@@ -1,7 +1,7 @@
 // Rows that the tests share, from their bytes.
 ghost use Rattle.std.specs.Prelude.{◌≤◌, IfOk, length};
 ghost use Rattle.std.specs.List.{AllByRecursion};
-ghost use Rattle.leaf_model.specs.Values.{IsRow};
+ghost use Rattle.row_model.specs.Values.{IsRow};
 
 use leaf_model::{PackedRows, Rows};
 use row_records::read_rows;
@@ -21,7 +21,7 @@ pub const CODED: &[u8] =
 pub const CODED_LATER: &[u8] =
     b"\x0a\0\0\0\0\0\0\0\x01\0\x04code\x01\x05\0\0\0\0\0\0\0\x0b\0\0\0\0\0\0\0\x01\0\x04code\x01\x05\0\0\0\0\0\0\0\x0c\0\0\0\0\0\0\0\x01\0\x04code\x01\x05\0\0\0\0\0\0\0";
 
-/// So many rows, from their bytes.
+/// `count` rows, from their bytes.
 fn rows_of(alloc: Global, bytes: &[u8], count: u64) -> Result<PackedRows, AllocError>
     ensures rows { IfOk result (λ rows. AllByRecursion IsRow rows) }
     ensures few { IfOk result (λ rows. length rows ≤ count) }

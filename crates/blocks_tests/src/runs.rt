@@ -1,7 +1,7 @@
 // Tables whose adds fill whole blocks of 65,536 rows, with ample memory.
 ghost use Rattle.std.specs.Prelude.{◌+◌, ◌<◌, ◌≤◌};
 ghost use Rattle.std.specs.List.{AllByRecursion};
-ghost use Rattle.leaf_model.specs.Values.{IsRow};
+ghost use Rattle.row_model.specs.Values.{IsRow};
 ghost use Rattle.table_state.specs.Tables.{MayWrite};
 
 use crate::rows::{alike, in_order};
@@ -40,7 +40,7 @@ fn a_whole_run_leaves_no_tail_and_one_row_more_is_the_tail(rt: HostRuntime) -> R
     Ok(())
 }
 
-/// Two runs of rows of the times 0 to 131,071, of which the last so many are kept; and how many went.
+/// The last rows, as many as are kept, of two runs with the times 0 to 131,071; and the number of rows that went.
 fn last_of_two_runs(alloc: Global, n: u64) -> Result<(TableState, u64), AllocError> {
     let name = Text::of(String::from_str(alloc, "t")?);
     let mut table = TableState::new(alloc);

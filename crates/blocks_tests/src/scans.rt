@@ -38,7 +38,7 @@ fn query_of(
     })
 }
 
-/// How many rows there are of these times, and the least of their times.
+/// The number of rows with these times, and the least of their times.
 pub fn counting(alloc: Global, from: u32, to: u32) -> Result<Query, AllocError> {
     let mut aggs = Vec::new(alloc);
     aggs.push(Agg::Count)?;
@@ -104,7 +104,7 @@ fn count_and_least_over<L: Ledger, R: Threads + Sync>(
     }
 }
 
-/// How many rows a query without keys found, and the least of the integers that its last aggregate looks at.
+/// The number of rows that a query without keys found, and the least of the integers under its last aggregate.
 pub fn count_and_least<R: Threads + Sync>(
     rt: &R,
     alloc: Global,
@@ -150,7 +150,7 @@ fn is_one_of_two(query: &Query, blocks: &[RowBlock]) -> bool
     }
 }
 
-/// The sum that a query finds in at most two steps, where of two blocks it looks at one with two columns.
+/// The sum that a query finds in at most two steps: of two blocks it reads only one, with two columns.
 fn sum_in_two_steps<L: Ledger, R: Threads + Sync>(
     rt: &R,
     alloc: Global,

@@ -8,7 +8,7 @@ use std::alloc::{AllocError, Global};
 use std::test::Fail;
 use table_state::{Added, TableState};
 
-/// How many blocks there are, how many rows of the first are cut away, and how many rows stand behind them and in all.
+/// The number of blocks, of rows that are cut off the first, of rows in the tail, and of all rows.
 pub fn standing(table: &TableState) -> (u64, u32, u32, u64) {
     (table.sealed(), table.skip(), table.tail(), table.rows())
 }
@@ -44,7 +44,7 @@ fn a_run_of_rows_is_sealed_and_one_row_more_is_the_tail(rt: HostRuntime) -> Resu
     Ok(())
 }
 
-/// How the rows of two blocks of three rows stand behind a keep and an expiry.
+/// The place of the rows of two blocks of three rows after a keep and an expiry.
 fn cut_and_expired(
     alloc: Global,
     keep: u64,

@@ -8,14 +8,14 @@ use Rattle.turnstile.specs.Seats.{keeps_all_but}
 use Rattle.leaf_table.specs.Calls.{SeatView}
 use Rattle.script_text.specs.declared.command.Command.{Command}
 use Rattle.script_text.specs.Fits.{IsCommand}
-use Rattle.script_text.specs.declared.fleet.Fleet.{Fleet}
+use Rattle.script_text.specs.declared.fleet.FleetShape.{FleetShape}
 use Rattle.script_text.specs.Commands.{leaf_count}
 use Rattle.leaf_moves.specs.Holds.{Hold, caller_in}
 use Rattle.leaf_moves.specs.Stage.{Leaf}
 use Rattle.leaf_moves.specs.Lanes.{CutsOff, CutsOffAt, SplitsIf}
 use Rattle.player.specs.Crew.{HasAll, HasLeaf, HasSeats, Spares, StillHas, is_set}
-use Rattle.bursts.specs.declared.plan.Plan.{Plan}
-use Rattle.bursts.specs.Needs.{AreAlone, AreSpare, CanLend, IsAmong, IsPlan, acts_on, leaves_of, needed, needs_at, table_of}
+use Rattle.bursts.specs.declared.plan.LanePlan.{LanePlan}
+use Rattle.bursts.specs.Needs.{AreAlone, AreSpare, CanLend, IsAmong, IsLanePlan, acts_on, leaves_acted_on, needed, needs_at, table_needed}
 use Rattle.lane_play.specs.Played.{MayPlayOn}
 use Rattle.lane_play.proofs.Held.{still_leaf, still_seats, there_too}
 use Rattle.bursts.proofs.Needed.{all_marked, has_for, marked_by_length, set_below, table_below}
@@ -124,14 +124,14 @@ if_false : (b : Bool) → b ≡ false → ◌≡◌ {A = ℕ} (cond b 1 0) 0
 if_false true e = absurd cc
 if_false false e = refl
 
-count_snoc : (p : Plan → Bool) (plans : List Plan) (plan : Plan) → count_by p (plans ++ plan ∷ []) ≡ count_by p plans + cond (p plan) 1 0
-count_snoc p plans plan = sum_by_push (λ (q : Plan). cond (p q) 1 0) plans plan
+count_snoc : (p : LanePlan → Bool) (plans : List LanePlan) (plan : LanePlan) → count_by p (plans ++ plan ∷ []) ≡ count_by p plans + cond (p plan) 1 0
+count_snoc p plans plan = sum_by_push (λ (q : LanePlan). cond (p q) 1 0) plans plan
 
-counted_yes : (p : Plan → Bool) (plans : List Plan) (plan : Plan) → p plan ≡ true → count_by p (plans ++ plan ∷ []) ≡ suc (count_by p plans)
+counted_yes : (p : LanePlan → Bool) (plans : List LanePlan) (plan : LanePlan) → p plan ≡ true → count_by p (plans ++ plan ∷ []) ≡ suc (count_by p plans)
 counted_yes p plans plan sure =
     omega (arith, count_snoc p plans plan, if_true (p plan) sure)
 
-counted_no : (p : Plan → Bool) (plans : List Plan) (plan : Plan) → p plan ≡ false → count_by p (plans ++ plan ∷ []) ≡ count_by p plans
+counted_no : (p : LanePlan → Bool) (plans : List LanePlan) (plan : LanePlan) → p plan ≡ false → count_by p (plans ++ plan ∷ []) ≡ count_by p plans
 counted_no p plans plan never =
     omega (arith, count_snoc p plans plan, if_false (p plan) never)
 
@@ -142,18 +142,18 @@ cases false C sure never = never refl
 spares_at : {B : Type 0} (xs : List (Hold B)) (table n m : ℕ) → n ≡ m → Spares xs table n → Spares xs table m
 spares_at xs table n m same spares = subst (Spares xs table) same spares
 
-module _ {B : Type 0} (fleet : Fleet) (plans : List Plan) (plan : Plan) (xs : List (Hold B)) (can : CanLend fleet xs (plans ++ plan ∷ [])) where
-  pub last_plan : IsPlan fleet plan
-  last_plan = (front_all (IsPlan fleet) plans plan can.plans_are).1
+module _ {B : Type 0} (fleet : FleetShape) (plans : List LanePlan) (plan : LanePlan) (xs : List (Hold B)) (can : CanLend fleet xs (plans ++ plan ∷ [])) where
+  pub last_plan : IsLanePlan fleet plan
+  last_plan = (front_all (IsLanePlan fleet) plans plan can.plans_are).1
 
   -- a table that is marked is one of the fleet's
   pub marks_tables : length plan.needs.tables.items ≡ length fleet.names
   marks_tables = ap (λ (ms : List Bool). length ms) last_plan.needs.tables
-      ∙ (marked_by_length (table_of fleet.names) plan.commands.items (replicate (length fleet.names) false) ∙ length-replicate (length fleet.names) false)
+      ∙ (marked_by_length (table_needed fleet.names) plan.commands.items (replicate (length fleet.names) false) ∙ length-replicate (length fleet.names) false)
 
   pub marks_leaves : length plan.needs.leaves.items ≡ leaf_count fleet
   marks_leaves = ap (λ (ms : List Bool). length ms) last_plan.needs.leaves
-      ∙ (marked_by_length leaves_of plan.commands.items (replicate (leaf_count fleet) false) ∙ length-replicate (leaf_count fleet) false)
+      ∙ (marked_by_length leaves_acted_on plan.commands.items (replicate (leaf_count fleet) false) ∙ length-replicate (leaf_count fleet) false)
 
   pub lends_seats : (table : ℕ) → is_set plan.needs.tables.items table ≡ true → HasSeats xs table × Spares xs table 2
   lends_seats table marked =
@@ -167,7 +167,7 @@ module _ {B : Type 0} (fleet : Fleet) (plans : List Plan) (plan : Plan) (xs : Li
     -- the others can be lent what they need still
     pub lends_on : CanLend fleet rest plans
     lends_on = record {
-      plans_are = (front_all (IsPlan fleet) plans plan can.plans_are).0;
+      plans_are = (front_all (IsLanePlan fleet) plans plan can.plans_are).0;
       alone = λ leaf. let few = can.alone leaf in omega (arith, few, count_snoc (acts_on leaf) plans plan);
       spare = λ table below. cases (needs_at table plan) (Spares rest table (suc (count_by (needs_at table) plans)))
           (λ sure. rest_spares (is_set plan.needs.tables.items) (is_set plan.needs.leaves.items) xs off rest cut table (suc (count_by (needs_at table) plans)) sure
@@ -181,8 +181,8 @@ module _ {B : Type 0} (fleet : Fleet) (plans : List Plan) (plan : Plan) (xs : Li
     }
 
     lane_may : (cs : List Command) → AllByRecursion (IsCommand (leaf_count fleet) fleet.names) cs
-        → AllByRecursion (λ (c : Command). (i : ℕ) → IsAmong (table_of fleet.names c) i → i < length fleet.names → is_set plan.needs.tables.items i ≡ true) cs
-        → AllByRecursion (λ (c : Command). (i : ℕ) → IsAmong (leaves_of c) i → i < leaf_count fleet → is_set plan.needs.leaves.items i ≡ true) cs
+        → AllByRecursion (λ (c : Command). (i : ℕ) → IsAmong (table_needed fleet.names c) i → i < length fleet.names → is_set plan.needs.tables.items i ≡ true) cs
+        → AllByRecursion (λ (c : Command). (i : ℕ) → IsAmong (leaves_acted_on c) i → i < leaf_count fleet → is_set plan.needs.leaves.items i ≡ true) cs
         → AllByRecursion (MayPlayOn fleet off) cs
     lane_may [] are tables leaves = tt
     lane_may (c ∷ cs) are tables leaves = (
@@ -202,15 +202,15 @@ module _ {B : Type 0} (fleet : Fleet) (plans : List Plan) (plan : Plan) (xs : Li
     lane_ready =
         let cs = plan.commands.items in
         lane_may cs last_plan.commands
-        (subst (λ (ms : List Bool). AllByRecursion (λ (c : Command). (i : ℕ) → IsAmong (table_of fleet.names c) i → i < length fleet.names → is_set ms i ≡ true) cs) (sym last_plan.needs.tables)
-        (all_marked (table_of fleet.names) cs (replicate (length fleet.names) false) (length fleet.names) (length-replicate (length fleet.names) false)))
-        (subst (λ (ms : List Bool). AllByRecursion (λ (c : Command). (i : ℕ) → IsAmong (leaves_of c) i → i < leaf_count fleet → is_set ms i ≡ true) cs) (sym last_plan.needs.leaves)
-        (all_marked leaves_of cs (replicate (leaf_count fleet) false) (leaf_count fleet) (length-replicate (leaf_count fleet) false)))
+        (subst (λ (ms : List Bool). AllByRecursion (λ (c : Command). (i : ℕ) → IsAmong (table_needed fleet.names c) i → i < length fleet.names → is_set ms i ≡ true) cs) (sym last_plan.needs.tables)
+        (all_marked (table_needed fleet.names) cs (replicate (length fleet.names) false) (length fleet.names) (length-replicate (length fleet.names) false)))
+        (subst (λ (ms : List Bool). AllByRecursion (λ (c : Command). (i : ℕ) → IsAmong (leaves_acted_on c) i → i < leaf_count fleet → is_set ms i ≡ true) cs) (sym last_plan.needs.leaves)
+        (all_marked leaves_acted_on cs (replicate (leaf_count fleet) false) (leaf_count fleet) (length-replicate (leaf_count fleet) false)))
 
 -- all of it is there before anything is cut off
-pub can_lend : {B : Type 0} (fleet fleet' : Fleet) (xs ys : List (Hold B)) (plans : List Plan) → fleet' ≡ fleet → AllByRecursion (IsPlan fleet) plans → AreAlone plans → AreSpare fleet xs plans → HasAll fleet xs
+pub can_lend : {B : Type 0} (fleet fleet' : FleetShape) (xs ys : List (Hold B)) (plans : List LanePlan) → fleet' ≡ fleet → AllByRecursion (IsLanePlan fleet) plans → AreAlone plans → AreSpare fleet xs plans → HasAll fleet xs
     → StillHas xs ys → ((table n : ℕ) → Spares xs table n → Spares ys table n) → CanLend fleet' ys plans
-can_lend fleet fleet' xs ys plans same are alone spare all still spares = subst (λ (f : Fleet). CanLend f ys plans) (sym same) (record {
+can_lend fleet fleet' xs ys plans same are alone spare all still spares = subst (λ (f : FleetShape). CanLend f ys plans) (sym same) (record {
   plans_are = are;
   alone = alone;
   spare = λ table below. spares table (suc (count_by (needs_at table) plans)) (spare table below);

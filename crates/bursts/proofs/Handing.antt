@@ -3,16 +3,16 @@ use Rattle.std.proofs.Common.{◌≡◌, ◌+◌, ◌≤◌, Bool, true, false, 
 use Rattle.std.proofs.lemmas.List.{map-append}
 use Rattle.script_text.specs.declared.command.Command.{Command}
 use Rattle.rollover_watch.specs.Watches.{Held}
-use Rattle.bursts.specs.declared.plan.Plan.{Plan}
-use Rattle.bursts.specs.Needs.{commands_in}
+use Rattle.bursts.specs.declared.plan.LanePlan.{LanePlan}
+use Rattle.bursts.specs.Needs.{planned_commands}
 use Rattle.bursts.specs.Rolling.{IsHandedOver, has_rollover, one_if, rolling}
 use Rattle.bursts.proofs.Hearing.{one_if_true, rolling_append}
 
 -- one lane more is cut off, the last of those that were left
-pub all_split : (plans : List Plan) (plan : Plan) (before : List Plan) (cut all : List (List Command)) → before ≡ plans ++ plan ∷ [] → map commands_in before ++ cut ≡ all → map commands_in plans ++ commands_in plan ∷ cut ≡ all
+pub all_split : (plans : List LanePlan) (plan : LanePlan) (before : List LanePlan) (cut all : List (List Command)) → before ≡ plans ++ plan ∷ [] → map planned_commands before ++ cut ≡ all → map planned_commands plans ++ planned_commands plan ∷ cut ≡ all
 all_split plans plan before cut all items is =
-    sym (append_assoc (map commands_in plans) (commands_in plan ∷ []) cut)
-    ∙ (ap (λ (ls : List (List Command)). ls ++ cut) (sym (ap (λ (ps : List Plan). map commands_in ps) items ∙ map-append commands_in plans (plan ∷ []))) ∙ is)
+    sym (append_assoc (map planned_commands plans) (planned_commands plan ∷ []) cut)
+    ∙ (ap (λ (ls : List (List Command)). ls ++ cut) (sym (ap (λ (ps : List LanePlan). map planned_commands ps) items ∙ map-append planned_commands plans (plan ∷ []))) ∙ is)
 
 module _ (lane : List Command) (cut : List (List Command)) where
   pub few_left : (others all : List (List Command)) → others ++ lane ∷ cut ≡ all → rolling all ≤ 1 → one_if (has_rollover lane) + rolling cut ≤ 1

@@ -8,7 +8,7 @@ use Rattle.script_text.specs.Fits.{OneSteward}
 use Rattle.script_text.specs.Stewards.{has_steward, is_stewards}
 use Rattle.rollover_watch.specs.Watches.{Held}
 use Rattle.printed_lines.specs.declared.line.Line.{Line}
-use Rattle.script_text.specs.declared.fleet.Fleet.{Fleet}
+use Rattle.script_text.specs.declared.fleet.FleetShape.{FleetShape}
 use Rattle.transcript.specs.Pieces.{Piece, Played, commands_in}
 use Rattle.leaf_moves.specs.Holds.{Hold}
 use Rattle.transcript.specs.Watching.{Hears, HearsAll}
@@ -23,11 +23,11 @@ or_false true b e = absurd cc
 or_false false b e = (refl, e)
 
 -- of another command than a rollover nothing is heard
-quiet_one : (fleet : Fleet) (c : Command) (pieces : List Piece) (ws : List Held) → is_rollover c ≡ false → Hears fleet (record { command = c; pieces = pieces }) ws ws
+quiet_one : (fleet : FleetShape) (c : Command) (pieces : List Piece) (ws : List Held) → is_rollover c ≡ false → Hears fleet (record { command = c; pieces = pieces }) ws ws
 quiet_one fleet (command.Rollover percent) pieces ws never = absurd cc
 quiet_one fleet _ pieces ws never = refl
 
-quiet : (fleet : Fleet) (ps : List Played) (ws : List Held) → has_rollover (commands_in ps) ≡ false → HearsAll fleet ps ws ws
+quiet : (fleet : FleetShape) (ps : List Played) (ws : List Held) → has_rollover (commands_in ps) ≡ false → HearsAll fleet ps ws ws
 quiet fleet [] ws never = refl
 quiet fleet (p ∷ ps) ws never =
     let both = or_false (is_rollover p.command) (has_rollover (commands_in ps)) never in
@@ -44,7 +44,7 @@ front_never (c ∷ front) rest never =
     or_none (is_rollover c) (has_rollover front) both.0 (front_never front rest both.1)
 
 -- a lane without a rollover leaves any watches as they are
-pub quiet_lane : {B : Type 0} (meaning : B → Meaning) (fleet : Fleet) (lane : List Command) (xs : List (Hold B)) (old : List Held) (lines : Option (List Line)) (ys : List (Hold B)) (new : List Held)
+pub quiet_lane : {B : Type 0} (meaning : B → Meaning) (fleet : FleetShape) (lane : List Command) (xs : List (Hold B)) (old : List Held) (lines : Option (List Line)) (ys : List (Hold B)) (new : List Held)
     → LaneWent meaning fleet lane xs old lines ys new → has_rollover lane ≡ false → (ws : List Held) → LaneWent meaning fleet lane xs ws lines ys ws
 quiet_lane meaning fleet lane xs old lines ys new l never ws = record {
   played = l.played;

@@ -4,7 +4,7 @@ use Rattle.std.specs.Prelude.{slice_get}
 use Rattle.std.proofs.lemmas.List.{length-map}
 use Rattle.berth_face.specs.Berth.{Meaning}
 use Rattle.leaf_table.specs.Calls.{SeatView}
-use Rattle.script_text.specs.declared.fleet.Fleet.{Fleet}
+use Rattle.script_text.specs.declared.fleet.FleetShape.{FleetShape}
 use Rattle.transcript.specs.Pieces.{Played}
 use Rattle.leaf_moves.specs.Holds.{Hold, caller_in}
 use Rattle.leaf_moves.specs.Lanes.{CutsOff, CutsOffAt, Fans, PlaysOn, SplitsIf, TakesBack, TakesBackAt, JoinsIf}
@@ -49,7 +49,7 @@ joins_none c off none = subst (λ (o : Option SeatView). JoinsIf c o c) (sym non
     by None = refl
     by (Some s) = refl
 
-module _ {B : Type 0} (meaning : B → Meaning) (fleet : Fleet) (xs : List (Hold B)) where
+module _ {B : Type 0} (meaning : B → Meaning) (fleet : FleetShape) (xs : List (Hold B)) where
   abbrev off : List (Hold B)
   off = map (λ (x : Hold B). nothing_of x) xs
 
@@ -98,7 +98,7 @@ pub idle_snoc : (k : ℕ) → idle k ++ [] ∷ [] ≡ [] ∷ idle k
 idle_snoc zero = refl
 idle_snoc (suc k) = ap (λ (ps : List (List Played)). ps ++ [] ∷ []) (idle_snoc k)
 
-module _ {B : Type 0} (meaning : B → Meaning) (fleet : Fleet) where
+module _ {B : Type 0} (meaning : B → Meaning) (fleet : FleetShape) where
   pub idle_fans : (k : ℕ) (xs : List (Hold B)) → Fans meaning fleet xs (idle k) xs
   idle_fans zero xs = Fans.none xs [] xs refl refl
   idle_fans (suc k) xs =

@@ -7,15 +7,15 @@ use Rattle.script_text.specs.declared.command.Command.{Command}
 use Rattle.script_text.specs.declared.item.Item.TheVariants as item
 use Rattle.rollover_watch.specs.Watches.{Held}
 use Rattle.printed_lines.specs.declared.line.Line.{Line}
-use Rattle.script_text.specs.declared.fleet.Fleet.{Fleet}
+use Rattle.script_text.specs.declared.fleet.FleetShape.{FleetShape}
 use Rattle.transcript.specs.Pieces.{One, Burst, Piece, Played, lane_lines, lines_in, pieces_in}
 use Rattle.leaf_moves.specs.Holds.{Hold, AllMeet}
 use Rattle.leaf_moves.specs.Lanes.{PlaysItem}
 use Rattle.player.specs.Crew.{AllCounted, HasAll, PlaysWith, StillHas}
-use Rattle.bursts.specs.declared.plan.Plan.{Plan}
-use Rattle.bursts.specs.Needs.{ArePlans, commands_in}
+use Rattle.bursts.specs.declared.plan.LanePlan.{LanePlan}
+use Rattle.bursts.specs.Needs.{ArePlans, planned_commands}
 use Rattle.lane_play.specs.Played.{all_of}
-use Rattle.lane_play.specs.Went.{AreBegun, BesideWent, FansWent, ItemWent, OrNothing, TurnsWent, told_lines}
+use Rattle.lane_play.specs.Went.{ArePrefixes, BesideWent, FansWent, ItemWent, OrNothing, TurnsWent, told_lines}
 use Rattle.lane_play.proofs.Playing.{lanes_fit}
 use Rattle.bursts.proofs.Taking.{fans_short}
 use Rattle.transcript.specs.Pieces as pieces
@@ -29,7 +29,7 @@ use Rattle.lane_play.proofs.Held.{all_counted_on, counted_met, still_leaf, still
 alone_pieces : (lanes : List (List Played)) → pieces_in (all_of lanes ++ []) ≡ pieces_in (all_of lanes)
 alone_pieces lanes = ap pieces_in (append-nil (all_of lanes))
 
-module _ {B : Type 0} (meaning : B → Meaning) (fleet : Fleet) (xs ys : List (Hold B)) (us vs : List Held) where
+module _ {B : Type 0} (meaning : B → Meaning) (fleet : FleetShape) (xs ys : List (Hold B)) (us vs : List Held) where
   pub one_went : {E : Type 0} (c : Command) (result : Result (Vec Line Global) E) → (PlaysWith meaning fleet c xs us result ys vs) ⊎ (IsErr result × (ys ≡ xs) × (vs ≡ us))
       → OrNothing (ItemWent meaning fleet (item.One c) xs us (told_lines result) ys vs) xs us (told_lines result) ys vs
   one_went {E = E} c result (inl p) =
@@ -54,7 +54,7 @@ module _ {B : Type 0} (meaning : B → Meaning) (fleet : Fleet) (xs ys : List (H
   pub turns_went : (cut lanes : List (List Command)) (lines : Option (List Line)) → cut ≡ lanes → TurnsWent meaning fleet cut xs us lines ys vs → ItemWent meaning fleet (item.Burst lanes) xs us lines ys vs
   turns_went cut lanes lines are went = record {
     played = Burst went.played;
-    begun = subst (λ ls. AreBegun (map pieces.commands_in went.played) ls) are went.begun;
+    begun = subst (λ ls. ArePrefixes (map pieces.commands_in went.played) ls) are went.begun;
     plays = PlaysItem.in_turn went.played refl went.plays;
     counted = subst (λ (ps : List Piece). AllCounted meaning ps xs ys) (sym (alone_pieces went.played)) went.counted;
     fit = lanes_fit fleet.names 0 went.played went.fit;
@@ -70,7 +70,7 @@ module _ {B : Type 0} (meaning : B → Meaning) (fleet : Fleet) (xs ys : List (H
   pub beside_went : (cut lanes : List (List Command)) (lines : Option (List Line)) → cut ≡ lanes → BesideWent meaning fleet cut xs us lines ys vs → ItemWent meaning fleet (item.Burst lanes) xs us lines ys vs
   beside_went cut lanes lines are went = record {
     played = Burst went.fans.played;
-    begun = subst (λ ls. AreBegun (map pieces.commands_in went.fans.played) ls) are went.fans.begun;
+    begun = subst (λ ls. ArePrefixes (map pieces.commands_in went.fans.played) ls) are went.fans.begun;
     plays = PlaysItem.beside went.fans.played went.met refl went.meet went.fans.fans;
     counted = subst (λ (ps : List Piece). AllCounted meaning ps xs ys) (sym (alone_pieces went.fans.played))
         (all_counted_on meaning xs went.met ys [] (pieces_in (all_of went.fans.played)) (counted_met meaning xs went.met went.meet) went.fans.counted);
@@ -97,35 +97,35 @@ module _ {B : Type 0} (meaning : B → Meaning) (fleet : Fleet) (xs ys : List (H
   lines_of_item x (Ok ls) (inr none) = let wrong = none.refused in absurd cc
 
 -- a burst's lanes are those of the plans
-pub plans_lanes : (fleet : Fleet) (lanes : List (List Command)) (plans : List Plan) → ArePlans fleet lanes plans → map commands_in plans ≡ lanes
+pub plans_lanes : (fleet : FleetShape) (lanes : List (List Command)) (plans : List LanePlan) → ArePlans fleet lanes plans → map planned_commands plans ≡ lanes
 plans_lanes fleet [] [] are = refl
 plans_lanes fleet [] (p ∷ ps) are = absurd are
 plans_lanes fleet (l ∷ ls) [] are = absurd are
-plans_lanes fleet (l ∷ ls) (p ∷ ps) are = let first : p.commands.items ≡ l = are.0.lane_is in let more : map commands_in ps ≡ ls = plans_lanes fleet ls ps are.1 in cc
+plans_lanes fleet (l ∷ ls) (p ∷ ps) are = let first : p.commands.items ≡ l = are.0.lane_is in let more : map planned_commands ps ≡ ls = plans_lanes fleet ls ps are.1 in cc
 
 -- all is held still
-pub all_on : {B : Type 0} (fleet fleet' : Fleet) (xs ys : List (Hold B)) → fleet' ≡ fleet → StillHas xs ys → HasAll fleet xs → HasAll fleet' ys
-all_on fleet fleet' xs ys same still all = subst (λ (f : Fleet). HasAll f ys) (sym same) (record {
+pub all_on : {B : Type 0} (fleet fleet' : FleetShape) (xs ys : List (Hold B)) → fleet' ≡ fleet → StillHas xs ys → HasAll fleet xs → HasAll fleet' ys
+all_on fleet fleet' xs ys same still all = subst (λ (f : FleetShape). HasAll f ys) (sym same) (record {
   leaves = λ leaf. still_leaf xs ys still leaf (all.leaves leaf);
   seats = λ table below. still_seats xs ys still table (all.seats table below);
 })
 
 -- lanes that played once all seats had met
-pub beside_from : {B : Type 0} (meaning : B → Meaning) (fleet fleet' : Fleet) (whole : Type 0) (xs met ys : List (Hold B)) (us vs : List Held) (cut lanes : List (List Command)) (lines : Option (List Line)) → fleet' ≡ fleet → cut ≡ lanes → AllMeet meaning xs met → whole
+pub beside_from : {B : Type 0} (meaning : B → Meaning) (fleet fleet' : FleetShape) (whole : Type 0) (xs met ys : List (Hold B)) (us vs : List Held) (cut lanes : List (List Command)) (lines : Option (List Line)) → fleet' ≡ fleet → cut ≡ lanes → AllMeet meaning xs met → whole
     → FansWent meaning fleet' whole cut met us lines ys vs → BesideWent meaning fleet lanes xs us lines ys vs
 beside_from meaning fleet fleet' whole xs met ys us vs cut lanes lines same all meet sure fans = record {
   met = met;
   meet = meet;
-  fans = subst (λ (f : Fleet). FansWent meaning f ⊤ lanes met us lines ys vs) same (subst (λ (cs : List (List Command)). FansWent meaning fleet' ⊤ cs met us lines ys vs) all
+  fans = subst (λ (f : FleetShape). FansWent meaning f ⊤ lanes met us lines ys vs) same (subst (λ (cs : List (List Command)). FansWent meaning fleet' ⊤ cs met us lines ys vs) all
       (record { played = fans.played; begun = fans.begun; fans = fans.fans; counted = fans.counted; fit = fans.fit; heard = fans.heard; lines_are = λ t. fans.lines_are sure }));
 }
 
 -- of the lanes the first could not be cut off
-pub beside_short : {B : Type 0} (meaning : B → Meaning) (fleet fleet' : Fleet) (whole : Type 0) (xs met ys : List (Hold B)) (us vs : List Held) (front cut lanes : List (List Command)) (lines : Option (List Line)) → fleet' ≡ fleet → front ++ cut ≡ lanes → AllMeet meaning xs met
+pub beside_short : {B : Type 0} (meaning : B → Meaning) (fleet fleet' : FleetShape) (whole : Type 0) (xs met ys : List (Hold B)) (us vs : List Held) (front cut lanes : List (List Command)) (lines : Option (List Line)) → fleet' ≡ fleet → front ++ cut ≡ lanes → AllMeet meaning xs met
     → FansWent meaning fleet' whole cut met us lines ys vs → BesideWent meaning fleet lanes xs us None ys vs
 beside_short meaning fleet fleet' whole xs met ys us vs front cut lanes lines same all meet fans = record {
   met = met;
   meet = meet;
-  fans = subst (λ (f : Fleet). FansWent meaning f ⊤ lanes met us None ys vs) same (subst (λ (cs : List (List Command)). FansWent meaning fleet' ⊤ cs met us None ys vs) all
+  fans = subst (λ (f : FleetShape). FansWent meaning f ⊤ lanes met us None ys vs) same (subst (λ (cs : List (List Command)). FansWent meaning fleet' ⊤ cs met us None ys vs) all
       (fans_short meaning fleet' whole front cut met us lines ys vs fans));
 }

@@ -7,17 +7,17 @@ use Rattle.berth_face.specs.Berth.{Meaning}
 use Rattle.leaf_table.specs.Turns.{Shared}
 use Rattle.script_text.specs.declared.command.Command.{Command}
 use Rattle.rollover_watch.specs.Watches.{Held}
-use Rattle.script_text.specs.declared.fleet.Fleet.{Fleet}
+use Rattle.script_text.specs.declared.fleet.FleetShape.{FleetShape}
 use Rattle.leaf_moves.specs.Holds.{Hold}
 use Rattle.leaf_moves.specs.Lanes.{CutsOff}
 use Rattle.player.specs.Crew.{AllPass, CrewState, StillHas, is_set}
 use Rattle.bursts.specs.declared.work.LaneWork.{LaneWork}
-use Rattle.bursts.specs.Lent.{IsDone, IsReady, IsWorked, Lent, MayWork}
+use Rattle.bursts.specs.Lent.{LaneIsDone, LaneIsReady, IsWorked, Lent, MayWork}
 use Rattle.lane_play.specs.Played.{MayPlayOn}
 use Rattle.lane_play.specs.Went.{LaneWent, own_lines}
 use Rattle.lane_play.proofs.Playing.{plays_none}
 use Rattle.bursts.specs.Rolling.{has_rollover}
-use Rattle.bursts.specs.declared.plan.Plan.{Plan}
+use Rattle.bursts.specs.declared.plan.LanePlan.{LanePlan}
 use Rattle.bursts.specs.Needs.{CanLend}
 use Rattle.bursts.proofs.Cutting.{lane_ready}
 use Rattle.lane_play.proofs.Held.{counted_none, pass_none, still_same}
@@ -137,7 +137,7 @@ module _ {B X : Type 0} {Y : X → Type 0} (count : ℕ) (P Q : List Command →
       (ap (λ (n : ℕ). n + suc (length later)) (numbers work last.last last.is) ∙ number) last.are are
 
 -- of a lane that has not begun nothing was played
-lane_idle : {B : Type 0} (meaning : B → Meaning) (fleet : Fleet) (lane : List Command) (xs : List (Hold B)) (ws : List Held) → LaneWent meaning fleet lane xs ws None xs ws
+lane_idle : {B : Type 0} (meaning : B → Meaning) (fleet : FleetShape) (lane : List Command) (xs : List (Hold B)) (ws : List Held) → LaneWent meaning fleet lane xs ws None xs ws
 lane_idle meaning fleet lane xs ws = record {
   played = [];
   rest = lane;
@@ -151,8 +151,8 @@ lane_idle meaning fleet lane xs ws = record {
 
 -- ---- lanes that play
 
-module _ {B X : Type 0} {Y : X → Type 0} (hear : LaneWork B X Y → List Held) (was : List Held) (meaning : B → Meaning) (fleet : Fleet) (tables : List (List Shared)) where
-  pub ready_done : (lane : List Command) (off : List (Hold B)) (w w' : LaneWork B X Y) → IsReady hear was fleet tables lane off w → IsDone hear meaning w w' → IsWorked hear was meaning fleet tables lane off w'
+module _ {B X : Type 0} {Y : X → Type 0} (hear : LaneWork B X Y → List Held) (was : List Held) (meaning : B → Meaning) (fleet : FleetShape) (tables : List (List Shared)) where
+  pub ready_done : (lane : List Command) (off : List (Hold B)) (w w' : LaneWork B X Y) → LaneIsReady hear was fleet tables lane off w → LaneIsDone hear meaning w w' → IsWorked hear was meaning fleet tables lane off w'
   ready_done lane off w w' ready done = record {
     fleet_is = done.fleet ∙ ready.fleet_is;
     tables_are = done.tables ∙ ready.tables_are;
@@ -163,11 +163,11 @@ module _ {B X : Type 0} {Y : X → Type 0} (hear : LaneWork B X Y → List Held)
     watches = ready.watches;
     went = subst (λ (hs : List (Hold B)). LaneWent meaning fleet lane hs (hear w) (own_lines w'.lines) w'.crew.holds (hear w')) ready.off_is
         (subst (λ (cs : List Command). LaneWent meaning fleet cs w.crew.holds (hear w) (own_lines w'.lines) w'.crew.holds (hear w')) ready.lane_is
-        (subst (λ (f : Fleet). LaneWent meaning f w.commands.items w.crew.holds (hear w) (own_lines w'.lines) w'.crew.holds (hear w')) ready.fleet_is done.went));
+        (subst (λ (f : FleetShape). LaneWent meaning f w.commands.items w.crew.holds (hear w) (own_lines w'.lines) w'.crew.holds (hear w')) ready.fleet_is done.went));
   }
 
   -- a lane that did not begin
-  pub ready_idle : (lane : List Command) (off : List (Hold B)) (w : LaneWork B X Y) → IsReady hear was fleet tables lane off w → IsWorked hear was meaning fleet tables lane off w
+  pub ready_idle : (lane : List Command) (off : List (Hold B)) (w : LaneWork B X Y) → LaneIsReady hear was fleet tables lane off w → IsWorked hear was meaning fleet tables lane off w
   ready_idle lane off w ready = record {
     fleet_is = ready.fleet_is;
     tables_are = ready.tables_are;
@@ -181,22 +181,22 @@ module _ {B X : Type 0} {Y : X → Type 0} (hear : LaneWork B X Y → List Held)
   }
 
   pub all_idle : (count : ℕ) (xs : List (Hold B)) (works : List (LaneWork B X Y)) (lanes : List (List Command)) (rest : List (Hold B))
-      → Lent count (IsReady hear was fleet tables) xs works lanes rest → Lent count (IsWorked hear was meaning fleet tables) xs works lanes rest
+      → Lent count (LaneIsReady hear was fleet tables) xs works lanes rest → Lent count (IsWorked hear was meaning fleet tables) xs works lanes rest
   all_idle count xs works lanes rest (Lent.none k ws ls r empty no_lanes same) = Lent.none xs works lanes rest empty no_lanes same
   all_idle count xs works lanes rest (Lent.more k ws ls r earlier later between work lane off needs acts lent cut one number all are) =
       Lent.more xs works lanes rest earlier later between work lane off needs acts (all_idle count xs earlier later between lent) cut (ready_idle lane off work one) number all are
 
   pub all_done : (count : ℕ) (xs : List (Hold B)) (works works' : List (LaneWork B X Y)) (lanes : List (List Command)) (rest : List (Hold B))
-      → Lent count (IsReady hear was fleet tables) xs works lanes rest → length works' ≡ length works
-      → ((i : ℕ) (d : LaneWork B X Y) → i < length works → IsDone hear meaning (slice_index_or works i d) (slice_index_or works' i d))
+      → Lent count (LaneIsReady hear was fleet tables) xs works lanes rest → length works' ≡ length works
+      → ((i : ℕ) (d : LaneWork B X Y) → i < length works → LaneIsDone hear meaning (slice_index_or works i d) (slice_index_or works' i d))
       → Lent count (IsWorked hear was meaning fleet tables) xs works' lanes rest
   all_done count xs works works' lanes rest lent long each =
-      lent_becomes count (IsReady hear was fleet tables) (IsWorked hear was meaning fleet tables) (IsDone hear meaning) ready_done (λ w w' done. done.number) xs works works' lanes rest lent
-      (pairs_from (IsDone hear meaning) works works' long each)
+      lent_becomes count (LaneIsReady hear was fleet tables) (IsWorked hear was meaning fleet tables) (LaneIsDone hear meaning) ready_done (λ w w' done. done.number) xs works works' lanes rest lent
+      (pairs_from (LaneIsDone hear meaning) works works' long each)
 
   -- each may play
   pub all_may_work : (count : ℕ) (xs : List (Hold B)) (works : List (LaneWork B X Y)) (lanes : List (List Command)) (rest : List (Hold B))
-      → Lent count (IsReady hear was fleet tables) xs works lanes rest → (i : ℕ) (d : LaneWork B X Y) → i < length works → MayWork (slice_index_or works i d)
+      → Lent count (LaneIsReady hear was fleet tables) xs works lanes rest → (i : ℕ) (d : LaneWork B X Y) → i < length works → MayWork (slice_index_or works i d)
   all_may_work count xs works lanes rest (Lent.none k ws ls r empty no_lanes same) i d below = absurd (omega (arith, below, ap (λ (ws : List (LaneWork B X Y)). length ws) empty))
   all_may_work count xs works lanes rest (Lent.more k ws ls r earlier later between work lane off needs acts lent cut one number all are) i d below =
       subst (λ (ws : List (LaneWork B X Y)). MayWork (slice_index_or ws i d)) (sym all)
@@ -209,9 +209,9 @@ module _ {B X : Type 0} {Y : X → Type 0} (hear : LaneWork B X Y → List Held)
       either (w ∷ front) (suc i) below each = either front i (omega (arith, below)) (λ j under. each (suc j) (omega (arith, under)))
 
 -- something is cut off for one lane more
-module _ {B X : Type 0} {Y : X → Type 0} (hear : LaneWork B X Y → List Held) (was : List Held) (fleet : Fleet) (tables : List (List Shared)) (count : ℕ) where
+module _ {B X : Type 0} {Y : X → Type 0} (hear : LaneWork B X Y → List Held) (was : List Held) (fleet : FleetShape) (tables : List (List Shared)) (count : ℕ) where
   -- what its lane is made of
-  pub record IsMadeOf (off : CrewState B) (plan : Plan) (number : ℕ) (work : LaneWork B X Y) : Type 0 where
+  pub record IsMadeOf (off : CrewState B) (plan : LanePlan) (number : ℕ) (work : LaneWork B X Y) : Type 0 where
     pub number_is : work.number ≡ number
     pub crew_is : work.crew ≡ off
     pub commands_are : work.commands.items ≡ plan.commands.items
@@ -219,14 +219,14 @@ module _ {B X : Type 0} {Y : X → Type 0} (hear : LaneWork B X Y → List Held)
     pub watches : has_rollover plan.commands.items ≡ true → hear work ≡ was
     pub unplayed : work.lines ≡ None
 
-  pub cut_more : (xs hs hs' : List (Hold B)) (works works' : List (LaneWork B X Y)) (work : LaneWork B X Y) (cut : List (List Command)) (off : CrewState B) (plan : Plan) (number : ℕ) (plans : List Plan)
-      → Lent count (IsReady hear was fleet tables) xs works cut hs
+  pub cut_more : (xs hs hs' : List (Hold B)) (works works' : List (LaneWork B X Y)) (work : LaneWork B X Y) (cut : List (List Command)) (off : CrewState B) (plan : LanePlan) (number : ℕ) (plans : List LanePlan)
+      → Lent count (LaneIsReady hear was fleet tables) xs works cut hs
       → CutsOff (is_set plan.needs.tables.items) (is_set plan.needs.leaves.items) hs off.holds hs'
       → CanLend fleet hs (plans ++ plan ∷ [])
       → off.fleet ≡ fleet → off.tables ≡ tables → number + suc (length cut) ≡ count
       → IsMadeOf off plan number work
       → works' ≡ works ++ work ∷ []
-      → Lent count (IsReady hear was fleet tables) xs works' (plan.commands.items ∷ cut) hs'
+      → Lent count (LaneIsReady hear was fleet tables) xs works' (plan.commands.items ∷ cut) hs'
   cut_more xs hs hs' works works' work cut off plan number plans lent cuts can fleet_is tables_are number_is made is =
       Lent.more xs works' (plan.commands.items ∷ cut) hs' works cut hs work plan.commands.items off.holds (is_set plan.needs.tables.items) (is_set plan.needs.leaves.items) lent cuts
       (record {
@@ -236,7 +236,7 @@ module _ {B X : Type 0} {Y : X → Type 0} (hear : LaneWork B X Y → List Held)
         off_is = ap (λ (c : CrewState B). c.holds) made.crew_is;
         may = subst (λ (cs : List Command). AllByRecursion (MayPlayOn work.crew.fleet work.crew.holds) cs) (sym made.commands_are)
             (subst (λ (c : CrewState B). AllByRecursion (MayPlayOn c.fleet c.holds) plan.commands.items) (sym made.crew_is)
-            (subst (λ (f : Fleet). AllByRecursion (MayPlayOn f off.holds) plan.commands.items) (sym fleet_is) (lane_ready fleet plans plan hs can off.holds hs' cuts)));
+            (subst (λ (f : FleetShape). AllByRecursion (MayPlayOn f off.holds) plan.commands.items) (sym fleet_is) (lane_ready fleet plans plan hs can off.holds hs' cuts)));
         rolls = made.rolls;
         watches = made.watches;
         unplayed = made.unplayed;
@@ -244,17 +244,17 @@ module _ {B X : Type 0} {Y : X → Type 0} (hear : LaneWork B X Y → List Held)
       (ap (λ (n : ℕ). n + suc (length cut)) made.number_is ∙ number_is) is refl
 
 -- all have played, or none has
-module _ {B X : Type 0} {Y : X → Type 0} (hear : LaneWork B X Y → List Held) (was : List Held) (meaning : B → Meaning) (fleet fleet' : Fleet) (tables tables' : List (List Shared)) (count : ℕ) (xs rest : List (Hold B)) (works : List (LaneWork B X Y)) (cut : List (List Command))
-    (fleet_is : fleet' ≡ fleet) (tables_are : tables' ≡ tables) (lent : Lent count (IsReady hear was fleet tables) xs works cut rest) where
+module _ {B X : Type 0} {Y : X → Type 0} (hear : LaneWork B X Y → List Held) (was : List Held) (meaning : B → Meaning) (fleet fleet' : FleetShape) (tables tables' : List (List Shared)) (count : ℕ) (xs rest : List (Hold B)) (works : List (LaneWork B X Y)) (cut : List (List Command))
+    (fleet_is : fleet' ≡ fleet) (tables_are : tables' ≡ tables) (lent : Lent count (LaneIsReady hear was fleet tables) xs works cut rest) where
   over : (ws : List (LaneWork B X Y)) → Lent count (IsWorked hear was meaning fleet tables) xs ws cut rest → Lent count (IsWorked hear was meaning fleet' tables') xs ws cut rest
-  over ws l = subst (λ (f : Fleet). Lent count (IsWorked hear was meaning f tables') xs ws cut rest) (sym fleet_is) (subst (λ (ts : List (List Shared)). Lent count (IsWorked hear was meaning fleet ts) xs ws cut rest) (sym tables_are) l)
+  over ws l = subst (λ (f : FleetShape). Lent count (IsWorked hear was meaning f tables') xs ws cut rest) (sym fleet_is) (subst (λ (ts : List (List Shared)). Lent count (IsWorked hear was meaning fleet ts) xs ws cut rest) (sym tables_are) l)
 
   pub none_played : Lent count (IsWorked hear was meaning fleet' tables') xs works cut rest
   none_played = over works (all_idle hear was meaning fleet tables count xs works cut rest lent)
 
   -- as they stand in the list that was lent
   pub all_played : (now now' : List (LaneWork B X Y)) (len : ℕ) → now ≡ works → length now' ≡ length now → len ≡ length works
-      → ((i : ℕ) (d : LaneWork B X Y) → i < length now → IsDone hear meaning (slice_index_or now i d) (slice_index_or now' i d))
+      → ((i : ℕ) (d : LaneWork B X Y) → i < length now → LaneIsDone hear meaning (slice_index_or now i d) (slice_index_or now' i d))
       → Lent count (IsWorked hear was meaning fleet' tables') xs (take len (now' ++ drop (length now') works)) cut rest
   all_played now now' len same long size each =
       let whole : length now' ≡ length works = long ∙ ap (λ (ws : List (LaneWork B X Y)). length ws) same in
@@ -262,4 +262,4 @@ module _ {B X : Type 0} {Y : X → Type 0} (hear : LaneWork B X Y → List Held)
       ap (λ (n : ℕ). take n (now' ++ drop (length now') works)) (size ∙ sym whole) ∙ take-append_seam now' (drop (length now') works) in
       subst (λ (ws : List (LaneWork B X Y)). Lent count (IsWorked hear was meaning fleet' tables') xs ws cut rest) (sym are)
       (over now' (all_done hear was meaning fleet tables count xs works now' cut rest lent whole
-      (subst (λ (ws : List (LaneWork B X Y)). (i : ℕ) (d : LaneWork B X Y) → i < length ws → IsDone hear meaning (slice_index_or ws i d) (slice_index_or now' i d)) same each)))
+      (subst (λ (ws : List (LaneWork B X Y)). (i : ℕ) (d : LaneWork B X Y) → i < length ws → LaneIsDone hear meaning (slice_index_or ws i d) (slice_index_or now' i d)) same each)))

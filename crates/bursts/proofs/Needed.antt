@@ -7,19 +7,20 @@ use Rattle.std.proofs.lemmas.List.{length-replicate, length-set}
 use Rattle.std.proofs.lemmas.List.Sums.{length-filter}
 use Rattle.std.proofs.lemmas.Slice.Eq.{bytes_eq-Decides}
 use Rattle.script_text.specs.declared.command.Command.{Command}
-use Rattle.script_text.specs.declared.command.Command.TheVariants as command
+use Rattle.script_text.specs.declared.order.Order.{Order}
+use Rattle.script_text.specs.declared.order.Order.TheVariants as order
 use Rattle.script_text.specs.Aims.{Aim, AtFleet, AtLeaf, AtLeaves, AtNamed, AtRun, AtTable, IsAim, aim_of, is_for_steward}
 use Rattle.script_text.specs.Fits.{IsCommand, OneSteward}
+use Rattle.script_text.specs.Orders.{IsOrder}
 use Rattle.script_text.specs.Stewards.{has_steward, is_stewards}
-use Rattle.script_text.specs.declared.fleet.Fleet.{Fleet}
+use Rattle.script_text.specs.declared.fleet.FleetShape.{FleetShape}
 use Rattle.script_text.specs.Commands.{leaf_count}
 use Rattle.script_text.proofs.Aimed.{aim_fits, stewards_aim}
 use Rattle.transcript.specs.Pieces.{place_among}
 use Rattle.leaf_moves.specs.Holds.{Hold}
-use Rattle.leaf_moves.specs.Plays.{MayPlay}
-use Rattle.player.specs.Crew.{HasAimed, HasAll, HasFor, HasLeaf, HasSeats, is_set}
-use Rattle.bursts.specs.declared.plan.Plan.{Plan}
-use Rattle.bursts.specs.Needs.{AreAlone, ArePlans, Everywhere, IsAmong, IsPlan, IsPlanOf, Nowhere, OnlyAt, Places, acts_on, leaves_at, leaves_of, marked, marked_by, needed, table_at, table_of}
+use Rattle.player.specs.Crew.{HasAimed, HasAll, HasFor, HasLeaf, HasOrder, HasSeats, is_set}
+use Rattle.bursts.specs.declared.plan.LanePlan.{LanePlan}
+use Rattle.bursts.specs.Needs.{AreAlone, ArePlans, Everywhere, IsAmong, IsLanePlan, IsPlanOf, Nowhere, OnlyAt, NeededPlaces, acts_on, leaves_aimed_at, leaves_acted_on, marked, marked_by, needed, table_aimed_at, table_needed}
 use Rattle.lane_play.specs.Played.{MayPlayOn}
 
 -- ---- commands
@@ -42,28 +43,28 @@ pub place_below : (name : List ℕ) (names : List (List ℕ)) → Contains names
 place_below name names has = known_place name names has.0 has.1 has.2
 
 -- whom a command is for, where that is known
-pub aimed_within : (fleet : Fleet) (c : Command) (aim : Aim) → aim ≡ aim_of c → IsCommand (leaf_count fleet) fleet.names c → IsAim (leaf_count fleet) fleet.names aim
+pub aimed_within : (fleet : FleetShape) (c : Command) (aim : Aim) → aim ≡ aim_of c → IsCommand (leaf_count fleet) fleet.names c → IsAim (leaf_count fleet) fleet.names aim
 aimed_within fleet c aim is may = subst (IsAim (leaf_count fleet) fleet.names) (sym is) (aim_fits (leaf_count fleet) fleet.names c may)
 
 -- the marks of a command by whom it is for
-pub tables_marked : (names : List (List ℕ)) (c : Command) (aim : Aim) (old new : List Bool) → aim ≡ aim_of c → new ≡ marked (table_at names aim) old → new ≡ marked (table_of names c) old
-tables_marked names c aim old new is marks = marks ∙ ap (λ a. marked (table_at names a) old) is
+pub tables_marked : (names : List (List ℕ)) (c : Command) (aim : Aim) (old new : List Bool) → aim ≡ aim_of c → new ≡ marked (table_aimed_at names aim) old → new ≡ marked (table_needed names c) old
+tables_marked names c aim old new is marks = marks ∙ ap (λ a. marked (table_aimed_at names a) old) is
 
-pub leaves_marked : (c : Command) (aim : Aim) (old new : List Bool) → aim ≡ aim_of c → new ≡ marked (leaves_at aim) old → new ≡ marked (leaves_of c) old
-leaves_marked c aim old new is marks = marks ∙ ap (λ a. marked (leaves_at a) old) is
+pub leaves_marked : (c : Command) (aim : Aim) (old new : List Bool) → aim ≡ aim_of c → new ≡ marked (leaves_aimed_at aim) old → new ≡ marked (leaves_acted_on c) old
+leaves_marked c aim old new is marks = marks ∙ ap (λ a. marked (leaves_aimed_at a) old) is
 
 -- the table that a command needs seats at is one of the fleet's
-table_within : (fleet : Fleet) (aim : Aim) (table : ℕ) → IsAim (leaf_count fleet) fleet.names aim → IsAmong (table_at fleet.names aim) table → table < length fleet.names
+table_within : (fleet : FleetShape) (aim : Aim) (table : ℕ) → IsAim (leaf_count fleet) fleet.names aim → IsAmong (table_aimed_at fleet.names aim) table → table < length fleet.names
 table_within fleet (AtTable t) table is at = subst (λ k. k < length fleet.names) at is
 table_within fleet (AtNamed name) table is at = subst (λ k. k < length fleet.names) at (place_below name fleet.names is)
 table_within fleet _ table is at = absurd at
 
-pub table_below : (fleet : Fleet) (c : Command) (table : ℕ) → IsCommand (leaf_count fleet) fleet.names c → IsAmong (table_of fleet.names c) table → table < length fleet.names
+pub table_below : (fleet : FleetShape) (c : Command) (table : ℕ) → IsCommand (leaf_count fleet) fleet.names c → IsAmong (table_needed fleet.names c) table → table < length fleet.names
 table_below fleet c table is = table_within fleet (aim_of c) table (aim_fits (leaf_count fleet) fleet.names c is)
 
-module _ {B : Type 0} (fleet : Fleet) (xs : List (Hold B)) where
-  has_aimed : (aim : Aim) → IsAim (leaf_count fleet) fleet.names aim → ((table : ℕ) → IsAmong (table_at fleet.names aim) table → HasSeats xs table)
-      → ((leaf : ℕ) → IsAmong (leaves_at aim) leaf → leaf < leaf_count fleet → HasLeaf xs leaf) → HasAimed fleet xs aim
+module _ {B : Type 0} (fleet : FleetShape) (xs : List (Hold B)) where
+  has_aimed : (aim : Aim) → IsAim (leaf_count fleet) fleet.names aim → ((table : ℕ) → IsAmong (table_aimed_at fleet.names aim) table → HasSeats xs table)
+      → ((leaf : ℕ) → IsAmong (leaves_aimed_at aim) leaf → leaf < leaf_count fleet → HasLeaf xs leaf) → HasAimed fleet xs aim
   has_aimed AtFleet is seats leaves = absurd is
   has_aimed (AtTable table) is seats leaves = seats table refl
   has_aimed (AtNamed name) is seats leaves = seats (place_among name fleet.names) refl
@@ -71,16 +72,20 @@ module _ {B : Type 0} (fleet : Fleet) (xs : List (Hold B)) where
   has_aimed AtLeaves is seats leaves = λ leaf below. leaves leaf tt below
   has_aimed AtRun is seats leaves = absurd is
 
-  pub has_for : (c : Command) → IsCommand (leaf_count fleet) fleet.names c → ((table : ℕ) → IsAmong (table_of fleet.names c) table → HasSeats xs table)
-      → ((leaf : ℕ) → IsAmong (leaves_of c) leaf → leaf < leaf_count fleet → HasLeaf xs leaf) → HasFor fleet xs c
+  pub has_for : (c : Command) → IsCommand (leaf_count fleet) fleet.names c → ((table : ℕ) → IsAmong (table_needed fleet.names c) table → HasSeats xs table)
+      → ((leaf : ℕ) → IsAmong (leaves_acted_on c) leaf → leaf < leaf_count fleet → HasLeaf xs leaf) → HasFor fleet xs c
   has_for c is = has_aimed (aim_of c) (aim_fits (leaf_count fleet) fleet.names c is)
 
   pub all_has_command : HasAll fleet xs → (c : Command) → IsCommand (leaf_count fleet) fleet.names c → HasFor fleet xs c
   all_has_command all c is = has_for c is (λ table at. all.seats table (table_below fleet c table is at)) (λ leaf at below. all.leaves leaf)
 
-  pub all_has_for : HasAll fleet xs → (c : Command) → MayPlay fleet c → HasFor fleet xs c
-  all_has_for all (command.Fleet machines per_machine tables) may = all.leaves
-  all_has_for all c may = all_has_command all c may
+  pub all_has_order : HasAll fleet xs → (o : Order) → IsOrder (leaf_count fleet) fleet.names o → HasOrder fleet xs o
+  all_has_order all order.Start may = all.leaves
+  all_has_order all (order.Call leaf table r) may = all.seats table may.1
+  all_has_order all (order.Deed leaf d) may = all.leaves leaf
+  all_has_order all (order.Query q) may = all.seats (place_among q.table fleet.names) (place_below q.table fleet.names may.0)
+  all_has_order all (order.Tail key table rows) may = all.seats table may.0
+  all_has_order all (order.Rollover percent) may = λ leaf below. all.leaves leaf
 
   pub all_may : HasAll fleet xs → (cs : List Command) → AllByRecursion (IsCommand (leaf_count fleet) fleet.names) cs → AllByRecursion (MayPlayOn fleet xs) cs
   all_may all [] are = tt
@@ -126,32 +131,32 @@ set_below [] i e = absurd cc
 set_below (m ∷ ms) zero e = omega arith
 set_below (m ∷ ms) (suc i) e = let below = set_below ms i e in omega (arith, below)
 
-pub marked_length : (place : Places) (marks : List Bool) → length (marked place marks) ≡ length marks
+pub marked_length : (place : NeededPlaces) (marks : List Bool) → length (marked place marks) ≡ length marks
 marked_length Nowhere marks = refl
 marked_length (OnlyAt j) marks = length-set marks j true
 marked_length Everywhere marks = length-replicate (length marks) true
 
-pub marked_by_length : (place : Command → Places) (cs : List Command) (marks : List Bool) → length (marked_by place cs marks) ≡ length marks
+pub marked_by_length : (place : Command → NeededPlaces) (cs : List Command) (marks : List Bool) → length (marked_by place cs marks) ≡ length marks
 marked_by_length place [] marks = refl
 marked_by_length place (c ∷ cs) marks = marked_by_length place cs (marked (place c) marks) ∙ marked_length (place c) marks
 
-marked_kept : (place : Places) (marks : List Bool) (i : ℕ) → is_set marks i ≡ true → is_set (marked place marks) i ≡ true
+marked_kept : (place : NeededPlaces) (marks : List Bool) (i : ℕ) → is_set marks i ≡ true → is_set (marked place marks) i ≡ true
 marked_kept Nowhere marks i e = e
 marked_kept (OnlyAt j) marks i e = set_kept marks j i e
 marked_kept Everywhere marks i e = all_set (length marks) i (set_below marks i e)
 
-all_kept : (place : Command → Places) (cs : List Command) (marks : List Bool) (i : ℕ) → is_set marks i ≡ true → is_set (marked_by place cs marks) i ≡ true
+all_kept : (place : Command → NeededPlaces) (cs : List Command) (marks : List Bool) (i : ℕ) → is_set marks i ≡ true → is_set (marked_by place cs marks) i ≡ true
 all_kept place [] marks i e = e
 all_kept place (c ∷ cs) marks i e = all_kept place cs (marked (place c) marks) i (marked_kept (place c) marks i e)
 
-marked_there : (place : Places) (marks : List Bool) (i : ℕ) → IsAmong place i → i < length marks → is_set (marked place marks) i ≡ true
+marked_there : (place : NeededPlaces) (marks : List Bool) (i : ℕ) → IsAmong place i → i < length marks → is_set (marked place marks) i ≡ true
 marked_there Nowhere marks i at below = absurd at
 marked_there (OnlyAt j) marks i at below =
     subst (λ k. is_set (slice_set marks j true) k ≡ true) at (set_there marks j (subst (λ k. k < length marks) (sym at) below))
 marked_there Everywhere marks i at below = all_set (length marks) i below
 
 -- whatever a command needs is marked
-pub all_marked : (place : Command → Places) (cs : List Command) (marks : List Bool) (n : ℕ) → length marks ≡ n
+pub all_marked : (place : Command → NeededPlaces) (cs : List Command) (marks : List Bool) (n : ℕ) → length marks ≡ n
     → AllByRecursion (λ (c : Command). (i : ℕ) → IsAmong (place c) i → i < n → is_set (marked_by place cs marks) i ≡ true) cs
 all_marked place [] marks n long = tt
 all_marked place (c ∷ cs) marks n long = (
@@ -175,27 +180,27 @@ by_steward leaf marks i e = by (set_only marks leaf i e)
     by (inr set) = inr set
 
 -- a leaf is marked where a command of its steward stands
-marked_aimed : (aim : Aim) (marks : List Bool) (i : ℕ) → is_set (marked (leaves_at aim) marks) i ≡ true → (is_for_steward i aim ≡ true) ⊎ (is_set marks i ≡ true)
+marked_aimed : (aim : Aim) (marks : List Bool) (i : ℕ) → is_set (marked (leaves_aimed_at aim) marks) i ≡ true → (is_for_steward i aim ≡ true) ⊎ (is_set marks i ≡ true)
 marked_aimed (AtLeaf leaf) marks i e = by_steward leaf marks i e
 marked_aimed AtLeaves marks i e = inl refl
 marked_aimed _ marks i e = inr e
 
-marked_steward : (c : Command) (marks : List Bool) (i : ℕ) → is_set (marked (leaves_of c) marks) i ≡ true → (is_stewards i c ≡ true) ⊎ (is_set marks i ≡ true)
+marked_steward : (c : Command) (marks : List Bool) (i : ℕ) → is_set (marked (leaves_acted_on c) marks) i ≡ true → (is_stewards i c ≡ true) ⊎ (is_set marks i ≡ true)
 marked_steward c marks i e = subst (λ b. (b ≡ true) ⊎ (is_set marks i ≡ true)) (sym (stewards_aim i c)) (marked_aimed (aim_of c) marks i e)
 
-marked_stewards : (cs : List Command) (marks : List Bool) (i : ℕ) → is_set (marked_by leaves_of cs marks) i ≡ true → (has_steward i cs ≡ true) ⊎ (is_set marks i ≡ true)
+marked_stewards : (cs : List Command) (marks : List Bool) (i : ℕ) → is_set (marked_by leaves_acted_on cs marks) i ≡ true → (has_steward i cs ≡ true) ⊎ (is_set marks i ≡ true)
 marked_stewards [] marks i e = inr e
-marked_stewards (c ∷ cs) marks i e = by (marked_stewards cs (marked (leaves_of c) marks) i e)
+marked_stewards (c ∷ cs) marks i e = by (marked_stewards cs (marked (leaves_acted_on c) marks) i e)
   where
     first : (is_stewards i c ≡ true) ⊎ (is_set marks i ≡ true) → (has_steward i (c ∷ cs) ≡ true) ⊎ (is_set marks i ≡ true)
     first (inl steward) = inl (or_left (is_stewards i c) (has_steward i cs) steward)
     first (inr set) = inr set
 
-    by : (has_steward i cs ≡ true) ⊎ (is_set (marked (leaves_of c) marks) i ≡ true) → (has_steward i (c ∷ cs) ≡ true) ⊎ (is_set marks i ≡ true)
+    by : (has_steward i cs ≡ true) ⊎ (is_set (marked (leaves_acted_on c) marks) i ≡ true) → (has_steward i (c ∷ cs) ≡ true) ⊎ (is_set marks i ≡ true)
     by (inl more) = inl (or_right (is_stewards i c) (has_steward i cs) more)
     by (inr set) = first (marked_steward c marks i set)
 
-pub needed_steward : (cs : List Command) (n i : ℕ) → is_set (needed leaves_of n cs) i ≡ true → has_steward i cs ≡ true
+pub needed_steward : (cs : List Command) (n i : ℕ) → is_set (needed leaves_acted_on n cs) i ≡ true → has_steward i cs ≡ true
 needed_steward cs n i e = by (marked_stewards cs (replicate n false) i e)
   where
     by : (has_steward i cs ≡ true) ⊎ (is_set (replicate n false) i ≡ true) → has_steward i cs ≡ true
@@ -215,25 +220,25 @@ drop_next {A = A} xs i x below is =
     first (y ∷ ys) zero under = refl
     first (y ∷ ys) (suc j) under = first ys j (omega (arith, under))
 
-pub plans_more : (fleet : Fleet) (lanes : List (List Command)) (plans : List Plan) (lane : List Command) (plan : Plan) → ArePlans fleet lanes plans → IsPlanOf fleet lane plan → ArePlans fleet (lanes ++ lane ∷ []) (plans ++ plan ∷ [])
+pub plans_more : (fleet : FleetShape) (lanes : List (List Command)) (plans : List LanePlan) (lane : List Command) (plan : LanePlan) → ArePlans fleet lanes plans → IsPlanOf fleet lane plan → ArePlans fleet (lanes ++ lane ∷ []) (plans ++ plan ∷ [])
 plans_more fleet [] [] lane plan are is = (is, tt)
 plans_more fleet [] (p ∷ ps) lane plan are is = absurd are
 plans_more fleet (l ∷ ls) [] lane plan are is = absurd are
 plans_more fleet (l ∷ ls) (p ∷ ps) lane plan are is = (are.0, plans_more fleet ls ps lane plan are.1 is)
 
-pub plans_all : (fleet : Fleet) (lanes : List (List Command)) (plans : List Plan) → ArePlans fleet lanes plans → AllByRecursion (IsPlan fleet) plans
+pub plans_all : (fleet : FleetShape) (lanes : List (List Command)) (plans : List LanePlan) → ArePlans fleet lanes plans → AllByRecursion (IsLanePlan fleet) plans
 plans_all fleet [] [] are = tt
 plans_all fleet [] (p ∷ ps) are = absurd are
 plans_all fleet (l ∷ ls) [] are = absurd are
 plans_all fleet (l ∷ ls) (p ∷ ps) are = (are.0.is, plans_all fleet ls ps are.1)
 
-pub plans_count : (fleet : Fleet) (lanes : List (List Command)) (plans : List Plan) → ArePlans fleet lanes plans → length plans ≡ length lanes
+pub plans_count : (fleet : FleetShape) (lanes : List (List Command)) (plans : List LanePlan) → ArePlans fleet lanes plans → length plans ≡ length lanes
 plans_count fleet [] [] are = refl
 plans_count fleet [] (p ∷ ps) are = absurd are
 plans_count fleet (l ∷ ls) [] are = absurd are
 plans_count fleet (l ∷ ls) (p ∷ ps) are = ap suc (plans_count fleet ls ps are.1)
 
-fewer : (leaf : ℕ) (fleet : Fleet) (lanes : List (List Command)) (plans : List Plan) → ArePlans fleet lanes plans → length (filter (acts_on leaf) plans) ≤ length (filter (has_steward leaf) lanes)
+fewer : (leaf : ℕ) (fleet : FleetShape) (lanes : List (List Command)) (plans : List LanePlan) → ArePlans fleet lanes plans → length (filter (acts_on leaf) plans) ≤ length (filter (has_steward leaf) lanes)
 fewer leaf fleet [] [] are = omega arith
 fewer leaf fleet [] (p ∷ ps) are = absurd are
 fewer leaf fleet (l ∷ ls) [] are = absurd are
@@ -242,17 +247,17 @@ fewer leaf fleet (l ∷ ls) (p ∷ ps) are =
   where
     marks : acts_on leaf p ≡ true → has_steward leaf l ≡ true
     marks e =
-        let here : is_set (needed leaves_of (leaf_count fleet) p.commands.items) leaf ≡ true = subst (λ (ms : List Bool). is_set ms leaf ≡ true) are.0.is.needs.leaves e in
+        let here : is_set (needed leaves_acted_on (leaf_count fleet) p.commands.items) leaf ≡ true = subst (λ (ms : List Bool). is_set ms leaf ≡ true) are.0.is.needs.leaves e in
         subst (λ (cs : List Command). has_steward leaf cs ≡ true) are.0.lane_is (needed_steward p.commands.items (leaf_count fleet) leaf here)
 
-    by : (a b : Bool) (us : List Plan) (vs : List (List Command)) → (a ≡ true → b ≡ true) → length us ≤ length vs → length (cond a (p ∷ us) us) ≤ length (cond b (l ∷ vs) vs)
+    by : (a b : Bool) (us : List LanePlan) (vs : List (List Command)) → (a ≡ true → b ≡ true) → length us ≤ length vs → length (cond a (p ∷ us) us) ≤ length (cond b (l ∷ vs) vs)
     by true true us vs m le = omega (arith, le)
     by true false us vs m le = let wrong : false ≡ true = m refl in absurd cc
     by false true us vs m le = omega (arith, le)
     by false false us vs m le = le
 
 -- no leaf is acted on by two lanes
-pub alone : (fleet : Fleet) (lanes : List (List Command)) (plans : List Plan) → ArePlans fleet lanes plans → OneSteward lanes → AreAlone plans
+pub alone : (fleet : FleetShape) (lanes : List (List Command)) (plans : List LanePlan) → ArePlans fleet lanes plans → OneSteward lanes → AreAlone plans
 alone fleet lanes plans are one leaf =
     let below = fewer leaf fleet lanes plans are in
     omega (arith, below, one leaf, length-filter (acts_on leaf) plans)

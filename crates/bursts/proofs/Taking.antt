@@ -12,7 +12,7 @@ use Rattle.rollover_watch.specs.Watches.{Held}
 use Rattle.printed_lines.specs.declared.line.Line.{Line}
 use Rattle.printed_lines.specs.declared.line.Line.TheVariants.{Lane}
 use Rattle.printed_lines.specs.Lines.{IsOf}
-use Rattle.script_text.specs.declared.fleet.Fleet.{Fleet}
+use Rattle.script_text.specs.declared.fleet.FleetShape.{FleetShape}
 use Rattle.printed_lines.specs.declared.line.Deed.{Deed}
 use Rattle.transcript.specs.Pieces.{Piece, Played, commands_in, lane_lines, lines_in, pieces_in}
 use Rattle.transcript.specs.Counts.{deeds_in}
@@ -23,7 +23,7 @@ use Rattle.player.specs.Crew.{AllCounted, AllPass, CountedIf, CrewState, HasSeat
 use Rattle.bursts.specs.declared.work.LaneWork.{LaneWork}
 use Rattle.bursts.specs.Lent.{IsWorked, Lent, TakenBack, TakingBack}
 use Rattle.lane_play.specs.Played.{IsBehind, all_of}
-use Rattle.lane_play.specs.Went.{AreBegun, FansWent, LaneWent, own_lines, told_lines}
+use Rattle.lane_play.specs.Went.{ArePrefixes, FansWent, LaneWent, own_lines, told_lines}
 use Rattle.std.proofs.lemmas.Grind.{flat_map-append}
 use Rattle.bursts.proofs.Idle.{idle, idle_before, idle_snoc}
 use Rattle.bursts.specs.Rolling.{Between, has_rollover, one_if, rolling}
@@ -217,7 +217,7 @@ lines_more played p back lane number lines own (Some all) rest commands a b coun
       more.4 ∙ (ap₂ (λ (ls ms : List Line). ls ++ Lane number ∷ ms) firsts.1 its.1 ∙ sym (lane_snoc 0 played p number (same_count played back number firsts.0 count))),
     )
 
-module _ {B : Type 0} (meaning : B → Meaning) (fleet : Fleet) (whole : Type 0) where
+module _ {B : Type 0} (meaning : B → Meaning) (fleet : FleetShape) (whole : Type 0) where
   pub fans_begin : (xs : List (Hold B)) (ws : List Held) (lines : Option (List Line)) → IfSome lines (λ ls. ls ≡ []) → FansWent meaning fleet whole [] xs ws lines xs ws
   fans_begin xs ws lines empty = record {
     played = [];
@@ -238,7 +238,7 @@ module _ {B : Type 0} (meaning : B → Meaning) (fleet : Fleet) (whole : Type 0)
       → LaneWent meaning fleet lane off vs own off' ws → (whole → length back ≡ number) → IfSome all (IsMore number lines own) → FansWent meaning fleet whole (back ++ lane ∷ []) xs us all zs ws
   fans_go_on needs acts xs off rest off' rest' zs cut takes back lane us vs ws lines own all number a b count more = record {
     played = a.played ++ b.played ∷ [];
-    begun = subst (λ ls. AreBegun ls (back ++ lane ∷ [])) (sym (lanes_snoc a.played b.played)) (begun_append (map commands_in a.played) back (commands_in b.played ∷ []) (lane ∷ []) a.begun ((b.rest, b.commands_are), tt));
+    begun = subst (λ ls. ArePrefixes ls (back ++ lane ∷ [])) (sym (lanes_snoc a.played b.played)) (begun_append (map commands_in a.played) back (commands_in b.played ∷ []) (lane ∷ []) a.begun ((b.rest, b.commands_are), tt));
     fans = Fans.beside xs (a.played ++ b.played ∷ []) zs a.played b.played needs acts off rest rest' off' cut a.fans b.plays takes refl;
     counted = subst (λ ps. AllCounted meaning ps xs zs) (sym (pieces_all_snoc a.played b.played))
         (counts_back meaning needs acts xs off rest off' rest' zs cut takes (pieces_in (all_of a.played)) (pieces_in b.played) b.counted a.counted);
@@ -255,7 +255,7 @@ module _ {B : Type 0} (meaning : B → Meaning) (fleet : Fleet) (whole : Type 0)
       flat_map-append (λ (q : List Played). q) (unplayed front) a.played ∙ ap (λ (qs : List Played). qs ++ all_of a.played) (unplayed_all front) in
       record {
         played = unplayed front ++ a.played;
-        begun = subst (λ ls. AreBegun ls (front ++ back)) (sym (map-append commands_in (unplayed front) a.played))
+        begun = subst (λ ls. ArePrefixes ls (front ++ back)) (sym (map-append commands_in (unplayed front) a.played))
             (begun_append (map commands_in (unplayed front)) front (map commands_in a.played) back (unplayed_begin front) a.begun);
         fans = subst (λ ps. Fans meaning fleet xs (ps ++ a.played) ys) (sym (unplayed_idle front)) (idle_before meaning fleet (length front) xs a.played ys a.fans);
         counted = subst (λ qs. AllCounted meaning (pieces_in qs) xs ys) (sym same) a.counted;
@@ -264,7 +264,7 @@ module _ {B : Type 0} (meaning : B → Meaning) (fleet : Fleet) (whole : Type 0)
         lines_are = λ w. tt;
       }
 
-module _ {B X E : Type 0} {Y : X → Type 0} (hear : LaneWork B X Y → List Held) (meaning : B → Meaning) (fleet : Fleet) (tables : List (List Shared)) (count : ℕ) (cut : List (List Command)) (was : List Held) (xs : List (Hold B)) (left : List Held) where
+module _ {B X E : Type 0} {Y : X → Type 0} (hear : LaneWork B X Y → List Held) (meaning : B → Meaning) (fleet : FleetShape) (tables : List (List Shared)) (count : ℕ) (cut : List (List Command)) (was : List Held) (xs : List (Hold B)) (left : List Held) where
   pub taking_begins : (works : List (LaneWork B X Y)) (lines : Result (Vec Line Global) E) (ys : List (Hold B)) → Lent count (IsWorked hear was meaning fleet tables) xs works cut ys
       → ((table : ℕ) → table < length fleet.names → HasSeats ys table) → IfOk lines (λ ls. ls.items ≡ []) → TakingBack hear meaning fleet tables count cut was xs works left lines ys left
   taking_begins works lines ys lent seats empty = record {
@@ -298,7 +298,7 @@ module _ {B X E : Type 0} {Y : X → Type 0} (hear : LaneWork B X Y → List Hel
           apart last.needs last.acts last.between last.off taking.rest work.crew.holds ys last.cut last.is.still taking.still leaf r o
           (subst (λ (hs : List (Hold B)). slice_get hs leaf ≡ Some r) holds_are at_r) at_o;
       seats = λ table below. subst (λ (hs : List (Hold B)). HasSeats hs table) (sym holds_are)
-          (taking.seats table (subst (λ (f : Fleet). table < length f.names) fleet_is below));
+          (taking.seats table (subst (λ (f : FleetShape). table < length f.names) fleet_is below));
     }
 
     seats_on : (zs : List (Hold B)) → SameSeats ys zs → (table : ℕ) → table < length fleet.names → HasSeats zs table

@@ -2,11 +2,11 @@
 use Rattle.script_text.specs.declared.item.Item.{Item}
 use Rattle.script_text.specs.declared.item.Item.TheVariants.{One, Burst}
 use Rattle.script_text.specs.Fits.{IsBurst}
-use Rattle.script_text.specs.declared.fleet.Fleet.{Fleet}
+use Rattle.script_text.specs.declared.fleet.FleetShape.{FleetShape}
 use Rattle.script_text.specs.Commands.{leaf_count}
 use Rattle.leaf_moves.specs.Plays.{MayPlay}
 
 -- an item that this fleet may play
-abbrev pub MayPlayItem : Fleet → Item → Type 0
+abbrev pub MayPlayItem : FleetShape → Item → Type 0
 MayPlayItem fleet (One c) = MayPlay fleet c
 MayPlayItem fleet (Burst lanes) = IsBurst (leaf_count fleet) fleet.names lanes

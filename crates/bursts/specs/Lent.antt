@@ -7,7 +7,7 @@ use Rattle.leaf_table.specs.Turns.{Shared}
 use Rattle.script_text.specs.declared.command.Command.{Command}
 use Rattle.rollover_watch.specs.Watches.{Held}
 use Rattle.printed_lines.specs.declared.line.Line.{Line}
-use Rattle.script_text.specs.declared.fleet.Fleet.{Fleet}
+use Rattle.script_text.specs.declared.fleet.FleetShape.{FleetShape}
 use Rattle.leaf_moves.specs.Holds.{Hold}
 use Rattle.leaf_moves.specs.Lanes.{CutsOff}
 use Rattle.player.specs.Crew.{AllPass, HasSeats, StillHas}
@@ -21,7 +21,7 @@ abbrev pub MayWork : {B X : Type 0} {Y : X → Type 0} → LaneWork B X Y → Ty
 MayWork lane = AllByRecursion (MayPlayOn lane.crew.fleet lane.crew.holds) lane.commands.items
 
 -- the lane has played, and still holds the same leaves and seats
-pub record IsDone {B X : Type 0} {Y : X → Type 0} (hear : LaneWork B X Y → List Held) (meaning : B → Meaning) (x y : LaneWork B X Y) : Type 0 where
+pub record LaneIsDone {B X : Type 0} {Y : X → Type 0} (hear : LaneWork B X Y → List Held) (meaning : B → Meaning) (x y : LaneWork B X Y) : Type 0 where
   pub number : y.number ≡ x.number
   pub rolls : y.rolls ≡ x.rolls
   pub fleet : y.crew.fleet ≡ x.crew.fleet
@@ -50,7 +50,7 @@ pub data Lent {B X : Type 0} {Y : X → Type 0} (count : ℕ) (P : List Command 
       → Lent count P xs works lanes rest
 
 -- The lane may play with what was cut off for it. If it has a rollover, it has the watches `was`.
-pub record IsReady {B X : Type 0} {Y : X → Type 0} (hear : LaneWork B X Y → List Held) (was : List Held) (fleet : Fleet) (tables : List (List Shared)) (lane : List Command) (off : List (Hold B)) (work : LaneWork B X Y) : Type 0 where
+pub record LaneIsReady {B X : Type 0} {Y : X → Type 0} (hear : LaneWork B X Y → List Held) (was : List Held) (fleet : FleetShape) (tables : List (List Shared)) (lane : List Command) (off : List (Hold B)) (work : LaneWork B X Y) : Type 0 where
   pub fleet_is : work.crew.fleet ≡ fleet
   pub tables_are : work.crew.tables ≡ tables
   pub lane_is : work.commands.items ≡ lane
@@ -61,7 +61,7 @@ pub record IsReady {B X : Type 0} {Y : X → Type 0} (hear : LaneWork B X Y → 
   pub unplayed : work.lines ≡ None
 
 -- the lane has played with what was cut off for it, or has not begun
-pub record IsWorked {B X : Type 0} {Y : X → Type 0} (hear : LaneWork B X Y → List Held) (was : List Held) (meaning : B → Meaning) (fleet : Fleet) (tables : List (List Shared)) (lane : List Command) (off : List (Hold B)) (work : LaneWork B X Y) : Type 0 where
+pub record IsWorked {B X : Type 0} {Y : X → Type 0} (hear : LaneWork B X Y → List Held) (was : List Held) (meaning : B → Meaning) (fleet : FleetShape) (tables : List (List Shared)) (lane : List Command) (off : List (Hold B)) (work : LaneWork B X Y) : Type 0 where
   pub fleet_is : work.crew.fleet ≡ fleet
   pub tables_are : work.crew.tables ≡ tables
   pub still : StillHas off work.crew.holds
@@ -75,14 +75,14 @@ pub record IsWorked {B X : Type 0} {Y : X → Type 0} (hear : LaneWork B X Y →
 
 -- All is back. If the watches went with a lane exactly if one has a rollover, those that are there now heard what the
 -- lanes tell.
-pub record TakenBack {B E : Type 0} (meaning : B → Meaning) (fleet : Fleet) (count : ℕ) (cut : List (List Command)) (was : List Held) (xs : List (Hold B)) (left : List Held) (lines : Result (Vec Line Global) E)
+pub record TakenBack {B E : Type 0} (meaning : B → Meaning) (fleet : FleetShape) (count : ℕ) (cut : List (List Command)) (was : List Held) (xs : List (Hold B)) (left : List Held) (lines : Result (Vec Line Global) E)
     (ys : List (Hold B)) (now : List Held) : Type 0 where
   pub still : StillHas xs ys
   pub time : AllPass meaning xs ys
   pub went : rolling cut ≤ 1 → (rolling cut ≡ 0 → left ≡ was) → FansWent meaning fleet (length cut ≡ count) cut xs was (told_lines lines) ys now
 
 -- The first lanes are back, and so are the watches if one of these has a rollover.
-pub record TakingBack {B X E : Type 0} {Y : X → Type 0} (hear : LaneWork B X Y → List Held) (meaning : B → Meaning) (fleet : Fleet) (tables : List (List Shared)) (count : ℕ) (cut : List (List Command)) (was : List Held)
+pub record TakingBack {B X E : Type 0} {Y : X → Type 0} (hear : LaneWork B X Y → List Held) (meaning : B → Meaning) (fleet : FleetShape) (tables : List (List Shared)) (count : ℕ) (cut : List (List Command)) (was : List Held)
     (xs : List (Hold B)) (works : List (LaneWork B X Y)) (left : List Held) (lines : Result (Vec Line Global) E) (ys : List (Hold B)) (now : List Held) : Type 0 where
   pub back : List (List Command)
   pub away : List (List Command)

@@ -27,7 +27,7 @@ abbrev pub IsHandedOver : Bool → List Held → List Held → List Held → Typ
 IsHandedOver true was left its = (its ≡ was) × (left ≡ [])
 IsHandedOver false was left its = left ≡ was
 
--- what the watches heard of lanes, of which this many have a rollover: nothing if none has; else those that were handed
+-- what the watches heard of lanes, `n` of which have a rollover: nothing if none has; else the watches that were handed
 -- over heard it, and are back
 abbrev pub Between : ℕ → List Held → List Held → List Held → List Held → Type 0
 Between zero was now before after = after ≡ before

@@ -6,13 +6,13 @@ ghost use Rattle.script_text.specs.declared.command.Command.{Command};
 ghost use Rattle.rollover_watch.specs.Watches.{Held};
 ghost use Rattle.leaf_moves.specs.Holds.{Hold};
 ghost use Rattle.player.specs.Crew.{AllPass, HasAll, HasSeats, StillHas};
-ghost use Rattle.bursts.specs.Needs.{AreAlone, AreSpare, CanLend, IsPlan, commands_in};
-ghost use Rattle.bursts.specs.Lent.{IsDone, IsReady, IsWorked, Lent, MayWork, TakenBack};
+ghost use Rattle.bursts.specs.Needs.{AreAlone, AreSpare, CanLend, IsLanePlan, planned_commands};
+ghost use Rattle.bursts.specs.Lent.{LaneIsDone, LaneIsReady, IsWorked, Lent, MayWork, TakenBack};
 ghost use Rattle.lane_play.specs.Went.{BesideWent, OrNothing, told_lines};
 ghost use Rattle.bursts.specs.Rolling.{rolling};
 
 use crate::lines::behind;
-use crate::plan::Plan;
+use crate::plan::LanePlan;
 use crate::watches::{hand_over, has_rollover, take_over};
 use crate::work::LaneWork;
 use berth_face::{Berth, Gate};
@@ -26,23 +26,26 @@ use std::sync::Wait;
 use std::thread;
 use std::thread::Threads;
 
-/// Plays lanes beside one another. All seats meet first, so that each lane knows what was done before the burst. The
-/// watches go with the lane that has a rollover. The list of lanes is made before anything is cut off.
+/// Plays lanes at once. All seats meet first, so that each lane knows what was done before the burst. The watches go
+/// with the lane that has a rollover. The list of lanes is made before anything is cut off.
 pub fn play_beside<'t, R: Wait + Threads + Sync, B: Berth, G: Gate>(
     rt: &R,
     alloc: Global,
     gate: &G,
     crew: &mut Crew<'t, B>,
     watches: &mut Vec<Box<dyn Watch>>,
-    plans: Vec<Plan>,
+    plans: Vec<LanePlan>,
 ) -> Result<Vec<Line>, AllocError>
-    requires plans { AllByRecursion (IsPlan crew.old.fleet) plans.items }
+    requires plans { AllByRecursion (IsLanePlan crew.old.fleet) plans.items }
     requires few { length plans.items ≤ 16 }
     requires alone { AreAlone plans.items }
-    requires one { rolling (map commands_in plans.items) ≤ 1 }
+    requires one { rolling (map planned_commands plans.items) ≤ 1 }
     requires spare { AreSpare crew.old.fleet crew.old.holds plans.items }
     requires all { HasAll crew.old.fleet crew.old.holds }
-    ensures went { OrNothing (BesideWent B.meaning crew.old.fleet (map commands_in plans.items) crew.old.holds (map (λ watch. held watch) watches.old.items) (told_lines result) crew.new.holds (map (λ watch. held watch) watches.new.items)) crew.old.holds (map (λ watch. held watch) watches.old.items) (told_lines result) crew.new.holds (map (λ watch. held watch) watches.new.items) }
+    ensures went { OrNothing (BesideWent B.meaning crew.old.fleet (map planned_commands plans.items) crew.old.holds
+        (map (λ watch. held watch) watches.old.items) (told_lines result) crew.new.holds
+        (map (λ watch. held watch) watches.new.items)) crew.old.holds (map (λ watch. held watch) watches.old.items)
+        (told_lines result) crew.new.holds (map (λ watch. held watch) watches.new.items) }
     ensures fleet { (crew.new.fleet ≡ crew.old.fleet) × (crew.new.tables ≡ crew.old.tables) }
     ensures still { StillHas crew.old.holds crew.new.holds }
     ensures time { AllPass B.meaning crew.old.holds crew.new.holds }
@@ -66,17 +69,21 @@ fn cut_all<'t, B: Berth>(
     alloc: Global,
     crew: &mut Crew<'t, B>,
     watches: &mut Vec<Box<dyn Watch>>,
-    plans: Vec<Plan>,
+    plans: Vec<LanePlan>,
     lanes: &mut Vec<LaneWork<'t, B>>,
 ) -> Result<(), AllocError>
     requires can { CanLend crew.old.fleet crew.old.holds plans.items }
     requires few { length plans.items ≤ 16 }
-    requires one { rolling (map commands_in plans.items) ≤ 1 }
+    requires one { rolling (map planned_commands plans.items) ≤ 1 }
     requires none { lanes.old.items ≡ [] }
     requires room { vec_len lanes.old + vec_len plans ≤ vec_capacity lanes.old }
-    ensures lent { (cut : List (List Command)) × Lent (length plans.items) (IsReady (λ work. map (λ watch. held watch) work.watches.items) (map (λ watch. held watch) watches.old.items) crew.old.fleet crew.old.tables) crew.old.holds lanes.new.items cut crew.new.holds × (IsOk result → cut ≡ map commands_in plans.items)
-        × ((front : List (List Command)) × (front ++ cut ≡ map commands_in plans.items))
-        × (rolling cut ≡ 0 → map (λ watch. held watch) watches.new.items ≡ map (λ watch. held watch) watches.old.items) }
+    ensures lent { (cut : List (List Command))
+        × Lent (length plans.items) (LaneIsReady (λ work. map (λ watch. held watch) work.watches.items)
+        (map (λ watch. held watch) watches.old.items) crew.old.fleet crew.old.tables) crew.old.holds lanes.new.items cut
+        crew.new.holds × (IsOk result → cut ≡ map planned_commands plans.items)
+        × ((front : List (List Command)) × (front ++ cut ≡ map planned_commands plans.items))
+        × (rolling cut ≡ 0 → map (λ watch. held watch) watches.new.items
+        ≡ map (λ watch. held watch) watches.old.items) }
     ensures fleet { (crew.new.fleet ≡ crew.old.fleet) × (crew.new.tables ≡ crew.old.tables) }
     ensures seats { (table : ℕ) → table < length crew.old.fleet.names → HasSeats crew.new.holds table }
 {
@@ -105,7 +112,7 @@ fn cut_all<'t, B: Berth>(
 }
 
 // The number of lanes.
-fn count(plans: &Vec<Plan>) -> u32
+fn count(plans: &Vec<LanePlan>) -> u32
     requires { length plans.now.items ≤ 16 }
     ensures { result ≡ length plans.now.items }
 {
@@ -134,7 +141,9 @@ fn work_all<'t, R: Wait + Threads + Sync, B: Berth, G: Gate>(
     lanes: &mut [LaneWork<'t, B>],
 )
     requires { (i : ℕ) (d : _) → i < length lanes.old → MayWork (slice_index_or lanes.old i d) }
-    ensures each { (i : ℕ) (d : _) → i < length lanes.old → IsDone (λ work. map (λ watch. held watch) work.watches.items) B.meaning (slice_index_or lanes.old i d) (slice_index_or lanes.new i d) }
+    ensures each { (i : ℕ) (d : _) → i < length lanes.old
+        → LaneIsDone (λ work. map (λ watch. held watch) work.watches.items) B.meaning (slice_index_or lanes.old i d)
+        (slice_index_or lanes.new i d) }
     ensures same { length lanes.new ≡ length lanes.old }
 {
     if lanes.is_empty() {
@@ -147,7 +156,7 @@ fn work_all<'t, R: Wait + Threads + Sync, B: Berth, G: Gate>(
         threads,
         &|_, lane: &mut LaneWork<B>|
             requires { IsSync R.row × IsSync G.row × IsSend B.row × MayWork lane.old }
-            ensures { IsDone (λ work. map (λ watch. held watch) work.watches.items) B.meaning lane.old lane.new }
+            ensures { LaneIsDone (λ work. map (λ watch. held watch) work.watches.items) B.meaning lane.old lane.new }
         { work(rt, alloc, gate, lane) },
     );
 }
@@ -177,7 +186,7 @@ fn work<'t, R: Wait + Threads + Sync, B: Berth, G: Gate>(
     lane: &mut LaneWork<'t, B>,
 )
     requires { MayWork lane.old }
-    ensures { IsDone (λ work. map (λ watch. held watch) work.watches.items) B.meaning lane.old lane.new }
+    ensures { LaneIsDone (λ work. map (λ watch. held watch) work.watches.items) B.meaning lane.old lane.new }
 {
     let commands = replace(&mut lane.commands, Vec::new(alloc));
     lane.lines = play_lane(
@@ -199,9 +208,15 @@ fn take_all_back<'t, B: Berth>(
     watches: &mut Vec<Box<dyn Watch>>,
     lanes: Vec<LaneWork<'t, B>>,
 ) -> Result<Vec<Line>, AllocError>
-    requires lent { (xs : List (Hold B)) × (count : ℕ) × (cut : List (List Command)) × (was : List Held) × Lent count (IsWorked (λ work. map (λ watch. held watch) work.watches.items) was B.meaning crew.old.fleet crew.old.tables) xs lanes.items cut crew.old.holds }
+    requires lent { (xs : List (Hold B)) × (count : ℕ) × (cut : List (List Command)) × (was : List Held)
+        × Lent count (IsWorked (λ work. map (λ watch. held watch) work.watches.items) was B.meaning crew.old.fleet
+        crew.old.tables) xs lanes.items cut crew.old.holds }
     requires seats { (table : ℕ) → table < length crew.old.fleet.names → HasSeats crew.old.holds table }
-    ensures back { (xs : List (Hold B)) (count : ℕ) (cut : List (List Command)) (was : List Held) → Lent count (IsWorked (λ work. map (λ watch. held watch) work.watches.items) was B.meaning crew.old.fleet crew.old.tables) xs lanes.entry.items cut crew.old.holds → TakenBack B.meaning crew.old.fleet count cut was xs (map (λ watch. held watch) watches.old.items) result crew.new.holds (map (λ watch. held watch) watches.new.items) }
+    ensures back { (xs : List (Hold B)) (count : ℕ) (cut : List (List Command)) (was : List Held)
+        → Lent count (IsWorked (λ work. map (λ watch. held watch) work.watches.items) was B.meaning crew.old.fleet
+        crew.old.tables) xs lanes.entry.items cut crew.old.holds
+        → TakenBack B.meaning crew.old.fleet count cut was xs (map (λ watch. held watch) watches.old.items) result
+        crew.new.holds (map (λ watch. held watch) watches.new.items) }
     ensures fleet { (crew.new.fleet ≡ crew.old.fleet) × (crew.new.tables ≡ crew.old.tables) }
 {
     let mut lines = Ok(Vec::new(alloc));

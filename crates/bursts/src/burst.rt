@@ -20,7 +20,8 @@ use std::alloc::{AllocError, Global};
 use std::sync::Wait;
 use std::thread::Threads;
 
-/// Plays the lanes of a burst: beside one another if the callers have ids enough for them, else in turn.
+/// Plays the lanes of a burst: beside one another if the callers have ids enough for them, else in turn. After Err,
+/// which is want of memory, all leaves, seats and watches are still back.
 pub fn play_burst<'t, R: Wait + Threads + Sync, B: Berth, G: Gate>(
     rt: &R,
     alloc: Global,
@@ -31,7 +32,10 @@ pub fn play_burst<'t, R: Wait + Threads + Sync, B: Berth, G: Gate>(
 ) -> Result<Vec<Line>, AllocError>
     requires burst { IsBurst (leaf_count crew.old.fleet) crew.old.fleet.names lanes.items }
     requires all { HasAll crew.old.fleet crew.old.holds }
-    ensures went { OrNothing (ItemWent B.meaning crew.old.fleet (Burst lanes.items) crew.old.holds (map (λ watch. held watch) watches.old.items) (told_lines result) crew.new.holds (map (λ watch. held watch) watches.new.items)) crew.old.holds (map (λ watch. held watch) watches.old.items) (told_lines result) crew.new.holds (map (λ watch. held watch) watches.new.items) }
+    ensures went { OrNothing (ItemWent B.meaning crew.old.fleet (Burst lanes.items) crew.old.holds
+        (map (λ watch. held watch) watches.old.items) (told_lines result) crew.new.holds
+        (map (λ watch. held watch) watches.new.items)) crew.old.holds (map (λ watch. held watch) watches.old.items)
+        (told_lines result) crew.new.holds (map (λ watch. held watch) watches.new.items) }
     ensures fleet { (crew.new.fleet ≡ crew.old.fleet) × (crew.new.tables ≡ crew.old.tables) }
     ensures all { HasAll crew.new.fleet crew.new.holds }
     ensures time { AllPass B.meaning crew.old.holds crew.new.holds }

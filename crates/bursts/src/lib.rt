@@ -1,10 +1,9 @@
-//! Plays an item of a script over a crew: a command, or the lanes of a burst beside one another.
+//! Plays an item of a script over a crew: an order, or the lanes of a burst beside one another.
 #![tactic(auto)]
 
 mod beside;
 mod burst;
 mod command;
-mod item;
 mod lines;
 mod needs;
 mod plan;
@@ -13,4 +12,5 @@ mod turns;
 mod watches;
 mod work;
 
-pub use item::play_item;
+pub use burst::play_burst;
+pub use command::play_one;

@@ -15,7 +15,7 @@ pub fn put_lane(lines: &mut Vec<Line>, number: u32, own: Vec<Line>) -> Result<()
     lines.append(&mut own)
 }
 
-/// The same. Err if memory for either ran out.
+/// Appends a lane's lines to those of the lanes before it. Err if memory for either ran out.
 pub fn behind(
     lines: Result<Vec<Line>, AllocError>,
     number: u32,

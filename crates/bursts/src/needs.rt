@@ -3,7 +3,7 @@ ghost use Rattle.std.specs.Prelude.{◌≡◌, false, true, length, replicate, I
 ghost use Rattle.std.specs.List.{AllByRecursion};
 ghost use Rattle.script_text.specs.Fits.{IsCommand};
 ghost use Rattle.script_text.specs.Commands.{leaf_count};
-ghost use Rattle.bursts.specs.Needs.{AreNeeds, HasPlaces, leaves_of, marked, table_of};
+ghost use Rattle.bursts.specs.Needs.{AreNeeds, HasPlaces, leaves_acted_on, marked, table_needed};
 
 use crate::plan::Needs;
 use berth_face::Berth;
@@ -12,7 +12,7 @@ use script_text::{Aim, Command};
 use std::alloc::{AllocError, Global};
 
 impl Needs {
-    /// What these commands need. Err if memory runs out.
+    /// The tables and leaves that these commands need. Err if memory runs out.
     pub fn of<'t, B: Berth>(
         alloc: Global,
         crew: &Crew<'t, B>,
@@ -36,8 +36,9 @@ impl Needs {
     fn mark<'t, B: Berth>(&mut self, crew: &Crew<'t, B>, command: &Command)
         requires command { IsCommand (leaf_count crew.now.fleet) crew.now.fleet.names command.now }
         requires places { HasPlaces crew.now.fleet self.old }
-        ensures tables { self.new.tables.items ≡ marked (table_of crew.now.fleet.names command.now) self.old.tables.items }
-        ensures leaves { self.new.leaves.items ≡ marked (leaves_of command.now) self.old.leaves.items }
+        ensures tables { self.new.tables.items ≡ marked (table_needed crew.now.fleet.names command.now)
+            self.old.tables.items }
+        ensures leaves { self.new.leaves.items ≡ marked (leaves_acted_on command.now) self.old.leaves.items }
     {
         match command.aim() {
             Aim::Fleet | Aim::Run => {}

@@ -6,7 +6,7 @@ ghost use Rattle.script_text.specs.Commands.{leaf_count};
 ghost use Rattle.player.specs.Crew.{is_set};
 ghost use Rattle.bursts.specs.Needs.{ArePlans, AreSpare, IsPlanOf, needs_at};
 
-use crate::plan::{Needs, Plan};
+use crate::plan::{LanePlan, Needs};
 use berth_face::Berth;
 use player::Crew;
 use script_text::Commands;
@@ -18,8 +18,9 @@ pub fn plan_all<'t, B: Berth>(
     alloc: Global,
     crew: &Crew<'t, B>,
     lanes: Vec<Commands>,
-) -> Result<Vec<Plan>, AllocError>
-    requires { AllByRecursion (AllByRecursion (IsCommand (leaf_count crew.now.fleet) crew.now.fleet.names)) lanes.items }
+) -> Result<Vec<LanePlan>, AllocError>
+    requires { AllByRecursion (AllByRecursion (IsCommand (leaf_count crew.now.fleet) crew.now.fleet.names))
+        lanes.items }
     ensures { IfOk result (λ plans. ArePlans crew.now.fleet lanes.items plans.items) }
 {
     let mut plans = Vec::new(alloc);
@@ -30,17 +31,21 @@ pub fn plan_all<'t, B: Berth>(
     Ok(plans)
 }
 
-fn plan<'t, B: Berth>(alloc: Global, crew: &Crew<'t, B>, lane: Commands) -> Result<Plan, AllocError>
+fn plan<'t, B: Berth>(
+    alloc: Global,
+    crew: &Crew<'t, B>,
+    lane: Commands,
+) -> Result<LanePlan, AllocError>
     requires { AllByRecursion (IsCommand (leaf_count crew.now.fleet) crew.now.fleet.names) lane }
     ensures { IfOk result (λ made. IsPlanOf crew.now.fleet lane made) }
 {
     let commands = lane.into_inner();
     let needs = Needs::of(alloc, crew, commands.as_slice())?;
-    Ok(Plan { commands, needs })
+    Ok(LanePlan { commands, needs })
 }
 
 /// Whether each callers' seat has an id for each lane that needs its table, and one more.
-pub fn are_spare<'t, B: Berth>(crew: &Crew<'t, B>, plans: &[Plan]) -> bool
+pub fn are_spare<'t, B: Berth>(crew: &Crew<'t, B>, plans: &[LanePlan]) -> bool
     ensures { IsTrue result → AreSpare crew.now.fleet crew.now.holds plans.now }
 {
     for table in 0..crew.table_count() {
@@ -52,13 +57,13 @@ pub fn are_spare<'t, B: Berth>(crew: &Crew<'t, B>, plans: &[Plan]) -> bool
 }
 
 // The number of lanes that need that table.
-fn lanes_at(plans: &[Plan], table: u32) -> u64
+fn lanes_at(plans: &[LanePlan], table: u32) -> u64
     ensures { result ≡ count_by (needs_at table) plans.now }
 {
     plans.iter().filter(|plan| plan.needs_table(table)).count() as u64
 }
 
-impl Plan {
+impl LanePlan {
     fn needs_table(&self, table: u32) -> bool
         ensures { result ≡ is_set self.now.needs.tables.items table }
     {

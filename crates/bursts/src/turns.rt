@@ -2,11 +2,11 @@
 ghost use Rattle.std.specs.Prelude.{◌≡◌, ◌≤◌, length, map};
 ghost use Rattle.std.specs.List.{AllByRecursion};
 ghost use Rattle.player.specs.Crew.{AllPass, HasAll, StillHas};
-ghost use Rattle.bursts.specs.Needs.{IsPlan, commands_in};
+ghost use Rattle.bursts.specs.Needs.{IsLanePlan, planned_commands};
 ghost use Rattle.lane_play.specs.Went.{TurnsWent, told_lines};
 
 use crate::lines::put_lane;
-use crate::plan::Plan;
+use crate::plan::LanePlan;
 use berth_face::{Berth, Gate};
 use lane_play::play_lane;
 use player::Crew;
@@ -24,12 +24,14 @@ pub fn play_in_turn<'t, R: Wait + Threads + Sync, B: Berth, G: Gate>(
     gate: &G,
     crew: &mut Crew<'t, B>,
     watches: &mut Vec<Box<dyn Watch>>,
-    plans: Vec<Plan>,
+    plans: Vec<LanePlan>,
 ) -> Result<Vec<Line>, AllocError>
-    requires plans { AllByRecursion (IsPlan crew.old.fleet) plans.items }
+    requires plans { AllByRecursion (IsLanePlan crew.old.fleet) plans.items }
     requires few { length plans.items ≤ 16 }
     requires all { HasAll crew.old.fleet crew.old.holds }
-    ensures went { TurnsWent B.meaning crew.old.fleet (map commands_in plans.items) crew.old.holds (map (λ watch. held watch) watches.old.items) (told_lines result) crew.new.holds (map (λ watch. held watch) watches.new.items) }
+    ensures went { TurnsWent B.meaning crew.old.fleet (map planned_commands plans.items) crew.old.holds
+        (map (λ watch. held watch) watches.old.items) (told_lines result) crew.new.holds
+        (map (λ watch. held watch) watches.new.items) }
     ensures fleet { (crew.new.fleet ≡ crew.old.fleet) × (crew.new.tables ≡ crew.old.tables) }
     ensures still { StillHas crew.old.holds crew.new.holds }
     ensures time { AllPass B.meaning crew.old.holds crew.new.holds }

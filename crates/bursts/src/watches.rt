@@ -26,7 +26,8 @@ pub fn hand_over(
     watches: &mut Vec<Box<dyn Watch>>,
     rolls: bool,
 ) -> Vec<Box<dyn Watch>>
-    ensures { IsHandedOver rolls (map (λ watch. held watch) watches.old.items) (map (λ watch. held watch) watches.new.items) (map (λ watch. held watch) result.items) }
+    ensures { IsHandedOver rolls (map (λ watch. held watch) watches.old.items)
+        (map (λ watch. held watch) watches.new.items) (map (λ watch. held watch) result.items) }
 {
     let mut its = Vec::new(alloc);
     if rolls {
@@ -37,7 +38,8 @@ pub fn hand_over(
 
 /// Takes back the watches of a lane that has a rollover.
 pub fn take_over(watches: &mut Vec<Box<dyn Watch>>, rolls: bool, its: Vec<Box<dyn Watch>>)
-    ensures { MatchBool rolls (map (λ watch. held watch) watches.new.items ≡ map (λ watch. held watch) its.items) (map (λ watch. held watch) watches.new.items ≡ map (λ watch. held watch) watches.old.items) }
+    ensures { MatchBool rolls (map (λ watch. held watch) watches.new.items ≡ map (λ watch. held watch) its.items)
+        (map (λ watch. held watch) watches.new.items ≡ map (λ watch. held watch) watches.old.items) }
 {
     if rolls {
         *watches = its;

@@ -3,12 +3,12 @@ use Rattle.std.proofs.Common.{◌≡◌, ℕ, zero, suc, ◌*◌, ◌^◌, ◌<�
 use Rattle.std.specs.List.{range_with_len}
 use Rattle.std.proofs.lemmas.List.FromFn.{fill_by_all}
 use Rattle.bit_columns.specs.Bits.{IsBits, codes, BitString}
-use Rattle.leaf_model.specs.declared.rows.Value.{Value}
+use Rattle.row_model.specs.declared.rows.Value.{Value}
 use Rattle.column_bytes.specs.declared.kind.Kind.{Kind}
 use Rattle.column_bytes.specs.declared.kind.Kind.TheVariants as kinds
 use Rattle.column_bytes.specs.declared.form.Form.{Form}
 use Rattle.column_bytes.specs.declared.form.Form.TheVariants as forms
-use Rattle.column_bytes.specs.Cells.{Coded, Codebook, AreCodes, IsExtra, book_of, kind_of, cell_at, cells_of, coded_of, there, value_at}
+use Rattle.column_bytes.specs.Cells.{Coded, Codebook, AreCodes, IsExtra, book_of, kind_of_book, cell_at, cells_of, coded_of, there, value_at}
 use Rattle.column_bytes.specs.Column.{HasCells, IsPresence, presence_bits, presence_in, coded_in, form_at, packed_in, width_in, count_in, presence_part}
 use Rattle.column_bytes.specs.Coding.{IsCoding, kind_byte, form_byte}
 use Rattle.column_bytes.proofs.Spelled.{ReadsColumn}
@@ -124,7 +124,7 @@ marker_says false = refl
 abbrev pub kind_by : ℕ → Kind
 kind_by byte = if byte == 1 then kinds.Ints else (if byte == 2 then kinds.Texts else kinds.Sets)
 
-pub kind_named : (form : Form) (n : ℕ) (extra : List ℕ) (byte : ℕ) → byte ≡ kind_byte form → kind_by byte ≡ kind_of (book_of form n extra)
+pub kind_named : (form : Form) (n : ℕ) (extra : List ℕ) (byte : ℕ) → byte ≡ kind_byte form → kind_by byte ≡ kind_of_book (book_of form n extra)
 kind_named forms.Offset n extra byte e = ap kind_by e
 kind_named forms.Delta n extra byte e = ap kind_by e
 kind_named forms.Dictionary n extra byte e = ap kind_by e

@@ -7,12 +7,12 @@ use Rattle.std.proofs.lemmas.Option.{none-some, same_Some}
 use Rattle.std.proofs.lemmas.List.{get_or-map, length-map}
 use Rattle.std.proofs.lemmas.List.FromFn.{length-map-range_with_len, get_or-map-range_with_len, fill_by_all}
 use Rattle.bit_columns.specs.Bits.{code, codes, BitString, PackedCodes}
-use Rattle.leaf_model.specs.declared.rows.Value.{Value}
-use Rattle.leaf_model.specs.declared.rows.Value.TheVariants as values
+use Rattle.row_model.specs.declared.rows.Value.{Value}
+use Rattle.row_model.specs.declared.rows.Value.TheVariants as values
 use Rattle.column_bytes.specs.declared.kind.Kind.TheVariants as kinds
 use Rattle.column_bytes.specs.declared.form.Form.{Form}
 use Rattle.dictionaries.specs.Fields.{i64_at}
-use Rattle.column_bytes.specs.Cells.{anchors_at, is_there, there, coded_of, book_of, value_at, cell_at, cells_of, integer_cells, entry_cells, kind_of, has_entries, entries, no_value, IsCode, AreCodes, Coded, Codebook, Base, Anchors, Entries, Sets}
+use Rattle.column_bytes.specs.Cells.{anchors_at, is_there, there, coded_of, book_of, value_at, cell_at, cells_of, integer_cells, entry_cells, kind_of_book, has_entries, entries, no_value, IsCode, AreCodes, Coded, Codebook, Base, Anchors, Entries, Sets}
 
 pub length-codes : (bytes : List ℕ) (w n : ℕ) → length (codes bytes w n) ≡ n
 length-codes bytes w n = length-map-range_with_len (code bytes w) 0 n
@@ -94,7 +94,7 @@ int_of (values.Set members) = pos 0
 pub same_integer : (m n : ℤ) → values.Int m ≡ values.Int n → m ≡ n
 same_integer m n e = ap int_of e
 
-pub integer_kind : (book : Codebook) (codes : List ℕ) (i : ℕ) (n : ℤ) → value_at book codes i ≡ values.Int n → kind_of book ≡ kinds.Ints
+pub integer_kind : (book : Codebook) (codes : List ℕ) (i : ℕ) (n : ℤ) → value_at book codes i ≡ values.Int n → kind_of_book book ≡ kinds.Ints
 integer_kind (Base base) codes i n e = refl
 integer_kind (Anchors anchors) codes i n e = refl
 integer_kind (Entries texts) codes i n e = absurd cc
@@ -120,14 +120,14 @@ cells-from_integers coded integers are len each =
     ∙ ap (λ m. map integer (range_with_len 0 m)) (sym len)
 
 -- a code of a dictionary stands for one of its values
-pub entry_is : (book : Codebook) (codes : List ℕ) (i : ℕ) → has_entries (kind_of book) ≡ true → IsCode book (slice_index codes i) → value_at book codes i ≡ slice_index_or (entries book) (slice_index codes i) no_value
+pub entry_is : (book : Codebook) (codes : List ℕ) (i : ℕ) → has_entries (kind_of_book book) ≡ true → IsCode book (slice_index codes i) → value_at book codes i ≡ slice_index_or (entries book) (slice_index codes i) no_value
 entry_is (Base base) codes i has is = absurd (false≢true has)
 entry_is (Anchors anchors) codes i has is = absurd (false≢true has)
 entry_is (Entries texts) codes i has is = sym (get_or-map values.Text texts (slice_index codes i) [] no_value is)
 entry_is (Sets sets) codes i has is = sym (get_or-map values.Set sets (slice_index codes i) [] no_value is)
 
 -- so codes of a dictionary and its values are the cells
-pub cells-from_entries : (coded : Coded) → has_entries (kind_of coded.book) ≡ true → AreCodes coded → cells_of coded ≡ entry_cells (entries coded.book) coded.present coded.codes
+pub cells-from_entries : (coded : Coded) → has_entries (kind_of_book coded.book) ≡ true → AreCodes coded → cells_of coded ≡ entry_cells (entries coded.book) coded.present coded.codes
 cells-from_entries coded has are =
     let n = length coded.codes in
     let cell = λ (i : ℕ). if slice_index_or coded.present i false then Some (slice_index_or (entries coded.book) (slice_index coded.codes i) no_value) else None in
@@ -136,7 +136,7 @@ cells-from_entries coded has are =
     ∙ cell_same (slice_index_or coded.present k false) (value_at coded.book coded.codes k) (slice_index_or (entries coded.book) (slice_index coded.codes k) no_value)
     (λ there. entry_is coded.book coded.codes k has (are k within there)))
 
-pub below-from_entries : (book : Codebook) (code : ℕ) → has_entries (kind_of book) ≡ true → IsCode book code → code < length (entries book)
+pub below-from_entries : (book : Codebook) (code : ℕ) → has_entries (kind_of_book book) ≡ true → IsCode book code → code < length (entries book)
 below-from_entries (Base base) code has is = absurd (false≢true has)
 below-from_entries (Anchors anchors) code has is = absurd (false≢true has)
 below-from_entries (Entries texts) code has is = omega (arith, is, length-map texts values.Text)

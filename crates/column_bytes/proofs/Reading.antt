@@ -1,7 +1,7 @@
 -- Bytes have one reading.
 use Rattle.std.proofs.Common.{◌≡◌, ℕ, List, length, Option, unwrap_or, sym, ap, ◌∙◌}
 use Rattle.std.proofs.lemmas.List.FromFn.{length-map-range_with_len}
-use Rattle.leaf_model.specs.declared.rows.Value.{Value}
+use Rattle.row_model.specs.declared.rows.Value.{Value}
 use Rattle.column_bytes.specs.declared.form.Form.{Form}
 use Rattle.column_bytes.specs.Cells.{cell_at, cells_of}
 use Rattle.column_bytes.specs.Column.{HasCells, coded_in, codes_part, count_in, width_in}

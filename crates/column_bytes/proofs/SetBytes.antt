@@ -5,11 +5,11 @@ use Rattle.std.proofs.lemmas.List.{get_or_append_left, get_or-append-add, length
 use Rattle.std.proofs.lemmas.List.FromFn.{fill_by_all, get_or-map-range_with_len, length-map-range_with_len}
 use Rattle.std.proofs.Math.Seq.{drop-append_seam, take-append_seam}
 use Rattle.byteorder.specs.Endian.{little_bytes, little_number}
-use Rattle.leaf_model.specs.Values.{IsSet, bytes_in}
+use Rattle.row_model.specs.Values.{IsSet, bytes_in}
 use Rattle.dictionaries.specs.Fields.{u32_at}
 use Rattle.column_bytes.specs.Coding.{joined, end_at}
-use Rattle.dictionaries.specs.Dictionary.{IsDictionary, text_count, text_from, texts_at, texts_by}
-use Rattle.dictionaries.specs.Sets.{AreNumbered, AreNumbers, AreSetCodes, AreSetEnds, IsSetDictionary, member_at, number_bytes, set_at, set_in, sets_at, sets_by, sets_part, texts_part, texts_size}
+use Rattle.dictionaries.specs.Dictionary.{IsDictionary, text_count, text_from, texts_at, texts_by, texts_size}
+use Rattle.dictionaries.specs.Sets.{AreNumbered, AreNumbers, AreSetCodes, AreSetEnds, IsSetDictionary, member_at, number_bytes, set_at, set_in, sets_at, sets_by, sets_part, texts_part}
 use Rattle.column_bytes.proofs.Distinct.{texts_by_each}
 use Rattle.column_bytes.proofs.JoinedTexts.{end_more, end_upto}
 use Rattle.dictionaries.proofs.Places.{length-texts}

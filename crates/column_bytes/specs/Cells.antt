@@ -4,8 +4,8 @@ use Rattle.std.specs.List.{range_with_len}
 use Rattle.std.specs.Int.{w64, div_ceil}
 use Rattle.bit_columns.specs.Bits.{codes, is_present, BitString, PackedCodes}
 use Rattle.delta_codes.specs.Slots.{slot}
-use Rattle.leaf_model.specs.declared.rows.Value.{Value}
-use Rattle.leaf_model.specs.declared.rows.Value.TheVariants as values
+use Rattle.row_model.specs.declared.rows.Value.{Value}
+use Rattle.row_model.specs.declared.rows.Value.TheVariants as values
 use Rattle.column_bytes.specs.declared.kind.Kind.{Kind}
 use Rattle.column_bytes.specs.declared.kind.Kind.TheVariants as kinds
 use Rattle.column_bytes.specs.declared.form.Form.{Form}
@@ -69,11 +69,11 @@ IsCode (Sets sets) code = code < length sets
 abbrev pub AreCodes : Coded → Type 0
 AreCodes coded = (i : ℕ) → i < length coded.codes → slice_index_or coded.present i false ≡ true → IsCode coded.book (slice_index coded.codes i)
 
-abbrev pub kind_of : Codebook → Kind
-kind_of (Base base) = kinds.Ints
-kind_of (Anchors anchors) = kinds.Ints
-kind_of (Entries texts) = kinds.Texts
-kind_of (Sets sets) = kinds.Sets
+abbrev pub kind_of_book : Codebook → Kind
+kind_of_book (Base base) = kinds.Ints
+kind_of_book (Anchors anchors) = kinds.Ints
+kind_of_book (Entries texts) = kinds.Texts
+kind_of_book (Sets sets) = kinds.Sets
 
 -- whether codes of this kind are indices into a dictionary
 abbrev pub has_entries : Kind → Bool
@@ -89,10 +89,10 @@ entries (Entries texts) = map values.Text texts
 entries (Sets sets) = map values.Set sets
 
 -- the value that a reader lends
-abbrev pub value_of : ValueRef → Value
-value_of (seen.Int n) = values.Int n
-value_of (seen.Text text) = values.Text text.now
-value_of (seen.Set members) = values.Set members
+abbrev pub value_lent : ValueRef → Value
+value_lent (seen.Int n) = values.Int n
+value_lent (seen.Text text) = values.Text text.now
+value_lent (seen.Set members) = values.Set members
 
 -- ---- what the parts of a column mean
 

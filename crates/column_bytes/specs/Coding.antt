@@ -1,9 +1,9 @@
 -- How cells are written.
 use Rattle.std.specs.Prelude.{◌≡◌, ℕ, ◌+◌, ◌<◌, ◌≤◌, List, [], ◌∷◌, ◌++◌, length, take, slice_index, slice_index_or, ℤ, pos, Option, Some, None, IfSome}
 use Rattle.byteorder.specs.Endian.{little_bytes}
-use Rattle.leaf_model.specs.Values.{IsSet}
-use Rattle.leaf_model.specs.declared.rows.Value.{Value}
-use Rattle.leaf_model.specs.declared.rows.Value.TheVariants as values
+use Rattle.row_model.specs.Values.{IsSet}
+use Rattle.row_model.specs.declared.rows.Value.{Value}
+use Rattle.row_model.specs.declared.rows.Value.TheVariants as values
 use Rattle.column_bytes.specs.declared.kind.Kind.{Kind}
 use Rattle.column_bytes.specs.declared.kind.Kind.TheVariants as kinds
 use Rattle.column_bytes.specs.declared.form.Form.{Form}

@@ -1,7 +1,7 @@
 -- The meaning of the bytes of a column, by the offsets in its header.
 use Rattle.std.specs.Prelude.{◌≡◌, ℕ, ◌*◌, ◌<◌, ◌≤◌, ◌==◌, ◌&&◌, Bool, List, [], length, drop, slice_index, slice_range, Option, Some, None, if◌then◌else◌}
 use Rattle.bit_columns.specs.Bits.{IsBits, BitString, PackedCodes}
-use Rattle.leaf_model.specs.declared.rows.Value.{Value}
+use Rattle.row_model.specs.declared.rows.Value.{Value}
 use Rattle.column_bytes.specs.declared.kind.Kind.{Kind}
 use Rattle.column_bytes.specs.declared.kind.Kind.TheVariants.{Ints, Texts, Sets}
 use Rattle.column_bytes.specs.declared.form.Form.{Form}
@@ -17,63 +17,64 @@ form_at kind form =
     else (if (kind == 2) && (form == 1) then Some forms.Dictionary
     else (if (kind == 3) && (form == 1) then Some forms.Sets else None)))
 
--- the fields of the header, which has 40 bytes
-abbrev pub kind_in : List ℕ → Kind
-kind_in bytes = if slice_index bytes 0 == 1 then Ints else (if slice_index bytes 0 == 2 then Texts else Sets)
-
-abbrev pub width_in : List ℕ → ℕ
-width_in bytes = slice_index bytes 2
-
-abbrev pub count_in : List ℕ → ℕ
-count_in bytes = u32_at bytes 4
-
-abbrev pub codes_from : List ℕ → ℕ
-codes_from bytes = u64_at bytes 16
-
-abbrev pub extra_from : List ℕ → ℕ
-extra_from bytes = u64_at bytes 24
-
--- the three parts; they leave no gap
-abbrev pub presence_part : List ℕ → List ℕ
-presence_part bytes = slice_range bytes 40 (codes_from bytes)
-
-abbrev pub codes_part : List ℕ → List ℕ
-codes_part bytes = slice_range bytes (codes_from bytes) (extra_from bytes)
-
-abbrev pub extra_part : List ℕ → List ℕ
-extra_part bytes = drop (extra_from bytes) bytes
-
 -- the presence bits; None if all cells are there
 abbrev pub presence_bits : Bool → List ℕ → ℕ → Option BitString
 presence_bits all_there part n = if all_there then None else Some (record { bytes = part; count = n })
 
-abbrev pub presence_in : List ℕ → Option BitString
-presence_in bytes = presence_bits (slice_index bytes 3 == 0) (presence_part bytes) (count_in bytes)
+module _ (bytes : List ℕ) where
+  -- the fields of the header, which has 40 bytes
+  abbrev pub kind_in : Kind
+  kind_in = if slice_index bytes 0 == 1 then Ints else (if slice_index bytes 0 == 2 then Texts else Sets)
 
-abbrev pub packed_in : List ℕ → PackedCodes
-packed_in bytes = record { bytes = codes_part bytes; count = count_in bytes; width = width_in bytes }
+  abbrev pub width_in : ℕ
+  width_in = slice_index bytes 2
 
--- each small field is in its range
-pub record AreFields (bytes : List ℕ) : Type 0 where
-  pub width : width_in bytes ≤ 64
-  pub presence : slice_index bytes 3 ≤ 1
-  pub some : 0 < count_in bytes
-  pub few : count_in bytes ≤ 65536
+  abbrev pub count_in : ℕ
+  count_in = u32_at bytes 4
 
--- the parts follow the header, in their order, and end with the bytes
-pub record AreOffsets (bytes : List ℕ) : Type 0 where
-  pub presence : u64_at bytes 8 ≡ 40
-  pub codes : 40 ≤ codes_from bytes
-  pub extra : codes_from bytes ≤ extra_from bytes
-  pub inside : extra_from bytes ≤ length bytes
-  pub whole : u64_at bytes 32 ≡ length bytes
+  abbrev pub codes_from : ℕ
+  codes_from = u64_at bytes 16
 
--- the bytes begin with a header of this form, which fits their length
-pub record IsHeader (bytes : List ℕ) (form : Form) : Type 0 where
-  pub long : 40 ≤ length bytes
-  pub form_is : form_at (slice_index bytes 0) (slice_index bytes 1) ≡ Some form
-  pub fields : AreFields bytes
-  pub offsets : AreOffsets bytes
+  abbrev pub extra_from : ℕ
+  extra_from = u64_at bytes 24
+
+  -- the three parts; they leave no gap
+  abbrev pub presence_part : List ℕ
+  presence_part = slice_range bytes 40 codes_from
+
+  abbrev pub codes_part : List ℕ
+  codes_part = slice_range bytes codes_from extra_from
+
+  abbrev pub extra_part : List ℕ
+  extra_part = drop extra_from bytes
+
+  abbrev pub presence_in : Option BitString
+  presence_in = presence_bits (slice_index bytes 3 == 0) presence_part count_in
+
+  abbrev pub packed_in : PackedCodes
+  packed_in = record { bytes = codes_part; count = count_in; width = width_in }
+
+  -- each small field is in its range
+  pub record AreFields : Type 0 where
+    pub width : width_in ≤ 64
+    pub presence : slice_index bytes 3 ≤ 1
+    pub some : 0 < count_in
+    pub few : count_in ≤ 65536
+
+  -- the parts follow the header, in their order, and end with the bytes
+  pub record AreOffsets : Type 0 where
+    pub presence : u64_at bytes 8 ≡ 40
+    pub codes : 40 ≤ codes_from
+    pub extra : codes_from ≤ extra_from
+    pub inside : extra_from ≤ length bytes
+    pub whole : u64_at bytes 32 ≡ length bytes
+
+  -- the bytes begin with a header of this form, which fits their length
+  pub record IsHeader (form : Form) : Type 0 where
+    pub long : 40 ≤ length bytes
+    pub form_is : form_at (slice_index bytes 0) (slice_index bytes 1) ≡ Some form
+    pub fields : AreFields
+    pub offsets : AreOffsets
 
 -- the presence part: empty, or one bit for each of n cells
 abbrev pub IsPresence : Option BitString → List ℕ → ℕ → Type 0

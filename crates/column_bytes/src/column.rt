@@ -1,6 +1,6 @@
 // Encodes cells as the bytes of a column.
 ghost use Rattle.std.specs.Prelude.{◌≡◌, ◌<◌, ◌≤◌, ◌↔◌, ℕ, List, Option, length, map, is_some, option_map, IfOk, IfSome, IsTrue};
-ghost use Rattle.leaf_model.specs.declared.rows.Value.{Value};
+ghost use Rattle.row_model.specs.declared.rows.Value.{Value};
 ghost use Rattle.leaf_model.specs.Lent.{each_value, lent_value};
 ghost use Rattle.column_bytes.specs.declared.kind.Kind.TheVariants.{Ints, Texts};
 ghost use Rattle.column_bytes.specs.Cells.{Entries};

@@ -3,9 +3,9 @@ ghost use Rattle.std.specs.Prelude.{◌≡◌, ℕ, ◌+◌, ◌-◌, ◌*◌, �
 ghost use Rattle.std.specs.Int.{w64, div_ceil};
 ghost use Rattle.bit_columns.specs.Bits.{presence};
 ghost use Rattle.delta_codes.specs.Slots.{slot};
-ghost use Rattle.leaf_model.specs.declared.rows.Value.TheVariants.{Int};
+ghost use Rattle.row_model.specs.declared.rows.Value.TheVariants.{Int};
 ghost use Rattle.column_bytes.specs.declared.kind.Kind.TheVariants.{Ints};
-ghost use Rattle.column_bytes.specs.Cells.{IsCode, IsExtra, anchors_at, book_of, kind_of, there, value_at};
+ghost use Rattle.column_bytes.specs.Cells.{IsCode, IsExtra, anchors_at, book_of, kind_of_book, there, value_at};
 
 use crate::form::Form;
 use bit_columns::PresenceBits;
@@ -92,7 +92,7 @@ pub(crate) fn fill_slots(extra: &[u8], codes: &[u64], values: &mut [i64])
 pub(crate) fn fill_values(form: Form, extra: &[u8], codes: &[u64], values: &mut [i64])
     requires same { length values.old ≡ length codes.now }
     requires extra { IsExtra form (length codes.now) extra.now }
-    requires kind { kind_of (book_of form (length codes.now) extra.now) ≡ Ints }
+    requires kind { kind_of_book (book_of form (length codes.now) extra.now) ≡ Ints }
     ensures { (i : ℕ) → i < length codes.now
         → IsCode (book_of form (length codes.now) extra.now) (slice_index codes.now i)
         → value_at (book_of form (length codes.now) extra.now) codes.now i ≡ Int (slice_index_or values.new i (pos 0)) }

@@ -2,11 +2,11 @@
 ghost use Rattle.std.specs.Prelude.{◌≡◌, ℕ, ◌+◌, ◌*◌, ◌<◌, ◌≤◌, ◌^◌, length, map, List, is_some, IfOk, IfSome, Some, option_map, pos, ◌+ℤ◌, ◌≤ℤ◌, FitsSigned, slice_index, slice_index_or, Option};
 ghost use Rattle.std.specs.Int.{w64};
 ghost use Rattle.leaf_model.specs.Lent.{each_value, lent_value};
-ghost use Rattle.leaf_model.specs.declared.rows.Value.{Value};
-ghost use Rattle.leaf_model.specs.declared.rows.Value.TheVariants.{Int};
+ghost use Rattle.row_model.specs.declared.rows.Value.{Value};
+ghost use Rattle.row_model.specs.declared.rows.Value.TheVariants.{Int};
 ghost use Rattle.column_bytes.specs.declared.kind.Kind.TheVariants.{Ints};
 ghost use Rattle.dictionaries.specs.Fields.{i64_at};
-ghost use Rattle.column_bytes.specs.Cells.{IsExtra, book_of, kind_of};
+ghost use Rattle.column_bytes.specs.Cells.{IsExtra, book_of, kind_of_book};
 ghost use Rattle.column_bytes.specs.Column.{HasCells, kind_in};
 ghost use Rattle.column_bytes.specs.Coding.{IsOfKind, AreOfKind, AreIntegers, AreCodesOf};
 
@@ -155,7 +155,7 @@ pub(crate) fn write_integers(
     ensures cells { (cells : List (Option Value)) → map is_some cells ≡ present.now
         → AreIntegers cells integers.now → IfOk result (λ bytes. HasCells bytes.items (length present.now) cells) }
     ensures kind { IfOk result (λ bytes.
-        kind_in bytes.items ≡ kind_of (book_of form (length integers.now) coding.now.extra.items)) }
+        kind_in bytes.items ≡ kind_of_book (book_of form (length integers.now) coding.now.extra.items)) }
 {
     write(alloc, form, present, &coding.codes, &coding.extra)
 }

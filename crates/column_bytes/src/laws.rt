@@ -1,6 +1,6 @@
 // Laws of the bytes of every column.
 ghost use Rattle.std.specs.Prelude.{◌≡◌, ℕ, ◌<◌, ◌≤◌, List, length, Option};
-ghost use Rattle.leaf_model.specs.declared.rows.Value.{Value};
+ghost use Rattle.row_model.specs.declared.rows.Value.{Value};
 ghost use Rattle.column_bytes.specs.Column.{HasCells};
 
 /// No-op; states that bytes mean at most one list of cells, and that it has 1 to 65,536 of them, as the column says.

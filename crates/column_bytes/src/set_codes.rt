@@ -2,9 +2,9 @@
 ghost use Rattle.std.specs.Prelude.{◌≡◌, ℕ, ◌+◌, ◌*◌, ◌<◌, ◌≤◌, ◌^◌, ◌++◌, List, [], length, map, slice_index_or, IfOk, IfSome, OnOk, Some, option_map};
 ghost use Rattle.std.specs.List.{All};
 ghost use Rattle.leaf_model.specs.Lent.{each_value, lent_texts, lent_value};
-ghost use Rattle.leaf_model.specs.Values.{IsSet, bytes_in};
-ghost use Rattle.leaf_model.specs.declared.rows.Value.{Value};
-ghost use Rattle.leaf_model.specs.declared.rows.Value.TheVariants as values;
+ghost use Rattle.row_model.specs.Values.{IsSet, bytes_in};
+ghost use Rattle.row_model.specs.declared.rows.Value.{Value};
+ghost use Rattle.row_model.specs.declared.rows.Value.TheVariants as values;
 ghost use Rattle.column_bytes.specs.declared.kind.Kind.TheVariants as kinds;
 ghost use Rattle.dictionaries.specs.Fields.{u32_at};
 ghost use Rattle.column_bytes.specs.Cells.{Sets};

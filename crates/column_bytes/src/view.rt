@@ -2,11 +2,11 @@
 ghost use Rattle.std.specs.Prelude.{◌≡◌, ℕ, ◌+◌, ◌-◌, ◌*◌, ◌^◌, ◌<◌, ◌≤◌, ◌==◌, ◌↔◌, Bool, true, List, length, pos, ◌+ℤ◌, FitsSigned, ℤ, [], false, slice_index, slice_index_or, Option, IfOk, IsOk, IsTrue, IsSome, IfSome, Some, None, is_some, option_map, if◌then◌else◌, MatchOption, slice_range};
 ghost use Rattle.std.specs.Int.{w64, div_ceil};
 ghost use Rattle.bit_columns.specs.Bits.{code, codes};
-ghost use Rattle.leaf_model.specs.declared.rows.Value.{Value};
-ghost use Rattle.leaf_model.specs.declared.rows.Value.TheVariants.{Int};
+ghost use Rattle.row_model.specs.declared.rows.Value.{Value};
+ghost use Rattle.row_model.specs.declared.rows.Value.TheVariants.{Int};
 ghost use Rattle.column_bytes.specs.declared.kind.Kind.TheVariants.{Ints};
 ghost use Rattle.column_bytes.specs.declared.form.Form.{Form};
-ghost use Rattle.column_bytes.specs.Cells.{Coded, coded_of, cells_of, cell_at, value_at, value_of, kind_of, entries, entry_cells, has_entries, integer_cells, no_value, is_there, IsCode, IsExtra, AreCodes, book_of};
+ghost use Rattle.column_bytes.specs.Cells.{Coded, coded_of, cells_of, cell_at, value_at, value_lent, kind_of_book, entries, entry_cells, has_entries, integer_cells, no_value, is_there, IsCode, IsExtra, AreCodes, book_of};
 ghost use Rattle.column_bytes.specs.Next.{AreBitsOf, TellsFirst};
 ghost use Rattle.column_bytes.specs.Column.{HasCells, IsColumn, IsPresence, coded_in, kind_in, presence_bits};
 
@@ -47,7 +47,8 @@ impl<'a> Model for ColumnView<'a> {
 
     ghost view = { λ column. coded_of column.form column.count column.presence column.packed column.extra.now };
 
-    ghost invariant = { λ column. IsHeldColumn column.form column.count column.presence column.presence_bytes.now column.packed column.extra.now };
+    ghost invariant = { λ column. IsHeldColumn column.form column.count column.presence column.presence_bytes.now
+        column.packed column.extra.now };
 }
 
 // The base plus an offset. The reading of the column tested that this is an i64.
@@ -191,7 +192,7 @@ fn value_in<'a>(form: Form, packed: &Packed, extra: &'a [u8], i: u32) -> ValueRe
     requires inside { i < packed.now.count }
     requires extra { IsExtra form packed.now.count extra.now }
     requires code { IsCode (book_of form packed.now.count extra.now) (code packed.now.bytes packed.now.width i) }
-    ensures { value_of result ≡ value_at (book_of form packed.now.count extra.now)
+    ensures { value_lent result ≡ value_at (book_of form packed.now.count extra.now)
         (codes packed.now.bytes packed.now.width packed.now.count) i }
 {
     match form {
@@ -208,7 +209,7 @@ fn integer_in(form: Form, packed: &Packed, extra: &[u8], i: u32, before: i64) ->
     requires few { packed.now.count ≤ 65536 }
     requires inside { i < packed.now.count }
     requires extra { IsExtra form packed.now.count extra.now }
-    requires kind { kind_of (book_of form packed.now.count extra.now) ≡ Ints }
+    requires kind { kind_of_book (book_of form packed.now.count extra.now) ≡ Ints }
     requires code { IsCode (book_of form packed.now.count extra.now) (code packed.now.bytes packed.now.width i) }
     requires before { 0 < i → value_at (book_of form packed.now.count extra.now)
         (codes packed.now.bytes packed.now.width packed.now.count) (i - 1) ≡ Int before }
@@ -263,7 +264,7 @@ impl<'a> ColumnView<'a> {
         steps: &mut Steps<L>,
     ) -> Result<ColumnView<'a>, NoColumn>
         ensures accepted { IfOk result (λ view. HasCells bytes.now (length view.codes) (cells_of view)) }
-        ensures kind { IfOk result (λ view. kind_of view.book ≡ kind_in bytes.now) }
+        ensures kind { IfOk result (λ view. kind_of_book view.book ≡ kind_in bytes.now) }
         ensures exact { (n : ℕ) (cells : List (Option Value)) → HasCells bytes.now n cells → IsOk result }
         ensures step { steps.new ≡ steps.old + 1 }
     {
@@ -276,7 +277,7 @@ impl<'a> ColumnView<'a> {
 
     /// The kind of the values.
     pub fn kind(&self) -> Kind
-        ensures { result ≡ kind_of self.now.book }
+        ensures { result ≡ kind_of_book self.now.book }
     {
         match self.form {
             Form::Offset | Form::Delta => Kind::Ints,
@@ -297,7 +298,7 @@ impl<'a> ColumnView<'a> {
     /// The cell at place i. None if it is missing. The delta form adds up to 63 differences.
     pub fn cell(&self, i: u32) -> Option<ValueRef<'a>>
         requires { i < length self.now.codes }
-        ensures { option_map value_of result ≡ cell_at self.now i }
+        ensures { option_map value_lent result ≡ cell_at self.now i }
     {
         if is_there(&self.presence, i) {
             Some(value_in(self.form, &self.packed, self.extra, i))
@@ -337,7 +338,7 @@ impl<'a> ColumnView<'a> {
     /// Decodes a column of integers in order: the codes, which cells are there, and their values. Each slice has a
     /// place for each cell. The value of a missing cell means nothing.
     pub fn integers(&self, codes: &mut [u64], present: &mut [bool], values: &mut [i64])
-        requires kind { kind_of self.now.book ≡ Ints }
+        requires kind { kind_of_book self.now.book ≡ Ints }
         requires codes { length codes.old ≡ length self.now.codes }
         requires present { length present.old ≡ length self.now.codes }
         requires values { length values.old ≡ length self.now.codes }
@@ -351,7 +352,7 @@ impl<'a> ColumnView<'a> {
     /// Decodes a column of texts or sets in order: the codes, and which cells are there. Each slice has a place for
     /// each cell. The code of a missing cell means nothing.
     pub fn codes(&self, codes: &mut [u64], present: &mut [bool])
-        requires kind { has_entries (kind_of self.now.book) ≡ true }
+        requires kind { has_entries (kind_of_book self.now.book) ≡ true }
         requires codes { length codes.old ≡ length self.now.codes }
         requires present { length present.old ≡ length self.now.codes }
         ensures cells { cells_of self.now ≡ entry_cells (entries self.now.book) present.new codes.new }
@@ -376,7 +377,7 @@ impl<'a> ColumnView<'a> {
     /// The text or set of a code.
     pub fn entry(&self, code: u32) -> ValueRef<'a>
         requires { code < length (entries self.now.book) }
-        ensures { value_of result ≡ slice_index_or (entries self.now.book) code no_value }
+        ensures { value_lent result ≡ slice_index_or (entries self.now.book) code no_value }
     {
         match self.form {
             Form::Offset | Form::Delta => unreachable!(),

@@ -2,8 +2,8 @@
 ghost use Rattle.std.specs.Prelude.{◌≡◌, ◌+◌, ◌*◌, ◌<◌, ◌≤◌, ◌^◌, ◌++◌, [], length, map, List, Bool, true, IfOk, OnOk, Option, is_some, if◌then◌else◌};
 ghost use Rattle.std.specs.Int.{div_ceil};
 ghost use Rattle.byteorder.specs.Endian.{little_bytes};
-ghost use Rattle.leaf_model.specs.declared.rows.Value.{Value};
-ghost use Rattle.column_bytes.specs.Cells.{IsExtra, book_of, kind_of, there};
+ghost use Rattle.row_model.specs.declared.rows.Value.{Value};
+ghost use Rattle.column_bytes.specs.Cells.{IsExtra, book_of, kind_of_book, there};
 ghost use Rattle.column_bytes.specs.Column.{HasCells, IsPresence, kind_in, presence_bits};
 ghost use Rattle.column_bytes.specs.Coding.{IsCoding, column_bytes, form_byte, front_bytes, header_bytes, kind_byte};
 
@@ -172,7 +172,8 @@ pub(crate) fn write(
     ensures cells { (cells : List (Option Value))
         → map is_some cells ≡ present.now → IsCoding cells codes.now (book_of form (length present.now) extra.now)
         → IfOk result (λ bytes. HasCells bytes.items (length present.now) cells) }
-    ensures kind { IfOk result (λ bytes. kind_in bytes.items ≡ kind_of (book_of form (length present.now) extra.now)) }
+    ensures kind { IfOk result (λ bytes. kind_in bytes.items
+        ≡ kind_of_book (book_of form (length present.now) extra.now)) }
 {
     let presence = presence_of(alloc, present)?;
     let width = width_of(codes);

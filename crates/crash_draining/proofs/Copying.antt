@@ -1,24 +1,25 @@
 -- What happens to a leaf that copies its tables into its region.
-use Rattle.std.proofs.Common.{◌≡◌, ◌≢◌, ◌⊎◌, inl, inr, ◌∙◌, ℕ, List, None, map, sym, subst, arith}
+use Rattle.std.proofs.Common.{◌≡◌, ◌≢◌, ◌⊎◌, inl, inr, ◌∙◌, ℕ, List, None, map, refl, sym, subst, arith}
 use Rattle.leaf_model.specs.declared.writes.Write.{Write}
 use Rattle.berth_face.specs.Berth.{Meaning, IsClosed}
 use Rattle.table_state.specs.Tables.{Table}
 use Rattle.region_layout.specs.Region.{IsAdoptable}
-use Rattle.region_layout.specs.Images.{images_of}
+use Rattle.region_layout.specs.Images.{images_by_name}
 use Rattle.disk_backup.specs.State.{LogState}
 use Rattle.drain_copy.specs.declared.step.Next.TheVariants as next
 use Rattle.drain_copy.specs.Draining.{DrainState, Draining}
 use Rattle.crash_moments.specs.Left.{NamedStates}
 use Rattle.crash_moments.specs.Watched.{Watched, now_of}
 use Rattle.crash_moments.specs.Told.{SeenMore, Told}
+use Rattle.crash_moments.proofs.Alike.{images_alike}
 use Rattle.crash_moments.proofs.Telling.{none_more, opened_more}
-use Rattle.crash_states.specs.Standing.{Runs, Copies, Holds}
+use Rattle.crash_states.specs.Standing.{Runs, Copies, Holds, spare_in}
 use Rattle.crash_states.specs.Entries.{HandsAll}
 use Rattle.crash_draining.specs.Laws.{AreTaken, IsPlanned, DrainStepped, LeftAt, HandsOver}
 use Rattle.crash_draining.proofs.Planning.{planned_others, planned_same, planned_logs, planned_draining, planned_each}
 use Rattle.crash_draining.proofs.Stepping.{step_left, step_watched, step_opened, step_logs, step_closed}
 use Rattle.crash_draining.proofs.Resting.{treated_has, closed_or_image, ends_rest}
-use Rattle.crash_draining.proofs.Handing.{hands_more, hands_named, hands_watched, hands_has}
+use Rattle.crash_draining.proofs.Handing.{hands_more, hands_named, hands_spare, hands_watched, hands_has}
 
 -- all tables are treated, and the copy of them is planned
 pub planned : (ws : List Watched) (owner : ℕ) (tables : List Table) (log : LogState) (drain : DrainState) (writes : List ℕ → List Write) (m : Meaning)
@@ -27,7 +28,7 @@ planned ws owner tables log drain writes m runs none taken plan = record {
   watched = runs.watched;
   opened = runs.opened;
   stands = runs.stands;
-  images = images_of (map (λ (w : Watched). w.name) ws) tables;
+  images = images_by_name (map (λ (w : Watched). w.name) ws) tables;
   log_end = log.end;
   image = plan.image;
   same = planned_same ws owner tables log drain writes m runs none taken plan;
@@ -124,7 +125,7 @@ handed ws ws' image writes m holds all =
         stands = holds.stands;
         images = holds.images;
         log_end = holds.log_end;
-        same = holds.same;
+        same = images_alike (spare_in ws) (spare_in ws') writes writes holds.images (λ name. sym (hands_spare m.clock name ws ws' all)) (λ name. refl) holds.same;
         logs = holds.logs;
         each = hands_has m.clock writes ws ws' all holds.each;
         others = λ name unwatched. holds.others name (sym (hands_named m.clock name ws ws' all) ∙ unwatched);

@@ -1,18 +1,18 @@
 -- What handing the tables over adds to their histories.
 use Rattle.std.proofs.Common.{◌≡◌, ◌∙◌, ℕ, zero, suc, Bool, true, false, List, [], ◌∷◌, ◌++◌, Some, refl, sym, ap, subst, arith}
-use Rattle.std.specs.Prelude.{◌||◌, slice_get, bytes_eq}
+use Rattle.std.specs.Prelude.{◌||◌, slice_get, bytes_eq, if◌then◌else◌}
 use Rattle.std.specs.List.{AllByRecursion}
 use Rattle.std.proofs.lemmas.Option.{same_Some}
 use Rattle.leaf_model.specs.declared.writes.Write.{Write}
 use Rattle.leaf_history.specs.Calls as call
 use Rattle.leaf_history.specs.Replies as reply
-use Rattle.leaf_history.specs.History.{Entry, HistoryState, LegalFrom, after}
+use Rattle.leaf_history.specs.History.{Entry, HistoryState, LegalFrom, after, no_base}
 use Rattle.leaf_history.specs.Laws.{AreCallers, CallersKeep}
-use Rattle.leaf_history.proofs.Histories.{LegalFrom-front, LegalFrom-back, after-append, others_keep}
-use Rattle.crash_moments.specs.Watched.{Watched, IsFoundation, IsWatched, AreWatched, AreApart, Between, is_watched, now_of}
+use Rattle.leaf_history.proofs.Histories.{LegalFrom-front, LegalFrom-back, after-append, after_spare, others_keep}
+use Rattle.crash_moments.specs.Watched.{Watched, IsFoundation, IsWatched, AreWatched, AreApart, Between, by_name, is_watched, now_of}
 use Rattle.crash_moments.specs.Told.{SeenMore}
 use Rattle.crash_moments.proofs.Telling.{between_wider, between_append}
-use Rattle.crash_states.specs.Standing.{IsTreated}
+use Rattle.crash_states.specs.Standing.{IsTreated, spare_in}
 use Rattle.crash_states.specs.Entries.{Enters, HandsAll, stewards}
 use Rattle.crash_draining.proofs.Resting.{HasAll}
 
@@ -79,6 +79,20 @@ module _ (clock : ℕ) where
   hands_named name (w ∷ ws) [] all = absurd all
   hands_named name (w ∷ ws) (w' ∷ ws') all =
       ap (λ (n : List ℕ). bytes_eq name n || is_watched ws' name) all.0.name ∙ ap (λ (b : Bool). bytes_eq name w.name || b) (hands_named name ws ws' all.1)
+
+  -- each name has as many spare columns
+  pub hands_spare : (name : List ℕ) (ws ws' : List Watched) → HandsAll clock ws ws' → spare_in ws' name ≡ spare_in ws name
+  hands_spare name [] [] all = refl
+  hands_spare name [] (w' ∷ ws') all = absurd all
+  hands_spare name (w ∷ ws) [] all = absurd all
+  hands_spare name (w ∷ ws) (w' ∷ ws') all =
+      ap (λ (n : List ℕ). (if bytes_eq name n then now_of w' else by_name now_of (λ other. no_base) ws' name).spare) all.0.name
+      ∙ by (bytes_eq name w.name) (after_spare true w'.base w'.seen ∙ ap (λ (s : HistoryState). s.spare) all.0.base ∙ sym (after_spare true w.base w.seen)) (hands_spare name ws ws' all.1)
+    where
+      by : (b : Bool) → (now_of w').spare ≡ (now_of w).spare → spare_in ws' name ≡ spare_in ws name
+          → (if b then now_of w' else by_name now_of (λ other. no_base) ws' name).spare ≡ (if b then now_of w else by_name now_of (λ other. no_base) ws name).spare
+      by true here rest = here
+      by false here rest = rest
 
   hands_apart : (ws ws' : List Watched) → HandsAll clock ws ws' → AreApart ws → AreApart ws'
   hands_apart [] [] all apart = tt

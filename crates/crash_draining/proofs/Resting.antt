@@ -11,11 +11,11 @@ use Rattle.region_layout.specs.Region.{IsAdoptable}
 use Rattle.disk_backup.specs.Logs.{open_records}
 use Rattle.disk_backup.specs.Settling.{HasLog}
 use Rattle.region_layout.specs.ImageWrites.{AreImagesOf}
-use Rattle.disk_backup.specs.SoundLogs.{IsShort}
+use Rattle.disk_backup.specs.SoundLogs.{HasFewRows}
 use Rattle.disk_backup.proofs.SoundLogs.{none_short}
 use Rattle.crash_moments.specs.Left.{NamedStates, closed}
 use Rattle.crash_moments.specs.Watched.{Watched, IsFoundation, IsWatched, AreWatched, is_watched, now_of, others_then, was_opened}
-use Rattle.crash_states.specs.Standing.{StandsNow, IsKept, IsTreated, Rests, RegionRests, tables_of}
+use Rattle.crash_states.specs.Standing.{StandsNow, IsKept, IsTreated, Rests, RegionRests, spare_in, states_of_tables}
 use Rattle.crash_states.proofs.Names.{IsOwn, IsForeign, find_name, no_others, each_at}
 use Rattle.crash_states.proofs.States.{now_sound}
 use Rattle.crash_states.proofs.Disks.{sound_log}
@@ -58,21 +58,21 @@ pub record Ends (ws : List Watched) (writes : List ℕ → List Write) (m : Mean
   pub stands : StandsNow m
   pub images : List TableImage
   pub log_end : ℕ
-  pub same : AreImagesOf writes images
+  pub same : AreImagesOf (spare_in ws) writes images
   pub logs : EachNow (λ p. HasLog writes log_end p.disk) m
   pub each : (place : ℕ) (w : Watched) → slice_get ws place ≡ Some w → HasAll (writes w.name) (now_of w)
   pub others : (name : List ℕ) → is_watched ws name ≡ false → writes name ≡ []
   pub region : IsClosed m.held.region ⊎ IsAdoptable m.held.region images log_end
 
 module _ (ws : List Watched) (writes : List ℕ → List Write) (m : Meaning) (ends : Ends ws writes m) where
-  short : (name : List ℕ) → IsShort (writes name)
+  short : (name : List ℕ) → HasFewRows (writes name)
   short name = by (find_name ws name)
     where
-      by : IsOwn ws name ⊎ IsForeign ws name → IsShort (writes name)
+      by : IsOwn ws name ⊎ IsForeign ws name → HasFewRows (writes name)
       by (inl own) =
           let watched : IsWatched m.clock own.table = each_at (IsWatched m.clock) ws ends.watched.each own.place own.table own.at in
-          subst IsShort ((ends.each own.place own.table own.at).whole ∙ ap writes own.named) (now_sound m.clock own.table watched).short
-      by (inr foreign) = subst IsShort (sym (ends.others name foreign.unwatched)) none_short
+          subst HasFewRows ((ends.each own.place own.table own.at).whole ∙ ap writes own.named) (now_sound m.clock own.table watched).short
+      by (inr foreign) = subst HasFewRows (sym (ends.others name foreign.unwatched)) none_short
 
   -- a disk with a log has a gate
   not_empty : (disk : List ℕ) → HasLog writes ends.log_end disk → disk ≡ [] → ⊥
@@ -85,7 +85,7 @@ module _ (ws : List Watched) (writes : List ℕ → List Write) (m : Meaning) (e
     outside = others_then (was_opened m.clock ws) others
 
     abbrev tables : NamedStates
-    tables = tables_of others ws m
+    tables = states_of_tables others ws m
 
     -- where each name stands, all of it is in the log
     has_all : (name : List ℕ) → HasAll (writes name) (tables name)
@@ -98,10 +98,17 @@ module _ (ws : List Watched) (writes : List ℕ → List Write) (m : Meaning) (e
         by (inr foreign) =
             subst (HasAll (writes name)) (sym (foreign.stands now_of outside ∙ no_others (was_opened m.clock ws) others name ends.opened)) (none_has (writes name) (ends.others name foreign.unwatched))
 
+    spare_is : (name : List ℕ) → (tables name).spare ≡ spare_in ws name
+    spare_is name = by (find_name ws name)
+      where
+        by : IsOwn ws name ⊎ IsForeign ws name → (tables name).spare ≡ spare_in ws name
+        by (inl own) = ap (λ (s : HistoryState). s.spare) (own.stands now_of outside ∙ sym (own.stands now_of (λ n. no_base)))
+        by (inr foreign) = ap (λ (s : HistoryState). s.spare) (foreign.stands now_of outside ∙ no_others (was_opened m.clock ws) others name ends.opened ∙ sym (foreign.stands now_of (λ n. no_base)))
+
     region : IsClosed m.held.region ⊎ IsAdoptable m.held.region ends.images ends.log_end → RegionRests tables m
     region (inl shut) p left = closed shut
     region (inr is) p left =
-        image_left tables writes (record { region = m.held.region; disk = p.disk }) ends.images ends.log_end (λ name. (has_all name).whole) is ends.same (ends.logs p left)
+        image_left tables (spare_in ws) writes (record { region = m.held.region; disk = p.disk }) ends.images ends.log_end spare_is (λ name. (has_all name).whole) is ends.same (ends.logs p left)
 
     pub ends_rest : ((name : List ℕ) → IsFoundation (others name)) → Rests ws others writes None m
     ends_rest sound = record {

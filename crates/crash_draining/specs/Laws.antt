@@ -5,7 +5,7 @@ use Rattle.berth_face.specs.Berth.{Meaning, Passes}
 use Rattle.berth_face.specs.Moments.{Throughout}
 use Rattle.table_state.specs.Tables.{Table}
 use Rattle.region_layout.specs.Region.{IsAdoptable}
-use Rattle.region_layout.specs.Images.{images_of}
+use Rattle.region_layout.specs.Images.{images_by_name}
 use Rattle.disk_backup.specs.State.{LogState}
 use Rattle.drain_copy.specs.declared.step.Next.TheVariants as next
 use Rattle.drain_copy.specs.Draining.{DrainState, DrainsFrom}
@@ -23,7 +23,7 @@ pub record AreTaken (ws : List Watched) (tables : List Table) : Type 0 where
 
 -- the copy of these tables was planned, and nothing of it is in the region yet
 pub record IsPlanned (ws : List Watched) (tables : List Table) (log : LogState) (drain : DrainState) : Type 0 where
-  pub image : IsAdoptable drain.image (images_of (map (λ (w : Watched). w.name) ws) tables) log.end
+  pub image : IsAdoptable drain.image (images_by_name (map (λ (w : Watched). w.name) ws) tables) log.end
   pub begins : drain.next ≡ next.Begin
 
 -- a step of the drain, whatever comes of it

@@ -5,8 +5,8 @@ ghost use Rattle.crash_draining.specs.Laws.{CopiesOn};
 
 use berth_face::Berth;
 
-/// Between two calls on the berth: a leaf that gives its copy up leaves what belongs to its tables, and so does a leaf
-/// that has handed them over.
+/// Entries without a call on the berth: a leaf that gives its copy up leaves what belongs to its tables, and so does a
+/// leaf that has handed them over.
 pub fn copies_on<B: Berth>(berth: &B)
     ensures { CopiesOn (B.meaning berth.now) }
 {}

@@ -5,7 +5,7 @@ use Rattle.std.specs.List.{AllByRecursion}
 use Rattle.std.proofs.lemmas.Slice.Eq.{bytes_eq-Decides}
 use Rattle.berth_face.specs.Berth.{Pair}
 use Rattle.leaf_history.specs.History.{HistoryState, base_of}
-use Rattle.leaf_model.specs.Names.{AreDistinct}
+use Rattle.row_model.specs.Names.{AreDistinct}
 use Rattle.crash_moments.specs.Left.{NamedStates}
 use Rattle.crash_moments.proofs.Bases.{both, flushed_le}
 use Rattle.crash_moments.specs.Base.{IsBaseOf, IsFixed, PairsMayBegin}
@@ -41,7 +41,7 @@ names_are base (n ∷ own) others = ap (λ ns. n ∷ ns) (names_are base own oth
 fresh_one : (may : Pair → Type 0) (base : NamedStates) (x : Tracked) → IsBaseOf may x.name (base x.name) → IsBegun base x → Fresh x
 fresh_one may base x is (same, sure) =
     let le : (base x.name).flushed ≤ length (base x.name).writes = flushed_le may x.name (base x.name) is in
-    let it : x.state ≡ base_of (base x.name).writes (base x.name).flushed = same ∙ is.is in
+    let it : x.state ≡ base_of (base x.name).writes (base x.name).flushed (base x.name).spare = same ∙ is.is in
     record {
       live = ap (λ (s : HistoryState). s.live) it;
       handed = ap (λ (s : HistoryState). s.handed) it;

@@ -7,7 +7,7 @@ use Rattle.crash_moments.specs.Left.{NamedStates}
 use Rattle.crash_events.specs.Machine.{Machine, Tracked, Down, RegionIs, Closed, Whole, Either, Other}
 use Rattle.crash_events.specs.Events.{Resettled, AfterCrash, Step, crash}
 use Rattle.crash_events.specs.Kept.{AllPlaces}
-use Rattle.crash_events.specs.Fits.{FitsPair, RegionFits, shows_closed, shows_whole, shows_either, shows_other, state_of, IsElsewhere}
+use Rattle.crash_events.specs.Fits.{FitsPair, RegionFits, shows_closed, shows_whole, shows_either, shows_other, states_by_name, IsElsewhere}
 use Rattle.crash_events.proofs.Places.{no}
 use Rattle.crash_events.proofs.Fresh.{MayHave}
 use Rattle.crash_events.proofs.Ready.{image_of}
@@ -17,7 +17,7 @@ record After (m : Machine) (records : List LogRecord) (b : ℕ) (xs : List Track
   tables : List Tracked
   resettled : Resettled m b xs tables
   logs : (n : Machine) → AllPlaces (MayHave n records) b tables
-  states : (name : List ℕ) → state_of tables name ≡ state_of xs name
+  states : (name : List ℕ) → states_by_name tables name ≡ states_by_name xs name
   far : (name : List ℕ) → IsElsewhere name tables → IsElsewhere name xs
 
 after : (m : Machine) (records : List LogRecord) (b : ℕ) (xs : List Tracked) → AllPlaces (MayHave m records) b xs → After m records b xs
@@ -32,7 +32,7 @@ after m records b (x ∷ xs) logs =
       far = λ name f. (f.0, rest.far name f.1);
     }
   where
-    by : (name : List ℕ) (c : Bool) (ys : List Tracked) → state_of ys name ≡ state_of xs name → (if c then x.state else state_of ys name) ≡ (if c then x.state else state_of xs name)
+    by : (name : List ℕ) (c : Bool) (ys : List Tracked) → states_by_name ys name ≡ states_by_name xs name → (if c then x.state else states_by_name ys name) ≡ (if c then x.state else states_by_name xs name)
     by name true ys e = refl
     by name false ys e = e
 
@@ -53,7 +53,7 @@ region_after reads base tables pair Other same (shows_other v head not) = (Other
 pub crashes_fit : (reads : ℕ → Bool) (m : Machine) (pair : Pair) → FitsPair reads m pair → (m' : Machine) × (m'.mode ≡ Down) × Step m m' × FitsPair reads m' pair
 crashes_fit reads m pair f =
     let a : After m f.sound.0 0 m.tables = after m f.sound.0 0 m.tables f.logs in
-    let r = region_after reads (state_of m.tables) (state_of a.tables) pair m.region a.states f.region in
+    let r = region_after reads (states_by_name m.tables) (states_by_name a.tables) pair m.region a.states f.region in
     let m' : Machine = record { tables = a.tables; hand = None; mode = Down; region = r.0 } in (
       m',
       refl,

@@ -12,7 +12,7 @@ use Rattle.crash_moments.specs.Left.{NamedStates, Left, RegionLeft, closed, othe
 use Rattle.crash_events.specs.Machine.{Machine, Tracked, Hand, Mode, Down, Finding, Scanning, Adopting, Opening, Up, Preparing, Copying, RegionIs, Closed, Whole, Either, Other}
 use Rattle.crash_events.specs.Events.{IsSettled, MayBe}
 use Rattle.crash_events.specs.Kept.{KeptTable, KeptLeaf, Kept, AllPlaces, in_hand, holds_image, is_frozen, may_be_live, stays}
-use Rattle.crash_events.specs.Fits.{RegionFits, shows_closed, shows_whole, shows_either, shows_other, FitsPair, state_of, IsElsewhere}
+use Rattle.crash_events.specs.Fits.{RegionFits, shows_closed, shows_whole, shows_either, shows_other, FitsPair, states_by_name, IsElsewhere}
 use Rattle.crash_events.specs.Laws.{IsPlain}
 use Rattle.crash_events.proofs.Leaving.{may_be_between}
 use Rattle.crash_events.proofs.Modes.{or_left}
@@ -24,11 +24,11 @@ Front s records name = (m : ℕ) × (m ≤ length s.writes) × (s.flushed ≤ m)
 fronts : (m : Machine) (records : List LogRecord) (name : List ℕ) (b : ℕ) (xs : List Tracked)
     → AllPlaces (λ t x. KeptTable m.mode m.region (in_hand m.hand t) x) b xs
     → AllPlaces (λ t x. (n : ℕ) × MayBe m t x n × (writes_of x.name records ≡ take n x.state.writes)) b xs
-    → IsPlain xs → (IsElsewhere name xs → writes_of name records ≡ []) → Front (state_of xs name) records name
+    → IsPlain xs → (IsElsewhere name xs → writes_of name records ≡ []) → Front (states_by_name xs name) records name
 fronts m records name b [] k l plain others = (0, omega arith, omega arith, others tt)
 fronts m records name b (x ∷ xs) k l plain others = by (bytes_eq name x.name) refl (fronts m records name (b + 1) xs k.1 l.1 plain.1)
   where
-    by : (c : Bool) → bytes_eq name x.name ≡ c → ((IsElsewhere name xs → writes_of name records ≡ []) → Front (state_of xs name) records name) → Front (if c then x.state else state_of xs name) records name
+    by : (c : Bool) → bytes_eq name x.name ≡ c → ((IsElsewhere name xs → writes_of name records ≡ []) → Front (states_by_name xs name) records name) → Front (if c then x.state else states_by_name xs name) records name
     by true e rest =
         let n : ℕ = l.0.0 in
         let between : (x.sure ≤ n) × (n ≤ x.sure + in_hand m.hand b) = may_be_between m b x n l.0.1 in
@@ -40,12 +40,12 @@ fronts m records name b (x ∷ xs) k l plain others = by (bytes_eq name x.name) 
 wholes : (m : Machine) (records : List LogRecord) (name : List ℕ) → is_frozen m.mode m.region ≡ true → (b : ℕ) (xs : List Tracked)
     → AllPlaces (λ t x. KeptTable m.mode m.region (in_hand m.hand t) x) b xs
     → AllPlaces (λ t x. (n : ℕ) × MayBe m t x n × (writes_of x.name records ≡ take n x.state.writes)) b xs
-    → IsPlain xs → (IsElsewhere name xs → writes_of name records ≡ []) → writes_of name records ≡ (state_of xs name).writes
+    → IsPlain xs → (IsElsewhere name xs → writes_of name records ≡ []) → writes_of name records ≡ (states_by_name xs name).writes
 wholes m records name frozen b [] k l plain others = others tt
 wholes m records name frozen b (x ∷ xs) k l plain others = by (bytes_eq name x.name) refl (wholes m records name frozen (b + 1) xs k.1 l.1 plain.1)
   where
-    by : (c : Bool) → bytes_eq name x.name ≡ c → ((IsElsewhere name xs → writes_of name records ≡ []) → writes_of name records ≡ (state_of xs name).writes)
-        → writes_of name records ≡ (if c then x.state else state_of xs name).writes
+    by : (c : Bool) → bytes_eq name x.name ≡ c → ((IsElsewhere name xs → writes_of name records ≡ []) → writes_of name records ≡ (states_by_name xs name).writes)
+        → writes_of name records ≡ (if c then x.state else states_by_name xs name).writes
     by true e rest =
         let n : ℕ = l.0.0 in
         let between : (x.sure ≤ n) × (n ≤ x.sure + in_hand m.hand b) = may_be_between m b x n l.0.1 in
@@ -88,11 +88,11 @@ table_closed mode region hand n x leaf k live = by x.own refl
     by false own = let shut : x.state.live ≡ false = (k.stranger own).0 in absurd cc
 
 names_closed : (m : Machine) (name : List ℕ) (b : ℕ) (xs : List Tracked) → KeptLeaf m.mode m.region m.hand → AllPlaces (λ t x. KeptTable m.mode m.region (in_hand m.hand t) x) b xs
-    → (state_of xs name).live ≡ true → m.region ≡ Closed
+    → (states_by_name xs name).live ≡ true → m.region ≡ Closed
 names_closed m name b [] leaf k live = absurd cc
 names_closed m name b (x ∷ xs) leaf k live = by (bytes_eq name x.name) (names_closed m name (b + 1) xs leaf k.1) live
   where
-    by : (c : Bool) → ((state_of xs name).live ≡ true → m.region ≡ Closed) → (if c then x.state else state_of xs name).live ≡ true → m.region ≡ Closed
+    by : (c : Bool) → ((states_by_name xs name).live ≡ true → m.region ≡ Closed) → (if c then x.state else states_by_name xs name).live ≡ true → m.region ≡ Closed
     by true rest here = table_closed m.mode m.region m.hand (in_hand m.hand b) x leaf k.0 here
     by false rest here = rest here
 
@@ -103,11 +103,11 @@ closed_fits reads tables pair Either is (shows_either f) = absurd cc
 closed_fits reads tables pair Other is (shows_other version head n) = absurd cc
 
 -- a pair that fits a kept state belongs to its tables
-pub fitting_is_left : (reads : ℕ → Bool) (m : Machine) (pair : Pair) → IsPlain m.tables → Kept m → FitsPair reads m pair → Left reads (state_of m.tables) pair
+pub fitting_is_left : (reads : ℕ → Bool) (m : Machine) (pair : Pair) → IsPlain m.tables → Kept m → FitsPair reads m pair → Left reads (states_by_name m.tables) pair
 fitting_is_left reads m pair plain k f = record {
   sound = f.sound;
   front = λ name. fronts m f.sound.0 name 0 m.tables k.1 f.logs plain (f.others name);
-  region = regions reads (state_of m.tables) pair f.sound.0 f.sound.1 m.region f.sound.2
+  region = regions reads (states_by_name m.tables) pair f.sound.0 f.sound.1 m.region f.sound.2
       (λ e name. wholes m f.sound.0 name (or_left (holds_image m.region) (stays m.mode) e) 0 m.tables k.1 f.logs plain (f.others name)) f.region;
-  serving = λ name live. closed_fits reads (state_of m.tables) pair m.region (names_closed m name 0 m.tables k.0 k.1 live) f.region;
+  serving = λ name live. closed_fits reads (states_by_name m.tables) pair m.region (names_closed m name 0 m.tables k.0 k.1 live) f.region;
 }

@@ -14,5 +14,4 @@ pub mod Beginning
 pub mod Ready
 pub mod Names
 pub mod Crashes
-pub mod Empty
 mod Samples

@@ -10,7 +10,7 @@ use Rattle.leaf_history.specs.History.{HistoryState, base_of, no_base}
 use Rattle.region_head.specs.declared.head.Head.TheVariants.{Version}
 use Rattle.region_layout.specs.Images.{TableImage}
 use Rattle.region_layout.specs.ImageWrites.{AreImagesOf}
-use Rattle.leaf_model.specs.Names.{AreDistinct}
+use Rattle.row_model.specs.Names.{AreDistinct}
 use Rattle.region_head.specs.Head.{head_of}
 use Rattle.region_layout.specs.Region.{IsImage}
 use Rattle.region_head.proofs.Heads.{closed_head}
@@ -22,8 +22,8 @@ use Rattle.crash_moments.specs.Left.{NamedStates, Left, RegionLeft, closed, othe
 use Rattle.crash_moments.specs.Base.{HasWritesOf, IsBaseOf, IsFixed, HasTwoLengths, PairsMayBegin, IsReady}
 use Rattle.crash_events.specs.Machine.{Machine, Tracked, Down, RegionIs, Closed, Whole, Either, Other}
 use Rattle.crash_events.specs.Kept.{is_frozen}
-use Rattle.crash_events.specs.Fits.{FitsPair, RegionFits, shows_closed, shows_whole, shows_other, state_of, IsElsewhere}
-use Rattle.crash_events.specs.Begins.{begun_tables, begun, RegionReads, reads_closed, reads_whole, reads_other, LeavesItself, HasNoOther, MachineBegins}
+use Rattle.crash_events.specs.Fits.{FitsPair, RegionFits, shows_closed, shows_whole, shows_other, states_by_name, IsElsewhere}
+use Rattle.crash_events.specs.Begins.{begun_tables, machine_begun, RegionReads, reads_closed, reads_whole, reads_other, LeavesItself, HasNoOther, MachineBegins}
 use Rattle.crash_events.proofs.Places.{no}
 use Rattle.crash_moments.proofs.Alike.{images_alike}
 use Rattle.crash_moments.proofs.Bases.{both, flushed_le}
@@ -81,21 +81,23 @@ nothing_there may name s is none =
     let le : s.flushed ≤ length s.writes = flushed_le may name s is in
     let few : length s.writes ≡ 0 = ap (λ (ws : List Write). length ws) none in
     let zero : s.flushed ≡ 0 = omega (arith, le, few) in
-    is.is ∙ ap (λ (ws : List Write). base_of ws s.flushed) none ∙ ap (λ n. base_of [] n) zero
+    is.is ∙ ap (λ (ws : List Write). base_of ws s.flushed s.spare) none ∙ ap (λ n. base_of [] n s.spare) zero ∙ ap (λ n. base_of [] 0 n) (is.none none)
 
 state_is : (may : Pair → Type 0) (base : NamedStates) (name : List ℕ) (xs : List Tracked) → IsBaseOf may name (base name) → AllByRecursion (IsBegun base) xs
-    → (IsElsewhere name xs → (base name).writes ≡ []) → state_of xs name ≡ base name
+    → (IsElsewhere name xs → (base name).writes ≡ []) → states_by_name xs name ≡ base name
 state_is may base name [] is b none = sym (nothing_there may name (base name) is (none tt))
 state_is may base name (x ∷ xs) is b none = by (bytes_eq name x.name) refl (state_is may base name xs is b.1)
   where
-    by : (c : Bool) → bytes_eq name x.name ≡ c → ((IsElsewhere name xs → (base name).writes ≡ []) → state_of xs name ≡ base name) → (if c then x.state else state_of xs name) ≡ base name
+    by : (c : Bool) → bytes_eq name x.name ≡ c → ((IsElsewhere name xs → (base name).writes ≡ []) → states_by_name xs name ≡ base name) → (if c then x.state else states_by_name xs name) ≡ base name
     by true e rest = b.0.0 ∙ ap base (sym ((bytes_eq-Decides name x.name).0 e))
     by false e rest = rest (λ h. none (e, h))
 
 -- an image of tables is one of the same tables
-pub image_of : (base tables : NamedStates) (images : List TableImage) → ((name : List ℕ) → tables name ≡ base name) → AreImagesOf (λ name. (base name).writes) images
-    → AreImagesOf (λ name. (tables name).writes) images
-image_of base tables images same = images_alike (λ name. (base name).writes) (λ name. (tables name).writes) images (λ name. ap (λ (s : HistoryState). s.writes) (sym (same name)))
+pub image_of : (base tables : NamedStates) (images : List TableImage) → ((name : List ℕ) → tables name ≡ base name)
+    → AreImagesOf (λ name. (base name).spare) (λ name. (base name).writes) images → AreImagesOf (λ name. (tables name).spare) (λ name. (tables name).writes) images
+image_of base tables images same =
+    images_alike (λ name. (base name).spare) (λ name. (tables name).spare) (λ name. (base name).writes) (λ name. (tables name).writes) images (λ name. ap (λ (s : HistoryState). s.spare) (sym (same name)))
+    (λ name. ap (λ (s : HistoryState). s.writes) (sym (same name)))
 
 one_version : (v w : ℕ) → Version v ≡ Version w → v ≡ w
 one_version v w e = cc
@@ -120,23 +122,23 @@ none_longer m ws e = let short : length (take m ws) ≡ 0 = length-take m ws ∙
 
 -- each pair fits
 pair_fits : (reads : ℕ → Bool) (berth : Meaning) (base : NamedStates) (own others : List (List ℕ)) (r : RegionIs) (p : Pair) → IsReady reads berth base → LeavesItself berth
-    → AreDistinct (own ++ others) → HasNoOther base (begun_tables base own others) → RegionReads reads berth.held.region r → berth.leaves berth.clock p → FitsPair reads (begun base own others r) p
+    → AreDistinct (own ++ others) → HasNoOther base (begun_tables base own others) → RegionReads reads berth.held.region r → berth.leaves berth.clock p → FitsPair reads (machine_begun base own others r) p
 pair_fits reads berth base own others r p ready itself distinct none shows left =
     let may : Pair → Type 0 = λ q. berth.leaves berth.clock q in
-    let m : Machine = begun base own others r in
+    let m : Machine = machine_begun base own others r in
     let xs : List Tracked = begun_tables base own others in
     let l : Left reads base p = ready.begins.left p left in
     let b : AllByRecursion (IsBegun base) xs = are_begun base own others in
     let f : AllByRecursion Fresh xs = are_fresh may base xs ready.begins.base_is b in
     let but : (but : List ℕ) × ButOne base but = but_one reads may berth.held base ready.begins in
     let few : AtMostOne xs = at_most_one base but.0 xs but.1 (subst AreDistinct (sym (names_are base own others)) distinct) b in
-    let same : (name : List ℕ) → state_of xs name ≡ base name = λ name. state_is may base name xs (ready.begins.base_is name) b (none name) in
+    let same : (name : List ℕ) → states_by_name xs name ≡ base name = λ name. state_is may base name xs (ready.begins.base_is name) b (none name) in
     record {
       sound = l.sound;
       logs = all_have m l.sound.0 0 xs refl few (logs_are reads may berth.held base p ready.begins left l xs b) f;
       others = λ name far. (l.front name).3 ∙ none_longer (l.front name).0 (base name).writes (none name far);
       region = elim (itself.region p left) [
-        | inl held ↦ region_fits reads base (state_of xs) p r same (subst (λ bytes. RegionReads reads bytes r) (sym held) shows) l.region
+        | inl held ↦ region_fits reads base (states_by_name xs) p r same (subst (λ bytes. RegionReads reads bytes r) (sym held) shows) l.region
         | inr shut ↦ shows_closed shut
       ];
     }

@@ -5,7 +5,7 @@ use Rattle.crash_moments.specs.Left.{Left}
 use Rattle.crash_events.specs.Machine.{Machine}
 use Rattle.crash_events.specs.Events.{Reaches, here, next}
 use Rattle.crash_events.specs.Kept.{Kept}
-use Rattle.crash_events.specs.Fits.{FitsPair, state_of}
+use Rattle.crash_events.specs.Fits.{FitsPair, states_by_name}
 use Rattle.crash_events.specs.Laws.{IsPlain}
 use Rattle.crash_events.proofs.EveryEvent as one_event
 use Rattle.crash_events.proofs.Fitting.{fitting_is_left}
@@ -19,5 +19,5 @@ pub plain_throughout : (m m' : Machine) → IsPlain m.tables → Reaches m m' �
 plain_throughout m m' plain here = plain
 plain_throughout m m' plain (next {n} {p} run step) = plain_always n m' (plain_throughout m n plain run) step
 
-pub left_throughout : (reads : ℕ → Bool) (m m' : Machine) (pair : Pair) → IsPlain m.tables → Kept m → Reaches m m' → FitsPair reads m' pair → Left reads (state_of m'.tables) pair
+pub left_throughout : (reads : ℕ → Bool) (m m' : Machine) (pair : Pair) → IsPlain m.tables → Kept m → Reaches m m' → FitsPair reads m' pair → Left reads (states_by_name m'.tables) pair
 left_throughout reads m m' pair plain k run fits = fitting_is_left reads m' pair (plain_throughout m m' plain run) (kept_throughout m m' k run) fits

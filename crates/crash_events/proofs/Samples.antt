@@ -1,7 +1,7 @@
 -- A worked life of a leaf: a start over an empty disk, a flush, a crash inside it, and a drain.
 use Rattle.std.specs.Prelude.{ℕ, Bool, true, false, List, [], ◌∷◌, None, Some, codes, refl, map, pos}
 use Rattle.std.proofs.Common.{lit<, lit≤, inl, inr}
-use Rattle.leaf_model.specs.declared.rows.Row.{Row}
+use Rattle.row_model.specs.declared.rows.Row.{Row}
 use Rattle.leaf_model.specs.declared.writes.Write.{Write}
 use Rattle.leaf_model.specs.declared.writes.Write.TheVariants as write
 use Rattle.leaf_model.specs.Content.{nothing}
@@ -19,7 +19,7 @@ abbrev table : List Write → Bool → ℕ → ℕ → Bool → ℕ → Tracked
 table writes live taken known handed sure = record {
   name = codes "t";
   own = true;
-  state = record { before = nothing; handed_in = 0; writes = writes; live = live; taken = taken; flushed = known; handed = handed };
+  state = record { before = nothing; handed_in = 0; writes = writes; live = live; taken = taken; flushed = known; handed = handed; spare = 0 };
   sure = sure;
 }
 

@@ -1,10 +1,10 @@
 -- A caller's turn.
 use Rattle.std.proofs.Common.{◌≡◌, ℕ, ◌<◌, true, List, refl, sym, subst, arith, inl, inr}
 use Rattle.std.specs.Prelude.{◌⊎◌, if◌then◌else◌}
-use Rattle.leaf_model.specs.declared.rows.Row.{Row}
+use Rattle.row_model.specs.declared.rows.Row.{Row}
 use Rattle.leaf_model.specs.declared.writes.Write.{Write}
 use Rattle.leaf_history.specs.Calls.{Call}
-use Rattle.leaf_history.specs.Replies.{Reply}
+use Rattle.leaf_history.specs.Replies.{EntryReply}
 use Rattle.leaf_history.specs.History.{HistoryState, AddReply, RemoveReply, is_refusal, Allowed, changed, written}
 use Rattle.crash_events.specs.Machine.{Tracked, Mode, RegionIs}
 use Rattle.crash_events.specs.Kept.{KeptTable}
@@ -17,7 +17,7 @@ use Rattle.crash_events.proofs.Changes.{writes_one}
 abbrev Turned : HistoryState → HistoryState → Type 0
 Turned s s' = (s' ≡ s) ⊎ ((w : Write) × (s.live ≡ true) × (s' ≡ written s w))
 
-turn_add : (s : HistoryState) (rows : List Row) (r : Reply) → AddReply s rows r → Turned s (if is_refusal r then s else written s (write.Add rows))
+turn_add : (s : HistoryState) (rows : List Row) (r : EntryReply) → AddReply s rows r → Turned s (if is_refusal r then s else written s (write.Add rows))
 turn_add s rows (reply.Added kept late) a = inr (write.Add rows, a.0, refl)
 turn_add s rows reply.Shut a = inl refl
 turn_add s rows reply.Full a = inl refl
@@ -27,7 +27,7 @@ turn_add s rows (reply.Groups gs) a = absurd a
 turn_add s rows (reply.Counted n) a = absurd a
 turn_add s rows reply.Noted a = absurd a
 
-turn_remove : (s : HistoryState) (w : Write) (r : Reply) → RemoveReply s w r → Turned s (if is_refusal r then s else written s w)
+turn_remove : (s : HistoryState) (w : Write) (r : EntryReply) → RemoveReply s w r → Turned s (if is_refusal r then s else written s w)
 turn_remove s w (reply.Removed n) a = inr (w, a.0, refl)
 turn_remove s w reply.Shut a = inl refl
 turn_remove s w reply.NoMemory a = inl refl
@@ -37,7 +37,7 @@ turn_remove s w (reply.Groups gs) a = absurd a
 turn_remove s w (reply.Counted n) a = absurd a
 turn_remove s w reply.Noted a = absurd a
 
-turn_ask : (s : HistoryState) (r : Reply) → Turned s (if is_refusal r then s else s)
+turn_ask : (s : HistoryState) (r : EntryReply) → Turned s (if is_refusal r then s else s)
 turn_ask s reply.Shut = inl refl
 turn_ask s _ = inl refl
 
@@ -47,7 +47,7 @@ not_steward caller h e = absurd (wrong caller h e)
     wrong : (n : ℕ) → 0 < n → n ≡ 0 → ⊥
     wrong n h e = omega (arith, h, e)
 
-pub turns : (s : HistoryState) (caller : ℕ) (c : Call) (r : Reply) → 0 < caller → Allowed true s caller c r → Turned s (if is_refusal r then s else changed true s c)
+pub turns : (s : HistoryState) (caller : ℕ) (c : Call) (r : EntryReply) → 0 < caller → Allowed true s caller c r → Turned s (if is_refusal r then s else changed true s c)
 turns s caller (call.Add rows) r h a = turn_add s rows r a.1
 turns s caller (call.Expire horizon) r h a = turn_remove s (write.Expire horizon) r a.1
 turns s caller (call.Keep n) r h a = turn_remove s (write.Keep n) r a.1

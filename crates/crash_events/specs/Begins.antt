@@ -4,7 +4,7 @@ use Rattle.berth_face.specs.Berth.{Pair, Meaning, IsClosed}
 use Rattle.berth_face.specs.Moments.{KeepsRegion}
 use Rattle.region_head.specs.declared.head.Head.TheVariants.{Version}
 use Rattle.region_layout.specs.Images.{TableImage}
-use Rattle.leaf_model.specs.Names.{AreDistinct}
+use Rattle.row_model.specs.Names.{AreDistinct}
 use Rattle.region_head.specs.Head.{head_of}
 use Rattle.region_layout.specs.Region.{IsImage}
 use Rattle.crash_moments.specs.Left.{NamedStates}
@@ -33,8 +33,8 @@ open_hand t (x ∷ xs) = if length x.state.writes == x.sure then open_hand (t + 
     else Some (open_of t x)
 
 -- the machine begins in Down
-abbrev pub begun : NamedStates → List (List ℕ) → List (List ℕ) → RegionIs → Machine
-begun base own others region = record { tables = begun_tables base own others; hand = open_hand 0 (begun_tables base own others); mode = Down; region = region }
+abbrev pub machine_begun : NamedStates → List (List ℕ) → List (List ℕ) → RegionIs → Machine
+machine_begun base own others region = record { tables = begun_tables base own others; hand = open_hand 0 (begun_tables base own others); mode = Down; region = region }
 
 -- what a region's bytes are
 pub data RegionReads (reads : ℕ → Bool) (region : List ℕ) : RegionIs → Type 0 where
@@ -56,9 +56,9 @@ HasNoOther base tables = (name : List ℕ) → IsElsewhere name tables → (base
 pub record MachineBegins (reads : ℕ → Bool) (berth : Meaning) (base : NamedStates) (own others : List (List ℕ)) : Type 0 where
   pub region : RegionIs
   pub region_reads : RegionReads reads berth.held.region region
-  pub kept : Kept (begun base own others region)
+  pub kept : Kept (machine_begun base own others region)
   pub plain : IsPlain (begun_tables base own others)
-  pub fits : (pair : Pair) → berth.leaves berth.clock pair → FitsPair reads (begun base own others region) pair
+  pub fits : (pair : Pair) → berth.leaves berth.clock pair → FitsPair reads (machine_begun base own others region) pair
 
 -- over a ready berth a leaf begins, whatever its tables and its base
 abbrev pub LeafBegins : (ℕ → Bool) → Meaning → Type 0

@@ -24,14 +24,14 @@ LogFits m records = AllPlaces (λ t x. (n : ℕ) × MayBe m t x n × (writes_of 
 pub data RegionFits (reads : ℕ → Bool) (tables : NamedStates) (pair : Pair) : RegionIs → Type 0 where
   shows_closed : {r : RegionIs} → IsClosed pair.region → RegionFits reads tables pair r
   shows_whole : (version : ℕ) (images : List TableImage) (records : List LogRecord) (end : ℕ) → reads version ≡ true → IsImage version pair.region images end
-      → AreImagesOf (λ name. (tables name).writes) images → ClosedLog records end pair.disk → RegionFits reads tables pair Whole
+      → AreImagesOf (λ name. (tables name).spare) (λ name. (tables name).writes) images → ClosedLog records end pair.disk → RegionFits reads tables pair Whole
   shows_either : RegionFits reads tables pair Whole → RegionFits reads tables pair Either
   shows_other : (version : ℕ) → head_of pair.region ≡ Version version → reads version ≡ false → RegionFits reads tables pair Other
 
 -- the state of each name; a name of no table has no writes
-abbrev pub state_of : List Tracked → NamedStates
-state_of [] name = no_base
-state_of (x ∷ xs) name = if bytes_eq name x.name then x.state else state_of xs name
+abbrev pub states_by_name : List Tracked → NamedStates
+states_by_name [] name = no_base
+states_by_name (x ∷ xs) name = if bytes_eq name x.name then x.state else states_by_name xs name
 
 -- no table has this name
 abbrev pub IsElsewhere : List ℕ → List Tracked → Type 0
@@ -43,4 +43,4 @@ pub record FitsPair (reads : ℕ → Bool) (m : Machine) (pair : Pair) : Type 0 
   pub sound : IsSound pair.disk
   pub logs : LogFits m sound.0
   pub others : (name : List ℕ) → IsElsewhere name m.tables → writes_of name sound.0 ≡ []
-  pub region : RegionFits reads (state_of m.tables) pair m.region
+  pub region : RegionFits reads (states_by_name m.tables) pair m.region

@@ -121,7 +121,7 @@ is_running (Finding found) = false
 is_running (Scanning made) = false
 is_running Adopting = false
 
--- the invariant of one table, of which n writes are in the hand
+-- the invariant of one table; n of its writes are in the hand
 pub record KeptTable (mode : Mode) (region : RegionIs) (n : ℕ) (x : Tracked) : Type 0 where
   -- what is known to be on the disk is sure; what is sure was taken, and the hand's writes follow it; what was taken
   -- was accepted

@@ -6,7 +6,7 @@ use Rattle.crash_moments.specs.Left.{Left}
 use Rattle.crash_events.specs.Machine.{Machine, Tracked, Down}
 use Rattle.crash_events.specs.Events.{Reaches, Step}
 use Rattle.crash_events.specs.Kept.{Kept}
-use Rattle.crash_events.specs.Fits.{FitsPair, state_of}
+use Rattle.crash_events.specs.Fits.{FitsPair, states_by_name}
 
 -- the tables were handed in nothing, so their writes are all that they accepted
 abbrev pub IsPlain : List Tracked → Type 0
@@ -22,7 +22,7 @@ PlainThroughout = (m m' : Machine) → IsPlain m.tables → Reaches m m' → IsP
 
 -- a pair that fits what was reached belongs to its tables, whatever versions are read
 abbrev pub LeftThroughout : Type 0
-LeftThroughout = (reads : ℕ → Bool) (m m' : Machine) (pair : Pair) → IsPlain m.tables → Kept m → Reaches m m' → FitsPair reads m' pair → Left reads (state_of m'.tables) pair
+LeftThroughout = (reads : ℕ → Bool) (m m' : Machine) (pair : Pair) → IsPlain m.tables → Kept m → Reaches m m' → FitsPair reads m' pair → Left reads (states_by_name m'.tables) pair
 
 -- a crash may leave each pair that fits; the leaf is then down, with nothing in the hand, and the pair fits it
 abbrev pub FittingIsCrash : Type 0

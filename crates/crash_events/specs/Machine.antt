@@ -9,7 +9,7 @@ pub record Tracked : Type 0 where
   pub state : HistoryState
   pub sure : ℕ  -- how many of its writes every crash leaves
 
--- a record that is being settled: of which table, and how many writes
+-- the record that is being settled: its table and its number of writes
 pub record Hand : Type 0 where
   pub table : ℕ
   pub writes : ℕ

@@ -8,7 +8,7 @@ ghost use Rattle.crash_events.specs.Laws.{FittingIsCrash, KeptThroughout, LeftTh
 use berth_face::Berth;
 
 /// After each event of every run the invariant holds, no table was handed in writes, and each region and disk that a
-/// crash may leave belong to the tables as they are. What a crash may leave, the event of a crash leaves.
+/// crash may leave belong to the tables as they are. The event of a crash leaves just these pairs.
 pub fn kept_always()
     ensures kept { KeptThroughout }
     ensures plain { PlainThroughout }

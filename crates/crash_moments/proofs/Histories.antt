@@ -5,15 +5,15 @@ use Rattle.std.specs.List.{AllByRecursion}
 use Rattle.std.proofs.lemmas.Bool.{true≢false, cases_lt}
 use Rattle.std.proofs.lemmas.List.{length-append, length-drop, length-take, take-take, take_all, take-append-le}
 use Rattle.std.proofs.lemmas.List.Filters.{length-filter_both}
-use Rattle.leaf_model.specs.declared.rows.Row.{Row}
+use Rattle.row_model.specs.declared.rows.Row.{Row}
 use Rattle.leaf_model.specs.declared.writes.Write.{Write}
 use Rattle.leaf_model.specs.declared.writes.Write.TheVariants as write
 use Rattle.leaf_model.specs.Content.{Contents, content, content_from, content_after, nothing, rows_from, last_rows, kept_count}
 use Rattle.leaf_history.specs.Calls.{Call}
 use Rattle.leaf_history.specs.Calls as call
-use Rattle.leaf_history.specs.Replies.{Reply}
+use Rattle.leaf_history.specs.Replies.{EntryReply}
 use Rattle.leaf_history.specs.Replies as reply
-use Rattle.leaf_history.specs.History.{Entry, HistoryState, LegalFrom, Allowed, AddReply, after, after_entry, changed, held, is_refusal}
+use Rattle.leaf_history.specs.History.{Entry, HistoryState, LegalFrom, Allowed, AddReply, after, after_entry, changed, contents_held, is_refusal}
 use Rattle.leaf_history.specs.Laws.{CallersKeep, AreCallers, HasSoundCounts}
 use Rattle.leaf_history.proofs.Histories.{LegalFrom-back, after-append, others_keep, counts_stay}
 use Rattle.crash_moments.specs.Watched.{Between, IsFoundation, is_made, cut, state_then, now_of}
@@ -60,7 +60,7 @@ written_within most writes w within fits k = elim (cases_lt (length writes) k) [
 -- ---- one accepted call
 
 -- an add that was accepted had room
-had_room : (s : HistoryState) (rows : List Row) (r : Reply) → AddReply s rows r → is_refusal r ≡ false → length (held s).rows + kept_count (held s) rows ≤ 2 ^ 40
+had_room : (s : HistoryState) (rows : List Row) (r : EntryReply) → AddReply s rows r → is_refusal r ≡ false → length (contents_held s).rows + kept_count (contents_held s) rows ≤ 2 ^ 40
 had_room s rows (reply.Added kept late) a accepted = a.1
 had_room s rows reply.Shut a accepted = absurd (true≢false accepted)
 had_room s rows reply.Full a accepted = absurd (true≢false accepted)
@@ -86,7 +86,7 @@ record IsPlain (most : ℕ) (s : HistoryState) : Type 0 where
 written_plain : (most : ℕ) (s : HistoryState) (w : Write) → IsPlain most s → length (content_after (content s.writes) w).rows ≤ most → IsPlain most (record s { writes = s.writes ++ w ∷ [] })
 written_plain most s w plain fits = record { before = plain.before; handed_in = plain.handed_in; within = written_within most s.writes w plain.within fits }
 
-plain_changed : (s : HistoryState) (caller : ℕ) (c : Call) (r : Reply) → IsPlain (2 ^ 40) s → Allowed true s caller c r → is_refusal r ≡ false → IsPlain (2 ^ 40) (changed true s c)
+plain_changed : (s : HistoryState) (caller : ℕ) (c : Call) (r : EntryReply) → IsPlain (2 ^ 40) s → Allowed true s caller c r → is_refusal r ≡ false → IsPlain (2 ^ 40) (changed true s c)
 plain_changed s caller (call.Add rows) r plain a accepted =
     written_plain (2 ^ 40) s (write.Add rows) plain (added_within (2 ^ 40) s.before s.writes rows plain.before (had_room s rows r a.1 accepted))
 plain_changed s caller (call.Expire horizon) r plain a accepted =

@@ -15,9 +15,11 @@ abbrev pub HasWritesOf : List ℕ → List ℕ → List Write → Type 0
 HasWritesOf disk name writes = (records : List LogRecord) × (end : ℕ) × IsLog disk records end × (writes ≡ writes_of name records)
 
 -- the base of a name, over the pairs that a crash may leave now: the writes of its longest log; those of the shortest
--- count as flushed
+-- count as flushed. A name without
+-- writes has no spare columns.
 pub record IsBaseOf (may_leave : Pair → Type 0) (name : List ℕ) (base : HistoryState) : Type 0 where
-  pub is : base ≡ base_of base.writes base.flushed
+  pub is : base ≡ base_of base.writes base.flushed base.spare
+  pub none : base.writes ≡ [] → base.spare ≡ 0
   pub longest : (pair : Pair) × may_leave pair × HasWritesOf pair.disk name base.writes
   pub least : (pair : Pair) × (writes : List Write) × may_leave pair × HasWritesOf pair.disk name writes × (base.flushed ≡ length writes)
   pub between : (pair : Pair) (writes : List Write) → may_leave pair → HasWritesOf pair.disk name writes → (base.flushed ≤ length writes) × (length writes ≤ length base.writes)

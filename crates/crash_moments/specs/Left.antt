@@ -27,7 +27,7 @@ pub data RegionLeft (reads : ℕ → Bool) (tables : NamedStates) (pair : Pair) 
   image : (version : ℕ) (images : List TableImage) (end : ℕ)
       → reads version ≡ true
       → IsImage version pair.region images end
-      → AreImagesOf (λ name. (tables name).writes) images
+      → AreImagesOf (λ name. (tables name).spare) (λ name. (tables name).writes) images
       → HasLog (λ name. (tables name).writes) end pair.disk
       → RegionLeft reads tables pair
 

@@ -5,7 +5,7 @@ use Rattle.leaf_model.specs.Content.{nothing}
 use Rattle.leaf_history.specs.Calls.{Call}
 use Rattle.leaf_history.specs.Calls as call
 use Rattle.leaf_history.specs.History.{Entry, HistoryState, LegalFrom, after, no_base, write_count}
-use Rattle.disk_backup.specs.SoundLogs.{IsShort}
+use Rattle.disk_backup.specs.SoundLogs.{HasFewRows}
 use Rattle.crash_moments.specs.Left.{NamedStates}
 
 -- a table: its name, its base, and the prefix of its history that the steward has seen
@@ -75,7 +75,7 @@ pub record IsFoundation (s : HistoryState) : Type 0 where
   pub before : s.before ≡ nothing
   pub handed_in : s.handed_in ≡ 0
   pub taken : s.taken ≤ write_count s
-  pub short : IsShort s.writes
+  pub short : HasFewRows s.writes
 
 -- the table's history is legal, and the steward made no entry later than now
 pub record IsWatched (clock : ℕ) (w : Watched) : Type 0 where

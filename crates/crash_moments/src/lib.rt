@@ -12,7 +12,7 @@ pub fn histories_stay_sound()
     ensures keeps { CutKeeps }
 {}
 
-/// If two calls in a row tell of their moments, the same is told of both together.
+/// If each of two calls in a row keeps `Told`, so do both together.
 pub fn told_joins<B: Berth>(first: &B, second: &B, third: &B)
     ensures { ToldJoins (B.meaning first.now) (B.meaning second.now) (B.meaning third.now) }
 {}

@@ -2,7 +2,7 @@
 use Rattle.std.proofs.Common.{◌≡◌, ◌∙◌, ℕ, true, List, [], ◌∷◌, ◌++◌, refl, sym, ap, subst, arith, Some, append_assoc}
 use Rattle.std.specs.Prelude.{slice_get, slice_set}
 use Rattle.leaf_history.specs.Calls.{Call}
-use Rattle.leaf_history.specs.Replies.{Reply}
+use Rattle.leaf_history.specs.Replies.{EntryReply}
 use Rattle.leaf_history.specs.History.{HistoryState, Entry, LegalFrom, Allowed, after, after_entry}
 use Rattle.leaf_history.proofs.Histories.{LegalFrom-front, LegalFrom-back, after-append}
 use Rattle.crash_moments.specs.Watched.{Watched, Between, AreWatched, IsWatched, IsFoundation, now_of, was_opened}
@@ -14,7 +14,7 @@ use Rattle.crash_states.proofs.States.{now_sound}
 use Rattle.crash_states.proofs.Meeting.{callers_between, learned_watched, met_apart, met_each}
 use Rattle.crash_serving.proofs.Places.{set_more}
 
-module _ {clock : ℕ} {c : Call} {r : Reply} {w w' : Watched} (e : Enters clock c r w w') where
+module _ {clock : ℕ} {c : Call} {r : EntryReply} {w w' : Watched} (e : Enters clock c r w w') where
   abbrev last : List Entry
   last = stewards clock c r ∷ []
 

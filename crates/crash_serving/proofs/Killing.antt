@@ -18,7 +18,7 @@ use Rattle.crash_moments.specs.Left.{NamedStates, closed}
 use Rattle.crash_moments.specs.Watched.{Watched, AreApart, IsFoundation, IsWatched, is_watched, now_of, was_opened}
 use Rattle.crash_moments.specs.Told.{SeenMore}
 use Rattle.crash_moments.proofs.Telling.{none_more, opened_more}
-use Rattle.crash_states.specs.Standing.{IsKept, IsLogged, Rests, Runs, tables_of}
+use Rattle.crash_states.specs.Standing.{IsKept, IsLogged, Rests, Runs, states_of_tables}
 use Rattle.crash_states.specs.Entries.{Enters, ShutsAll}
 use Rattle.crash_serving.specs.Laws.{IsKilled}
 use Rattle.crash_states.proofs.Names.{IsForeign, IsOwn, find_name, no_others, others_at}
@@ -118,10 +118,10 @@ module _ (ws ws' : List Watched) (owner : ℕ) (log : LogState) (writes : List �
   still_opened : was_opened m.clock ws' ≡ true
   still_opened = opened_more m.clock m.clock m.clock m.clock ws ws' (omega arith) more runs.opened
 
-  each_kept : (others : NamedStates) (name : List ℕ) → IsKept (writes name) (taken name) (tables_of others ws' m name)
+  each_kept : (others : NamedStates) (name : List ℕ) → IsKept (writes name) (taken name) (states_of_tables others ws' m name)
   each_kept others name = by (find_name ws' name)
     where
-      by : IsOwn ws' name ⊎ IsForeign ws' name → IsKept (writes name) (taken name) (tables_of others ws' m name)
+      by : IsOwn ws' name ⊎ IsForeign ws' name → IsKept (writes name) (taken name) (states_of_tables others ws' m name)
       by (inl own) =
           let ends = ends_at m.clock ws ws' own.place own.table all own.at in
           let same : ends.0.name ≡ name = sym (ends_more m.clock ends.0 own.table ends.2).0.0 ∙ own.named in

@@ -43,7 +43,7 @@ pub record Owes (pending : Option LogRecord) (log log' : LogState) : Type 0 wher
   pub whole : IfSome pending IsRecord
 
 -- the writes that were not taken just before the steward's entry
-abbrev pub untaken_before : {clock : ℕ} → {c : call.Call} → {r : reply.Reply} → {w w' : Watched} → Enters clock c r w w' → List Write
+abbrev pub untaken_before : {clock : ℕ} → {c : call.Call} → {r : reply.EntryReply} → {w w' : Watched} → Enters clock c r w w' → List Write
 untaken_before {clock} {c} {r} {w} {w'} e = untaken (after true w.base (w.seen ++ e.between))
 
 -- a table was taken, or shut: its writes up to now are in the log, or are owed to it

@@ -20,7 +20,7 @@ use Rattle.disk_backup.proofs.SoundLogs.{sound_begins}
 use Rattle.leaf_opening.proofs.Regions.{left_closed, broken_same}
 use Rattle.crash_moments.specs.Left.{NamedStates, RegionLeft, closed}
 use Rattle.crash_moments.specs.Watched.{Watched}
-use Rattle.crash_states.specs.Standing.{StandsNow, Rests, RegionRests, IsKept, tables_of}
+use Rattle.crash_states.specs.Standing.{StandsNow, Rests, RegionRests, IsKept, states_of_tables}
 use Rattle.crash_starting.specs.Laws.{OpeningMade}
 use Rattle.crash_starting.proofs.Watching.{watched_later, tables_later}
 
@@ -120,9 +120,9 @@ module _ (ws : List Watched) (others : NamedStates) (least : List ℕ → List W
   -- ---- a berth of such pairs
 
   opens_rests : (b : Meaning) → a.clock ≤ b.clock → StandsNow b → EachNow (OpensFrom a) b → (b.held.disk ≡ [] → EachNow (λ p. length p.disk ≤ 1) b)
-      → RegionRests (tables_of others ws a) b → Rests ws others least next b
+      → RegionRests (states_of_tables others ws a) b → Rests ws others least next b
   opens_rests b later stands came empty region =
-      let same : tables_of others ws a ≡ tables_of others ws b = sym (tables_later others ws a b later rests.watched) in
+      let same : states_of_tables others ws a ≡ states_of_tables others ws b = sym (tables_later others ws a b later rests.watched) in
       record {
         watched = watched_later a.clock b.clock ws later rests.watched;
         stands = stands;
@@ -141,7 +141,7 @@ module _ (ws : List Watched) (others : NamedStates) (least : List ℕ → List W
       (elim (closed_or_open p.region) [
         | inl shut ↦ λ q is. closed shut
         | inr opened ↦
-            region_stays (tables_of others ws a) a (alone t p) (region_open p came opened) (λ q is. (came.from, came.was, ap (λ (r : Pair). r.disk) is ∙ disk_open p came opened)) rests.region
+            region_stays (states_of_tables others ws a) a (alone t p) (region_open p came opened) (λ q is. (came.from, came.was, ap (λ (r : Pair). r.disk) is ∙ disk_open p came opened)) rests.region
       ])
 
   -- and so does its end
@@ -154,7 +154,7 @@ module _ (ws : List Watched) (others : NamedStates) (least : List ℕ → List W
       let came : EachNow (OpensFrom a) b = now_of a b (OpensFrom a) made.moments in
       opens_rests b made.passes.later made.stands came (λ none p left. short_open (none_before b made.held none) p (came p left)) (elim region [
         | inl shut ↦ λ p left. closed shut
-        | inr same ↦ region_stays (tables_of others ws a) a b same.0 same.1 rests.region
+        | inr same ↦ region_stays (states_of_tables others ws a) a b same.0 same.1 rests.region
       ])
 
 -- ---- what a refusal leaves of the region

@@ -11,14 +11,14 @@ use Rattle.crash_moments.specs.Left.{NamedStates, Left, RegionLeft, closed, othe
 use Rattle.crash_moments.specs.Base.{IsReady, PairsMayBegin}
 use Rattle.crash_moments.specs.Watched.{Watched, IsFoundation}
 use Rattle.crash_moments.proofs.Alike.{region_alike}
-use Rattle.crash_states.specs.Standing.{IsKept, RegionRests, Rests, StandsNow, tables_of}
+use Rattle.crash_states.specs.Standing.{IsKept, RegionRests, Rests, StandsNow, states_of_tables}
 use Rattle.crash_starting.specs.Laws.{AreUnseen}
 use Rattle.crash_starting.proofs.ReadyLogs.{OneVaries, least_of, log_is, most_is, next_of, one_varies}
 use Rattle.crash_starting.proofs.ReadyTables.{IsNew, all_watched, are_new, founded, kept_one, tables_same}
 
 -- its region is left of the base beside each disk: an image that is read stands beside logs that have all of the base
 region_is : (base tables : NamedStates) (m : Meaning) → PairsMayBegin reads (m.leaves m.clock) m.held base → ((name : List ℕ) → tables name ≡ base name) → RegionLeft reads base m.held → RegionRests tables m
-region_is base tables m begins same held p left = region_alike reads base tables beside (λ name. ap (λ (s : HistoryState). s.writes) (sym (same name))) (by held)
+region_is base tables m begins same held p left = region_alike reads base tables beside (λ name. sym (same name)) (by held)
   where
     beside : Pair
     beside = record { region = m.held.region; disk = p.disk }
@@ -35,7 +35,7 @@ ready_rests base ws m ready stands new =
     let begins = ready.begins in
     let one : (but : List ℕ) × OneVaries may base but = one_varies reads may m.held base begins in
     let unseen : AllByRecursion (IsNew base) ws = are_new base ws new in
-    let same : (name : List ℕ) → tables_of base ws m name ≡ base name = tables_same base ws m unseen in
+    let same : (name : List ℕ) → states_of_tables base ws m name ≡ base name = tables_same base ws m unseen in
     let sound : (name : List ℕ) → IsFoundation (base name) = λ name. founded reads may base name begins.left (begins.base_is name) in
     let held : Left reads base m.held = begins.left m.held stands.reads in
     let next : Option LogRecord = Some (next_of base one.0) in (
@@ -50,6 +50,6 @@ ready_rests base ws m ready stands new =
             (kept_one may name (base name) (with_writes next (least_of base) name) (begins.base_is name) (most_is may base one.0 name one.1));
         sound = sound;
         empty = begins.empty;
-        region = region_is base (tables_of base ws m) m begins same held.region;
+        region = region_is base (states_of_tables base ws m) m begins same held.region;
       },
     )

@@ -11,13 +11,13 @@ use Rattle.leaf_history.specs.History.{HistoryState, Entry, LegalFrom, after}
 use Rattle.berth_face.specs.Berth.{Pair, Meaning}
 use Rattle.row_records.specs.Records.{LogRecord}
 use Rattle.disk_backup.specs.Logs.{writes_of}
-use Rattle.disk_backup.specs.SoundLogs.{IsShort}
+use Rattle.disk_backup.specs.SoundLogs.{HasFewRows}
 use Rattle.disk_backup.proofs.Logs.{one_log}
 use Rattle.crash_moments.specs.Left.{NamedStates, Left}
 use Rattle.crash_moments.specs.Base.{HasWritesOf, IsBaseOf}
 use Rattle.crash_moments.proofs.Bases.{flushed_le}
 use Rattle.crash_moments.specs.Watched.{Watched, IsFoundation, IsWatched, Between, by_name, cut, is_opening, now_of, others_then, was_opened}
-use Rattle.crash_states.specs.Standing.{IsKept, tables_of}
+use Rattle.crash_states.specs.Standing.{IsKept, states_of_tables}
 use Rattle.crash_starting.specs.Laws.{AreUnseen}
 
 -- ---- the base of a name
@@ -36,7 +36,7 @@ kept_one may name s most is all =
     }
 
 -- the pair with the longest log says that it is short
-short_one : (reads : ℕ → Bool) (base : NamedStates) (p : Pair) (name : List ℕ) (writes : List Write) → Left reads base p → HasWritesOf p.disk name writes → IsShort writes
+short_one : (reads : ℕ → Bool) (base : NamedStates) (p : Pair) (name : List ℕ) (writes : List Write) → Left reads base p → HasWritesOf p.disk name writes → HasFewRows writes
 short_one reads base p name writes l has k =
     let same : writes_of name l.sound.0 ≡ writes = ap (λ (records : List LogRecord). writes_of name records) (one_log p.disk l.sound.0 has.0 l.sound.1 has.1 l.sound.2 has.2).0 ∙ sym has.3 in
     subst (λ (ws : List Write). length (content (take k ws)).rows ≤ 2 ^ 40) same (l.sound.3 name k)
@@ -78,7 +78,7 @@ base_named base others (w ∷ ws) name same new = by (bytes_eq name w.name) refl
     by false e rest = rest
 
 -- each name stands as the base says
-pub tables_same : (base : NamedStates) (ws : List Watched) (m : Meaning) → AllByRecursion (IsNew base) ws → (name : List ℕ) → tables_of base ws m name ≡ base name
+pub tables_same : (base : NamedStates) (ws : List Watched) (m : Meaning) → AllByRecursion (IsNew base) ws → (name : List ℕ) → states_of_tables base ws m name ≡ base name
 tables_same base ws m new name =
     ap (λ (opened : Bool). by_name now_of (others_then opened base) ws name) (none_opened m.clock base ws new) ∙ base_named base (others_then false base) ws name refl new
 

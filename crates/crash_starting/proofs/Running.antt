@@ -82,7 +82,7 @@ module _ (clock : ℕ) (w : Watched) (writes : List Write) (watched : IsWatched 
 
 -- ---- what was seen more
 
-module _ (clock : ℕ) (c : call.Call) (r : reply.Reply) (w w' : Watched) (enters : Enters clock c r w w') where
+module _ (clock : ℕ) (c : call.Call) (r : reply.EntryReply) (w w' : Watched) (enters : Enters clock c r w w') where
   entered_between : Between clock clock (enters.between ++ stewards clock c r ∷ [])
   entered_between = between_append clock clock enters.between (stewards clock c r ∷ []) (callers_between clock clock enters.between enters.others) ((λ steward. (omega arith, omega arith)), tt)
 

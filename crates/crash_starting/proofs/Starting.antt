@@ -9,7 +9,7 @@ use Rattle.disk_backup.specs.State.{LogState}
 use Rattle.leaf_history.specs.History as history
 use Rattle.leaf_opening.specs.declared.opening.Opened.{Opened}
 use Rattle.leaf_opening.specs.declared.ways.OpenFault.{OpenFault}
-use Rattle.leaf_opening.specs.Starts.{Started, IsOpeningRefusal, IsDurable, opened_leaf}
+use Rattle.leaf_opening.specs.Starts.{StartEnded, IsOpeningRefusal, IsDurable, opened_leaf}
 use Rattle.crash_moments.specs.Left.{NamedStates}
 use Rattle.crash_moments.specs.Watched.{Watched, IsWatched, now_of}
 use Rattle.crash_moments.specs.Told.{Told}
@@ -18,7 +18,7 @@ use Rattle.crash_states.specs.Standing.{Rests, StandsToOpen}
 use Rattle.crash_states.specs.Entries.{OpensAll}
 use Rattle.crash_states.proofs.Lefts.{rests_left}
 use Rattle.crash_states.proofs.Names.{each_at}
-use Rattle.crash_starting.specs.Laws.{OpeningMade, Finds, Opens, names_of}
+use Rattle.crash_starting.specs.Laws.{OpeningMade, FindsOpenable, Opens, names_of}
 use Rattle.crash_starting.proofs.Opening.{alone, rests_alone, rests_opened, region_refused}
 use Rattle.crash_starting.proofs.Finding.{found_by}
 use Rattle.crash_starting.proofs.Running.{may_open, opened_all}
@@ -35,8 +35,8 @@ opening_told ws others least next a b result rests made = record {
 
 -- what is found may be opened
 pub found : (ws : List Watched) (others : NamedStates) (least : List ℕ → List Write) (next : Option LogRecord) (a b : Meaning) (o : Opened)
-    → Rests ws others least next a → OpeningMade a b (Ok o) → Started (names_of ws) a b (opened_leaf (names_of ws) o) o.way → IsDurable b o
-    → (writes : List ℕ → List Write) × Finds ws o.log o.tables.each o.tables.columns writes b
+    → Rests ws others least next a → OpeningMade a b (Ok o) → StartEnded (names_of ws) a b (opened_leaf (names_of ws) o) o.way → IsDurable b o
+    → (writes : List ℕ → List Write) × FindsOpenable ws o.log o.tables.each o.tables.columns writes b
 found ws others least next a b o rests made started durable =
     found_by ws others least next a b rests made.passes made.stands started.region (opened_leaf (names_of ws) o) o.way started.come started.disk made.disks durable
 

@@ -10,7 +10,7 @@ use Rattle.leaf_opening.proofs.Strangers.{is_one_of}
 use Rattle.crash_moments.specs.Watched.{Watched, IsWatched, AreWatched, by_name, cut, is_opening, is_watched, now_of, others_then, was_opened}
 use Rattle.crash_moments.proofs.Cuts.{cut_later}
 use Rattle.crash_moments.proofs.Telling.{between_wider}
-use Rattle.crash_states.specs.Standing.{tables_of}
+use Rattle.crash_states.specs.Standing.{states_of_tables}
 use Rattle.crash_starting.specs.Laws.{names_of}
 
 -- ---- at a later moment
@@ -30,7 +30,7 @@ pub watched_later : (c t : ℕ) (ws : List Watched) → c ≤ t → AreWatched c
 watched_later c t ws later watched = record { each = each_later c t ws later watched.each; apart = watched.apart }
 
 -- each name stands where it stood
-pub tables_later : (others : NamedStates) (ws : List Watched) (a b : Meaning) → a.clock ≤ b.clock → AreWatched a.clock ws → tables_of others ws b ≡ tables_of others ws a
+pub tables_later : (others : NamedStates) (ws : List Watched) (a b : Meaning) → a.clock ≤ b.clock → AreWatched a.clock ws → states_of_tables others ws b ≡ states_of_tables others ws a
 tables_later others ws a b later watched = ap (λ (opened : Bool). by_name now_of (others_then opened others) ws) (opened_later a.clock b.clock ws later watched.each)
 
 -- ---- at each place, and by name

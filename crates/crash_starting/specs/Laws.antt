@@ -1,5 +1,5 @@
 -- Laws of a leaf that starts, as statements.
-use Rattle.std.specs.Prelude.{◌≡◌, ℕ, ◌<◌, ◌≤◌, List, [], length, slice_get, map, Option, Some, Result}
+use Rattle.std.specs.Prelude.{◌≡◌, ℕ, ◌+◌, ◌<◌, ◌≤◌, List, [], length, slice_get, map, Option, Some, Result}
 use Rattle.region_layout.specs.Region.{reads}
 use Rattle.leaf_model.specs.declared.writes.Write.{Write}
 use Rattle.leaf_model.specs.Content.{content}
@@ -37,18 +37,19 @@ pub record HasContent (writes : List Write) (t : Table) : Type 0 where
   pub contents : t.contents ≡ content writes
   pub count : t.writes ≡ length writes
 
--- the tables that were found may be opened: each log has just their writes; `columns` bounds the columns of each
-pub record Finds (ws : List Watched) (log : LogState) (tables : List Table) (columns : List ℕ) (writes : List ℕ → List Write) (m : Meaning) : Type 0 where
+-- the tables that were found may be opened: each log has just their writes; `columns` bounds the columns of each, by
+-- the spare ones and one for each row and each cell that its writes add
+pub record FindsOpenable (ws : List Watched) (log : LogState) (tables : List Table) (columns : List ℕ) (writes : List ℕ → List Write) (m : Meaning) : Type 0 where
   pub may : StandsToOpen ws log writes m
   pub contents : (place : ℕ) (w : Watched) (t : Table) → slice_get ws place ≡ Some w → slice_get tables place ≡ Some t → HasContent (writes w.name) t
-  pub few : (place : ℕ) (w : Watched) (n : ℕ) → slice_get ws place ≡ Some w → slice_get columns place ≡ Some n → n ≤ added_count (writes w.name)
+  pub few : (place : ℕ) (w : Watched) (n : ℕ) → slice_get ws place ≡ Some w → slice_get columns place ≡ Some n → n ≤ (now_of w).spare + added_count (writes w.name)
 
 -- the tables were opened
 pub record Opens (ws ws' : List Watched) (owner : ℕ) (log : LogState) (writes : List ℕ → List Write) (m : Meaning) : Type 0 where
   pub runs : Runs ws' owner log writes m
   pub more : SeenMore m.clock m.clock ws ws'
 
--- tables with the base of a berth, of which their steward has seen nothing yet
+-- tables with the base of a berth, before their steward has seen an entry
 pub record AreUnseen (base : NamedStates) (ws : List Watched) : Type 0 where
   pub apart : AreApart ws
   pub each : (place : ℕ) (w : Watched) → slice_get ws place ≡ Some w → (w.base ≡ base w.name) × (w.seen ≡ [])

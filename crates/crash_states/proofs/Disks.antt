@@ -8,7 +8,7 @@ use Rattle.row_records.specs.Pending.{pending_bytes}
 use Rattle.disk_backup.specs.Logs.{IsLog, ClosedLog, open_records, writes_of}
 use Rattle.disk_backup.specs.Settling.{HasLog, HoldsOwing, LaidLog, with_writes}
 use Rattle.disk_backup.proofs.Logs.{closed_is_log, one_log, one_record_more}
-use Rattle.disk_backup.specs.SoundLogs.{HasSoundLog, IsShort}
+use Rattle.disk_backup.specs.SoundLogs.{HasSoundLog, HasFewRows}
 use Rattle.disk_backup.proofs.SoundLogs.{bounded_of, shorter, writes_append}
 use Rattle.crash_states.proofs.States.{with_more}
 
@@ -22,19 +22,19 @@ writes_more records r writes same name = writes_append name records (r ∷ []) �
     last true = ap (λ (l : List Write). writes name ++ l) (append-nil r.writes)
     last false = append-nil (writes name)
 
-pub short_without : (owed : Option LogRecord) (writes : List ℕ → List Write) (name : List ℕ) → IsShort (with_writes owed writes name) → IsShort (writes name)
+pub short_without : (owed : Option LogRecord) (writes : List ℕ → List Write) (name : List ℕ) → HasFewRows (with_writes owed writes name) → HasFewRows (writes name)
 short_without owed writes name short =
     let more = with_more owed writes name in
-    shorter (writes name) more.0 (subst IsShort more.1 short)
+    shorter (writes name) more.0 (subst HasFewRows more.1 short)
 
 -- ---- with or without what the log is owed
 
 module _ (writes : List ℕ → List Write) (disk : List ℕ) (records : List LogRecord) (same : (name : List ℕ) → writes_of name records ≡ writes name) where
-  pub sound_closed : (end : ℕ) → ClosedLog records end disk → ((name : List ℕ) → IsShort (writes name)) → HasSoundLog writes disk
+  pub sound_closed : (end : ℕ) → ClosedLog records end disk → ((name : List ℕ) → HasFewRows (writes name)) → HasSoundLog writes disk
   sound_closed end closed short = record { sound = (records, end, closed_is_log disk records end closed, bounded_of records writes same short); each = same }
 
   -- the gate was opened before the record that is laid behind it
-  pub sound_more : (r : LogRecord) (end : ℕ) (laid : LaidLog records r end disk) → laid.gate ≡ 1 → ((name : List ℕ) → IsShort (with_writes (Some r) writes name)) → HasSoundLog (with_writes (Some r) writes) disk
+  pub sound_more : (r : LogRecord) (end : ℕ) (laid : LaidLog records r end disk) → laid.gate ≡ 1 → ((name : List ℕ) → HasFewRows (with_writes (Some r) writes name)) → HasSoundLog (with_writes (Some r) writes) disk
   sound_more r end laid opened short =
       let bytes : disk ≡ open_records records ++ 1 ∷ (record_bytes r ++ 0 ∷ laid.rest) =
       laid.is ∙ ap (λ (g : ℕ). open_records records ++ g ∷ (pending_bytes (Some r) ++ laid.rest)) opened ∙ ap (λ (l : List ℕ). open_records records ++ 1 ∷ l) (append_assoc (record_bytes r) (0 ∷ []) laid.rest) in
@@ -49,7 +49,7 @@ module _ (writes : List ℕ → List Write) (disk : List ℕ) (records : List Lo
         each = writes_more records r writes same;
       }
 
-  pub sound_owing : (owed : Option LogRecord) (laid : Bool) (end : ℕ) → HoldsOwing owed laid end records disk → ((name : List ℕ) → IsShort (with_writes owed writes name))
+  pub sound_owing : (owed : Option LogRecord) (laid : Bool) (end : ℕ) → HoldsOwing owed laid end records disk → ((name : List ℕ) → HasFewRows (with_writes owed writes name))
       → HasSoundLog writes disk ⊎ HasSoundLog (with_writes owed writes) disk
   sound_owing None laid end holds short = inl (sound_closed end holds short)
   sound_owing (Some r) false end holds short = inl (sound_closed end holds.0 (λ name. short_without (Some r) writes name (short name)))
@@ -62,7 +62,7 @@ module _ (writes : List ℕ → List Write) (disk : List ℕ) (records : List Lo
 
 -- ---- a log that ends at a gate that is not open
 
-pub sound_log : (writes : List ℕ → List Write) (end : ℕ) (disk : List ℕ) → HasLog writes end disk → ((name : List ℕ) → IsShort (writes name)) → HasSoundLog writes disk
+pub sound_log : (writes : List ℕ → List Write) (end : ℕ) (disk : List ℕ) → HasLog writes end disk → ((name : List ℕ) → HasFewRows (writes name)) → HasSoundLog writes disk
 sound_log writes end disk had short = sound_closed writes disk had.0 had.2 end had.1 short
 
 -- the log that ends there is the disk's only one

@@ -12,16 +12,16 @@ use Rattle.region_layout.specs.Region.{reads, IsAdoptable}
 use Rattle.disk_backup.specs.State.{LogState}
 use Rattle.disk_backup.specs.Settling.{HasLog, with_writes}
 use Rattle.drain_copy.specs.Draining.{DrainState}
-use Rattle.leaf_history.specs.History.{HistoryState}
+use Rattle.leaf_history.specs.History.{HistoryState, no_base}
 use Rattle.region_layout.specs.ImageWrites.{AreImagesOf}
-use Rattle.disk_backup.specs.SoundLogs.{HasSoundLog, IsShort}
+use Rattle.disk_backup.specs.SoundLogs.{HasSoundLog, HasFewRows}
 use Rattle.disk_backup.proofs.SoundLogs.{none_short, no_writes}
 use Rattle.crash_moments.specs.Left.{NamedStates, Left, RegionLeft, closed}
 use Rattle.crash_moments.specs.Watched.{Watched, IsWatched, AreWatched, is_watched, now_of, state_then, tables_then, was_opened}
 use Rattle.crash_moments.specs.Told.{SeenMore, Told}
 use Rattle.crash_moments.proofs.Histories.{cut_keeps}
 use Rattle.crash_moments.proofs.Alike.{region_alike}
-use Rattle.crash_states.specs.Standing.{IsLogged, Runs, IsKept, Rests, IsTreated, Copies, Holds, tables_of}
+use Rattle.crash_states.specs.Standing.{IsLogged, Runs, IsKept, Rests, IsTreated, Copies, Holds, spare_in, states_of_tables}
 use Rattle.crash_states.specs.Laws.{IsLeftNow}
 use Rattle.crash_states.proofs.Names.{IsOwn, IsForeign, find_name, same_by_name, others_at, no_others, each_at, named_at}
 use Rattle.crash_states.proofs.States.{IsFrontOf, IsBetween, front_short, no_front, front_before, shut_then, now_sound, then_sound, without_owed, with_owed, between_few, logged_front, kept_least, kept_most, treated_front, treated_none}
@@ -54,16 +54,16 @@ module _ (ws : List Watched) (owner : ℕ) (log : LogState) (writes : List ℕ �
           subst (IsFrontOf (held name)) (sym (foreign.stands (state_then m.clock) (others_at others m.clock ws) ∙ no_others (was_opened m.clock ws) others name runs.opened))
           (no_front (held name) none)
 
-  pub taken_short : (name : List ℕ) → IsShort (taken name)
+  pub taken_short : (name : List ℕ) → HasFewRows (taken name)
   taken_short name = by (find_name ws name)
     where
-      by : IsOwn ws name ⊎ IsForeign ws name → IsShort (taken name)
+      by : IsOwn ws name ⊎ IsForeign ws name → HasFewRows (taken name)
       by (inl own) =
           let w : Watched = own.table in
           let watched : IsWatched m.clock w = each_at (IsWatched m.clock) ws runs.watched.each own.place w own.at in
           let logged : IsLogged (writes name) (taken name) (now_of w) = subst (λ (n : List ℕ). IsLogged (writes n) (taken n) (now_of w)) own.named (runs.each own.place w own.at) in
           front_short (taken name) (now_of w) (logged_front (writes name) (taken name) (taken name) (now_of w) logged (with_owed log.owed writes name)) (now_sound m.clock w watched).short
-      by (inr foreign) = subst IsShort (sym (runs.others name foreign.unwatched)) none_short
+      by (inr foreign) = subst HasFewRows (sym (runs.others name foreign.unwatched)) none_short
 
   -- each disk has the log with or without what that is owed
   pub runs_logs : EachNow (λ p. HasSoundLog writes p.disk ⊎ HasSoundLog taken p.disk) m
@@ -83,9 +83,9 @@ runs_left ws others owner log writes m runs p left =
 
 module _ (ws : List Watched) (others : NamedStates) (least : List ℕ → List Write) (next : Option LogRecord) (m : Meaning) (rests : Rests ws others least next m) where
   -- each table is shut, and so stood at the steward's last entry where it stands
-  pub rests_then : (name : List ℕ) → tables_then others m.clock ws name ≡ tables_of others ws m name
+  pub rests_then : (name : List ℕ) → tables_then others m.clock ws name ≡ states_of_tables others ws m name
   rests_then = same_by_name (state_then m.clock) now_of (others_at others m.clock ws) ws (λ place w at.
-      let stands : tables_of others ws m w.name ≡ now_of w = named_at now_of (others_at others m.clock ws) ws place w rests.watched.apart at in
+      let stands : states_of_tables others ws m w.name ≡ now_of w = named_at now_of (others_at others m.clock ws) ws place w rests.watched.apart at in
       shut_then m.clock w (each_at (IsWatched m.clock) ws rests.watched.each place w at) (ap (λ (s : HistoryState). s.live) (sym stands) ∙ (rests.each w.name).shut))
 
   pub rests_front : (name : List ℕ) → IsFrontOf (least name) (tables_then others m.clock ws name) × IsFrontOf (with_writes next least name) (tables_then others m.clock ws name)
@@ -101,8 +101,8 @@ module _ (ws : List Watched) (others : NamedStates) (least : List ℕ → List W
   -- what may be left of its region
   region_then : (p : Pair) → m.leaves m.clock p → RegionLeft reads (tables_then others m.clock ws) p
   region_then p left =
-      region_alike reads (tables_of others ws m) (tables_then others m.clock ws) p (λ name. ap (λ (s : HistoryState). s.writes) (sym (rests_then name)))
-      (rests_region (tables_of others ws m) m p rests.stands rests.region left)
+      region_alike reads (states_of_tables others ws m) (tables_then others m.clock ws) p (λ name. sym (rests_then name))
+      (rests_region (states_of_tables others ws m) m p rests.stands rests.region left)
 
 pub rests_left : (ws : List Watched) (others : NamedStates) (least : List ℕ → List Write) (next : Option LogRecord) (m : Meaning) → Rests ws others least next m → IsLeftNow ws others m
 rests_left ws others least next m rests p left =
@@ -139,28 +139,41 @@ module _ (ws : List Watched) (writes : List ℕ → List Write) (m : Meaning) (a
           subst (IsTreated (writes name)) (sym (foreign.stands (state_then m.clock) (others_at others m.clock ws) ∙ no_others (was_opened m.clock ws) others name are.opened))
           (treated_none (writes name) (are.others name foreign.unwatched))
 
-  pub treated_short : (name : List ℕ) → IsShort (writes name)
+  -- and had the spare columns that it has
+  treated_spare : (others : NamedStates) (name : List ℕ) → (tables_then others m.clock ws name).spare ≡ spare_in ws name
+  treated_spare others name = by (find_name ws name)
+    where
+      by : IsOwn ws name ⊎ IsForeign ws name → (tables_then others m.clock ws name).spare ≡ spare_in ws name
+      by (inl own) =
+          let watched : IsWatched m.clock own.table = each_at (IsWatched m.clock) ws are.watched.each own.place own.table own.at in
+          let then : state_then m.clock own.table ≡ now_of own.table = shut_then m.clock own.table watched (are.each own.place own.table own.at).shut in
+          ap (λ (s : HistoryState). s.spare) (own.stands (state_then m.clock) (others_at others m.clock ws) ∙ then ∙ sym (own.stands now_of (λ n. no_base)))
+      by (inr foreign) =
+          ap (λ (s : HistoryState). s.spare)
+          (foreign.stands (state_then m.clock) (others_at others m.clock ws) ∙ no_others (was_opened m.clock ws) others name are.opened ∙ sym (foreign.stands now_of (λ n. no_base)))
+
+  pub treated_short : (name : List ℕ) → HasFewRows (writes name)
   treated_short name = by (find_name ws name)
     where
-      by : IsOwn ws name ⊎ IsForeign ws name → IsShort (writes name)
+      by : IsOwn ws name ⊎ IsForeign ws name → HasFewRows (writes name)
       by (inl own) =
           let w : Watched = own.table in
           let watched : IsWatched m.clock w = each_at (IsWatched m.clock) ws are.watched.each own.place w own.at in
-          subst IsShort ((are.each own.place w own.at).whole ∙ ap writes own.named) (now_sound m.clock w watched).short
-      by (inr foreign) = subst IsShort (sym (are.others name foreign.unwatched)) none_short
+          subst HasFewRows ((are.each own.place w own.at).whole ∙ ap writes own.named) (now_sound m.clock w watched).short
+      by (inr foreign) = subst HasFewRows (sym (are.others name foreign.unwatched)) none_short
 
   -- a pair belongs to them whose region is closed, or an image with their writes
   pub treated_closed : (others : NamedStates) (p : Pair) (log_end : ℕ) → HasLog writes log_end p.disk → IsClosed p.region → Left reads (tables_then others m.clock ws) p
   treated_closed others p log_end had shut =
       left_by (tables_then others m.clock ws) writes p (sound_log writes log_end p.disk had treated_short) (λ name. treated_front (writes name) (tables_then others m.clock ws name) (treated_then others name)) (λ name serves. shut) (closed shut)
 
-  pub treated_image : (others : NamedStates) (p : Pair) (images : List TableImage) (log_end : ℕ) → HasLog writes log_end p.disk → IsAdoptable p.region images log_end → AreImagesOf writes images
+  pub treated_image : (others : NamedStates) (p : Pair) (images : List TableImage) (log_end : ℕ) → HasLog writes log_end p.disk → IsAdoptable p.region images log_end → AreImagesOf (spare_in ws) writes images
       → Left reads (tables_then others m.clock ws) p
   treated_image others p images log_end had is same =
       let log : HasSoundLog writes p.disk = sound_log writes log_end p.disk had treated_short in
       left_by (tables_then others m.clock ws) writes p log (λ name. treated_front (writes name) (tables_then others m.clock ws name) (treated_then others name))
       (λ name. not_open (tables_then others m.clock ws name) p (treated_then others name).shut)
-      (image_left (tables_then others m.clock ws) writes p images log_end (λ name. (treated_then others name).whole) is same had)
+      (image_left (tables_then others m.clock ws) (spare_in ws) writes p images log_end (treated_spare others) (λ name. (treated_then others name).whole) is same had)
 
 pub copies_treated : (ws : List Watched) (drain : DrainState) (writes : List ℕ → List Write) (m : Meaning) → Copies ws drain writes m → AreTreated ws writes m
 copies_treated ws drain writes m copies = record { watched = copies.watched; opened = copies.opened; each = copies.each; others = copies.others }

@@ -5,4 +5,5 @@ pub mod Pairs
 pub mod Lefts
 pub mod Meeting
 pub mod Whole
+pub mod Spare
 pub mod Opened

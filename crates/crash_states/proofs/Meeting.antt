@@ -17,7 +17,7 @@ use Rattle.crash_moments.specs.Watched.{Watched, AreApart, AreWatched, Between, 
 use Rattle.crash_moments.specs.Told.{SeenMore}
 use Rattle.crash_moments.proofs.Cuts.{cut_before, none_yet}
 use Rattle.crash_moments.proofs.Telling.{none_more, between_append}
-use Rattle.crash_states.specs.Standing.{IsLogged, IsOwned, Runs, IsKept, RegionRests, Rests, tables_of}
+use Rattle.crash_states.specs.Standing.{IsLogged, IsOwned, Runs, IsKept, RegionRests, Rests, states_of_tables}
 use Rattle.crash_states.specs.Entries.{Learns}
 use Rattle.crash_states.proofs.Names.{each_at, all_at, named_at, others_at}
 
@@ -160,9 +160,9 @@ module _ (place : ℕ) (w w' : Watched) (ws : List Watched) (at : slice_get ws p
 
   pub still_rests : (others : NamedStates) (least : List ℕ → List Write) (next : Option LogRecord) (m : Meaning) → Rests ws others least next m → Rests ws' others least next m
   still_rests others least next m rests =
-      let stands : tables_of others ws m w.name ≡ now_of w = named_at now_of (others_at others m.clock ws) ws place w rests.watched.apart at in
+      let stands : states_of_tables others ws m w.name ≡ now_of w = named_at now_of (others_at others m.clock ws) ws place w rests.watched.apart at in
       let shut : (now_of w).live ≡ false = ap (λ (s : HistoryState). s.live) (sym stands) ∙ (rests.each w.name).shut in
-      let same : tables_of others ws' m ≡ tables_of others ws m =
+      let same : states_of_tables others ws' m ≡ states_of_tables others ws m =
       ap (λ (b : Bool). by_name now_of (others_then b others) ws') (met_opened place w w' ws at learns m.clock)
       ∙ met_named now_of (others_at others m.clock ws) place w w' ws at learns.name (learned_shut w w' learns shut) in
       record {

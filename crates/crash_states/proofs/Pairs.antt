@@ -29,10 +29,11 @@ left_by tables held p log fronts serving region = record {
 }
 
 -- the region is an image of the tables, and the log has all of their writes
-pub image_left : (tables : NamedStates) (writes : List ℕ → List Write) (p : Pair) (images : List TableImage) (log_end : ℕ) → ((name : List ℕ) → (tables name).writes ≡ writes name)
-    → IsAdoptable p.region images log_end → AreImagesOf writes images → HasLog writes log_end p.disk → RegionLeft reads tables p
-image_left tables writes p images log_end same is are had =
-    image is.version images log_end is.reads_it is.is (images_alike writes (λ name. (tables name).writes) images (λ name. sym (same name)) are)
+pub image_left : (tables : NamedStates) (spare : List ℕ → ℕ) (writes : List ℕ → List Write) (p : Pair) (images : List TableImage) (log_end : ℕ) → ((name : List ℕ) → (tables name).spare ≡ spare name)
+    → ((name : List ℕ) → (tables name).writes ≡ writes name) → IsAdoptable p.region images log_end → AreImagesOf spare writes images → HasLog writes log_end p.disk → RegionLeft reads tables p
+image_left tables spare writes p images log_end few same is are had =
+    image is.version images log_end is.reads_it is.is
+    (images_alike spare (λ name. (tables name).spare) writes (λ name. (tables name).writes) images (λ name. sym (few name)) (λ name. sym (same name)) are)
     (log_alike writes (λ name. (tables name).writes) log_end p.disk (λ name. sym (same name)) had)
 
 -- what may be left of a region that rests

@@ -9,7 +9,7 @@ use Rattle.leaf_history.specs.History.{Entry, HistoryState, LegalFrom, no_base}
 use Rattle.leaf_history.specs.Laws.{CallersKeep}
 use Rattle.leaf_history.proofs.Histories.{LegalFrom-front}
 use Rattle.disk_backup.specs.Settling.{with_writes}
-use Rattle.disk_backup.specs.SoundLogs.{IsShort}
+use Rattle.disk_backup.specs.SoundLogs.{HasFewRows}
 use Rattle.disk_backup.proofs.SoundLogs.{shorter, no_writes}
 use Rattle.crash_moments.specs.Watched.{Watched, IsFoundation, IsWatched, cut, now_of, state_then}
 use Rattle.crash_moments.proofs.Cuts.{cut_split}
@@ -42,10 +42,10 @@ pub record IsFrontOf (held : List Write) (s : HistoryState) : Type 0 where
 pub front_within : (held : List Write) (s : HistoryState) → IsFrontOf held s → length held ≤ length s.writes
 front_within held s is = omega (arith, ap (λ (l : List Write). length l) is.front, length-take (length held) s.writes)
 
-pub front_short : (held : List Write) (s : HistoryState) → IsFrontOf held s → IsShort s.writes → IsShort held
+pub front_short : (held : List Write) (s : HistoryState) → IsFrontOf held s → HasFewRows s.writes → HasFewRows held
 front_short held s is short =
     let all : s.writes ≡ take (length held) s.writes ++ drop (length held) s.writes = sym (take-append-drop (length held) s.writes) in
-    subst IsShort (sym is.front) (shorter (take (length held) s.writes) (drop (length held) s.writes) (subst IsShort all short))
+    subst HasFewRows (sym is.front) (shorter (take (length held) s.writes) (drop (length held) s.writes) (subst HasFewRows all short))
 
 -- nothing is a front of a table with no writes
 pub no_front : (held : List Write) → held ≡ [] → IsFrontOf held no_base

@@ -4,18 +4,18 @@ use Rattle.leaf_model.specs.declared.writes.Write.{Write}
 use Rattle.leaf_model.specs.Content.{content}
 use Rattle.leaf_history.specs.Calls.{Call}
 use Rattle.leaf_history.specs.Calls as call
-use Rattle.leaf_history.specs.Replies.{Reply}
+use Rattle.leaf_history.specs.Replies.{EntryReply}
 use Rattle.leaf_history.specs.Replies as reply
 use Rattle.leaf_history.specs.History.{Entry, LegalFrom}
 use Rattle.leaf_history.specs.Laws.{AreCallers}
 use Rattle.crash_moments.specs.Watched.{Watched, now_of}
 
 -- the steward's entry of a call, at this clock of the berth
-abbrev pub stewards : ℕ → Call → Reply → Entry
+abbrev pub stewards : ℕ → Call → EntryReply → Entry
 stewards clock c r = record { caller = 0; call = c; reply = r; clock = clock }
 
 -- callers made some entries, and then the steward this one
-pub record Enters (clock : ℕ) (c : Call) (r : Reply) (w w' : Watched) : Type 0 where
+pub record Enters (clock : ℕ) (c : Call) (r : EntryReply) (w w' : Watched) : Type 0 where
   pub name : w'.name ≡ w.name
   pub base : w'.base ≡ w.base
   pub between : List Entry

@@ -1,10 +1,10 @@
 -- What region and disk hold of the tables of a leaf, in each of its states, by what its steward has seen of them.
-use Rattle.std.specs.Prelude.{◌≡◌, ◌⊎◌, ℕ, ◌≤◌, true, false, List, [], length, take, slice_get, Option, Some, None, IfSome}
+use Rattle.std.specs.Prelude.{◌≡◌, ◌⊎◌, ℕ, ◌+◌, ◌≤◌, true, false, List, [], length, take, slice_get, Option, Some, None, IfSome}
 use Rattle.leaf_model.specs.declared.writes.Write.{Write}
 use Rattle.leaf_model.specs.Content.{content}
 use Rattle.row_records.specs.Records.{LogRecord}
 use Rattle.table_state.specs.Tables.{Table, added_count, columns_most}
-use Rattle.leaf_history.specs.History.{HistoryState}
+use Rattle.leaf_history.specs.History.{HistoryState, no_base}
 use Rattle.berth_face.specs.Berth.{Meaning}
 use Rattle.berth_face.specs.Moments.{EachNow, KeepsRegion}
 use Rattle.region_layout.specs.Images.{TableImage}
@@ -60,8 +60,8 @@ pub record IsKept (least most : List Write) (s : HistoryState) : Type 0 where
   pub handed : s.handed ≡ true → (least ≡ s.writes) × (most ≡ s.writes)
 
 -- the state of each name now: of the leaf's tables, and of names that it does not have
-abbrev pub tables_of : NamedStates → List Watched → Meaning → NamedStates
-tables_of others ws m = by_name now_of (others_then (was_opened m.clock ws) others) ws
+abbrev pub states_of_tables : NamedStates → List Watched → Meaning → NamedStates
+states_of_tables others ws m = by_name now_of (others_then (was_opened m.clock ws) others) ws
 
 -- the region that reads give belongs to the tables, beside each disk that a crash may leave
 abbrev pub RegionRests : NamedStates → Meaning → Type 0
@@ -74,12 +74,16 @@ pub record Rests (ws : List Watched) (others : NamedStates) (least : List ℕ �
   pub watched : AreWatched m.clock ws
   pub stands : StandsNow m
   pub logs : EachNow (λ p. HasSoundLog least p.disk ⊎ HasSoundLog (with_writes next least) p.disk) m
-  pub each : (name : List ℕ) → IsKept (least name) (with_writes next least name) (tables_of others ws m name)
+  pub each : (name : List ℕ) → IsKept (least name) (with_writes next least name) (states_of_tables others ws m name)
   pub sound : (name : List ℕ) → IsFoundation (others name)
   pub empty : m.held.disk ≡ [] → EachNow (λ p. length p.disk ≤ 1) m
-  pub region : RegionRests (tables_of others ws m) m
+  pub region : RegionRests (states_of_tables others ws m) m
 
 -- ---- a leaf that copies its tables
+
+-- how many spare columns the table of a name has
+abbrev pub spare_in : List Watched → List ℕ → ℕ
+spare_in ws name = (by_name now_of (λ other. no_base) ws name).spare
 
 -- all of the table is in the log, and it is shut
 pub record IsTreated (writes : List Write) (s : HistoryState) : Type 0 where
@@ -97,7 +101,7 @@ pub record Copies (ws : List Watched) (drain : DrainState) (writes : List ℕ �
   pub images : List TableImage
   pub log_end : ℕ
   pub image : IsAdoptable drain.image images log_end
-  pub same : AreImagesOf writes images
+  pub same : AreImagesOf (spare_in ws) writes images
   pub logs : EachNow (λ p. HasLog writes log_end p.disk) m
   pub draining : Draining drain m.held.region
   pub closed : AllClosed m
@@ -105,11 +109,11 @@ pub record Copies (ws : List Watched) (drain : DrainState) (writes : List ℕ �
   pub others : (name : List ℕ) → is_watched ws name ≡ false → writes name ≡ []
 
 -- the content of a table when it was shut: what its writes come to, in at most one column for each row and each cell
--- that they add
+-- that they add, and the spare ones
 pub record IsContentOf (s : HistoryState) (t : Table) : Type 0 where
   pub contents : t.contents ≡ content s.writes
   pub writes : t.writes ≡ length s.writes
-  pub few : columns_most t.store ≤ added_count s.writes
+  pub few : columns_most t.store ≤ s.spare + added_count s.writes
 
 -- the same once the image is in the region
 pub record Holds (ws : List Watched) (image : List ℕ) (writes : List ℕ → List Write) (m : Meaning) : Type 0 where
@@ -119,7 +123,7 @@ pub record Holds (ws : List Watched) (image : List ℕ) (writes : List ℕ → L
   pub images : List TableImage
   pub log_end : ℕ
   pub is : IsAdoptable image images log_end
-  pub same : AreImagesOf writes images
+  pub same : AreImagesOf (spare_in ws) writes images
   pub logs : EachNow (λ p. HasLog writes log_end p.disk) m
   pub region : m.held.region ≡ image
   pub each : (place : ℕ) (w : Watched) → slice_get ws place ≡ Some w → IsTreated (writes w.name) (now_of w)

@@ -4,37 +4,42 @@ use Rattle.std.specs.Borrow.{Bor}
 use Rattle.std.specs.List.{range_with_len, list_any}
 use Rattle.dictionaries.specs.Fields.{u32_at}
 
--- the number of texts, as the bytes state it
-abbrev pub text_count : List ℕ → ℕ
-text_count extra = u32_at extra 0
-
--- where text k begins in the bytes of all texts: at the end of the one before, or at 0
-abbrev pub text_from : List ℕ → ℕ → ℕ
-text_from extra zero = 0
-text_from extra (suc k) = u32_at extra (4 + 4 * k)
-
--- text k; the bytes of all texts follow the ends
-abbrev pub text_at : List ℕ → ℕ → List ℕ
-text_at extra k = slice_range (drop (4 + 4 * text_count extra) extra) (text_from extra k) (text_from extra (suc k))
-
-abbrev pub texts_at : List ℕ → List (List ℕ)
-texts_at extra = map (text_at extra) (range_with_len 0 (text_count extra))
-
 -- a text: UTF-8 of at most 65,535 bytes
 pub record IsText (text : List ℕ) : Type 0 where
   pub utf8 : IsUtf8 text
   pub short : length text ≤ 65535
 
--- a count, that many ends, none less than the one before, and as many bytes as the last end says
-pub record AreEnds (extra : List ℕ) : Type 0 where
-  pub counted : 4 ≤ length extra
-  pub whole : 4 + 4 * text_count extra + text_from extra (text_count extra) ≡ length extra
-  pub rising : (k : ℕ) → k < text_count extra → text_from extra k ≤ text_from extra (suc k)
+module _ (extra : List ℕ) where
+  -- the number of texts, as the bytes state it
+  abbrev pub text_count : ℕ
+  text_count = u32_at extra 0
 
--- these ends, and each text is valid
-pub record IsDictionary (extra : List ℕ) : Type 0 where
-  pub ends : AreEnds extra
-  pub texts : (k : ℕ) → k < text_count extra → IsText (text_at extra k)
+  -- where text k begins in the bytes of all texts: at the end of the one before, or at 0
+  abbrev pub text_from : ℕ → ℕ
+  text_from zero = 0
+  text_from (suc k) = u32_at extra (4 + 4 * k)
+
+  -- the length of the dictionary, as its bytes state it
+  abbrev pub texts_size : ℕ
+  texts_size = 4 + 4 * text_count + text_from text_count
+
+  -- text k; the bytes of all texts follow the ends
+  abbrev pub text_at : ℕ → List ℕ
+  text_at k = slice_range (drop (4 + 4 * text_count) extra) (text_from k) (text_from (suc k))
+
+  abbrev pub texts_at : List (List ℕ)
+  texts_at = map text_at (range_with_len 0 text_count)
+
+  -- a count, that many ends, none less than the one before, and as many bytes as the last end says
+  pub record AreEnds : Type 0 where
+    pub counted : 4 ≤ length extra
+    pub whole : texts_size ≡ length extra
+    pub rising : (k : ℕ) → k < text_count → text_from k ≤ text_from (suc k)
+
+  -- these ends, and each text is valid
+  pub record IsDictionary : Type 0 where
+    pub ends : AreEnds
+    pub texts : (k : ℕ) → k < text_count → IsText (text_at k)
 
 -- ---- the dictionary of a list of texts
 

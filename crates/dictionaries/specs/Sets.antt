@@ -3,21 +3,9 @@ use Rattle.std.specs.Prelude.{◌≡◌, ℕ, suc, ◌+◌, ◌-◌, ◌*◌, �
 use Rattle.byteorder.specs.Endian.{little_bytes}
 use Rattle.std.specs.declared.alloc.Global.{Global}
 use Rattle.std.specs.List.{range_with_len}
-use Rattle.leaf_model.specs.Values.{IsSet}
+use Rattle.row_model.specs.Values.{IsSet}
 use Rattle.dictionaries.specs.Fields.{u32_at}
-use Rattle.dictionaries.specs.Dictionary.{AreTexts, IsDictionary, text_count, text_from, texts_at, texts_by}
-
--- the length of the dictionary of texts, as its bytes state it
-abbrev pub texts_size : List ℕ → ℕ
-texts_size extra = 4 + 4 * text_count extra + text_from extra (text_count extra)
-
-abbrev pub texts_part : List ℕ → List ℕ
-texts_part extra = take (texts_size extra) extra
-
--- the bytes after it: a count and ends as in a dictionary of texts, but an end counts members, and a member takes four
--- bytes
-abbrev pub sets_part : List ℕ → List ℕ
-sets_part extra = drop (texts_size extra) extra
+use Rattle.dictionaries.specs.Dictionary.{texts_size, AreTexts, IsDictionary, text_count, text_from, texts_at, texts_by}
 
 -- member j: the index of a text
 abbrev pub member_at : List ℕ → ℕ → ℕ
@@ -26,13 +14,6 @@ member_at part j = u32_at part (4 + 4 * text_count part + 4 * j)
 -- the texts of set k: its members run from the end of the set before, or from 0, to its own end
 abbrev pub set_at : List (List ℕ) → List ℕ → ℕ → List (List ℕ)
 set_at texts part k = map (λ j. slice_index_or texts (member_at part j) []) (range_with_len (text_from part k) (text_from part (suc k) - text_from part k))
-
--- set k of a dictionary of sets
-abbrev pub set_in : List ℕ → ℕ → List (List ℕ)
-set_in extra k = set_at (texts_at (texts_part extra)) (sets_part extra) k
-
-abbrev pub sets_at : List ℕ → List (List (List ℕ))
-sets_at extra = map (set_in extra) (range_with_len 0 (text_count (sets_part extra)))
 
 -- a count, that many ends, none less than the one before, and as many members as the last end says; nothing follows
 pub record AreSetEnds (part : List ℕ) : Type 0 where
@@ -46,10 +27,26 @@ pub record AreNumbered (texts part : List ℕ) : Type 0 where
   pub ends : AreSetEnds part
   pub members : (j : ℕ) → j < text_from part (text_count part) → member_at part j < text_count texts
 
--- a dictionary of sets: such parts, and the texts of each set are a set
-pub record IsSetDictionary (extra : List ℕ) : Type 0 where
-  pub numbered : AreNumbered (texts_part extra) (sets_part extra)
-  pub each : (k : ℕ) → k < text_count (sets_part extra) → IsSet (set_in extra k)
+module _ (extra : List ℕ) where
+  abbrev pub texts_part : List ℕ
+  texts_part = take (texts_size extra) extra
+
+  -- the bytes after it: a count and ends as in a dictionary of texts, but an end counts members, and a member takes four
+  -- bytes
+  abbrev pub sets_part : List ℕ
+  sets_part = drop (texts_size extra) extra
+
+  -- set k of a dictionary of sets
+  abbrev pub set_in : ℕ → List (List ℕ)
+  set_in k = set_at (texts_at texts_part) sets_part k
+
+  abbrev pub sets_at : List (List (List ℕ))
+  sets_at = map set_in (range_with_len 0 (text_count sets_part))
+
+  -- a dictionary of sets: such parts, and the texts of each set are a set
+  pub record IsSetDictionary : Type 0 where
+    pub numbered : AreNumbered texts_part sets_part
+    pub each : (k : ℕ) → k < text_count sets_part → IsSet (set_in k)
 
 -- ---- what is written
 

@@ -1,9 +1,9 @@
 // Reads a dictionary of sets: a dictionary of texts, then a count of sets, their ends, and the members.
 ghost use Rattle.std.specs.Prelude.{◌≡◌, ℕ, suc, ◌+◌, ◌-◌, ◌*◌, ◌<◌, ◌≤◌, ◌↔◌, [], length, IsSome, IsTrue, IsUtf8, IfSome, slice_index_or};
-ghost use Rattle.leaf_model.specs.Sets.{GoesUp};
-ghost use Rattle.leaf_model.specs.Values.{IsSet};
-ghost use Rattle.dictionaries.specs.Dictionary.{IsDictionary, text_count, text_from, texts_at};
-ghost use Rattle.dictionaries.specs.Sets.{AreNumbered, AreSetEnds, IsSetDictionary, member_at, set_at, sets_part, texts_part, texts_size};
+ghost use Rattle.row_model.specs.Sets.{GoesUp};
+ghost use Rattle.row_model.specs.Values.{IsSet};
+ghost use Rattle.dictionaries.specs.Dictionary.{IsDictionary, text_count, text_from, texts_at, texts_size};
+ghost use Rattle.dictionaries.specs.Sets.{AreNumbered, AreSetEnds, IsSetDictionary, member_at, set_at, sets_part, texts_part};
 
 use crate::fields::u32_at;
 use crate::texts::{ends_rise, is_dictionary, text_bytes, text_count, text_from};

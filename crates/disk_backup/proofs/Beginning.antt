@@ -4,7 +4,7 @@ use Rattle.std.specs.Prelude.{Result}
 use Rattle.berth_face.specs.Berth.{Pair, Meaning, Passes, Stays, Torn, DiskWritten, written}
 use Rattle.berth_face.specs.Moments.{EachNow, Throughout}
 use Rattle.berth_face.proofs.Moments.{started, goes_on, throughout_join, throughout_map, through_stay}
-use Rattle.disk_backup.specs.Scanning.{StepsFrom, BeginsScan, begun}
+use Rattle.disk_backup.specs.Scanning.{StepsFrom, BeginsScan, scanned_disk}
 
 -- a pair comes from itself
 pub from_itself : (n : ℕ) (a : Meaning) → EachNow (StepsFrom (BeginsScan n) a) a
@@ -42,12 +42,12 @@ begins_after n a b c time stays all =
       disk = came.disk;
     }) all)
 
-pub begun_short : (disk : List ℕ) → length disk ≤ 1 → begun disk ≡ 0 ∷ []
+pub begun_short : (disk : List ℕ) → length disk ≤ 1 → scanned_disk disk ≡ 0 ∷ []
 begun_short [] short = refl
 begun_short (b ∷ []) short = refl
 begun_short (b ∷ c ∷ rest) short = absurd (omega (arith, short))
 
-pub begun_long : (disk : List ℕ) → 1 < length disk → begun disk ≡ disk
+pub begun_long : (disk : List ℕ) → 1 < length disk → scanned_disk disk ≡ disk
 begun_long [] long = absurd (omega (arith, long))
 begun_long (b ∷ []) long = absurd (omega (arith, long))
 begun_long (b ∷ c ∷ rest) long = refl

@@ -8,7 +8,7 @@ use Rattle.std.specs.Int.{w64, from_le_bytes}
 use Rattle.std.proofs.lemmas.List.{take_at, drop_at, drop_more}
 use Rattle.row_records.specs.declared.record_reader.Flush.{Flush}
 use Rattle.leaf_model.specs.Bytes.{u64_bytes}
-use Rattle.row_records.specs.Records.{LogRecord, IsRecord, record_body, record_bytes, record_is}
+use Rattle.row_records.specs.Records.{LogRecord, IsRecord, record_body, record_bytes, record_read}
 use Rattle.disk_backup.specs.Logs.{is_short, is_closed, ClosedLog, open_records}
 use Rattle.leaf_model.proofs.Fields.{wide64}
 use Rattle.row_records.proofs.Once.{one_record}
@@ -72,10 +72,10 @@ few_writes r = fewer (length r.writes) (length (flat_map write_bytes r.writes)) 
 within : (at n w size : ℕ) → w ≤ n → n ≡ size → at + w ≤ at + size
 within at n w size few is = omega (arith, few, is)
 
-pub writes_within : (found : Option Flush) (flush : Flush) (bytes : List ℕ) (at size : ℕ) → found ≡ Some flush → IfSome found (λ f. IsRecord (record_is f) × (bytes ≡ record_bytes (record_is f))) → length bytes ≡ size → at + length flush.writes ≤ at + size
+pub writes_within : (found : Option Flush) (flush : Flush) (bytes : List ℕ) (at size : ℕ) → found ≡ Some flush → IfSome found (λ f. IsRecord (record_read f) × (bytes ≡ record_bytes (record_read f))) → length bytes ≡ size → at + length flush.writes ≤ at + size
 writes_within found flush bytes at size is read len =
-    let had : IsRecord (record_is flush) × (bytes ≡ record_bytes (record_is flush)) = subst (λ (o : Option Flush). IfSome o (λ f. IsRecord (record_is f) × (bytes ≡ record_bytes (record_is f)))) is read in
-    within at (length (record_bytes (record_is flush))) (length flush.writes) size (few_writes (record_is flush)) (sym (ap length had.1) ∙ len)
+    let had : IsRecord (record_read flush) × (bytes ≡ record_bytes (record_read flush)) = subst (λ (o : Option Flush). IfSome o (λ f. IsRecord (record_read f) × (bytes ≡ record_bytes (record_read f)))) is read in
+    within at (length (record_bytes (record_read flush))) (length flush.writes) size (few_writes (record_read flush)) (sym (ap length had.1) ∙ len)
 
 -- ---- a log is never damaged
 

@@ -8,8 +8,8 @@ use Rattle.leaf_model.specs.declared.writes.Write.{Write}
 use Rattle.leaf_model.specs.Content.{content}
 use Rattle.row_records.specs.Records.{LogRecord}
 use Rattle.disk_backup.specs.Logs.{IsLog, is_short, is_closed, IsBounded, ClosedLog, writes_of}
-use Rattle.disk_backup.specs.Scanning.{BeginsScan, begun}
-use Rattle.disk_backup.specs.SoundLogs.{HasSoundLog, IsShort}
+use Rattle.disk_backup.specs.Scanning.{BeginsScan, scanned_disk}
+use Rattle.disk_backup.specs.SoundLogs.{HasSoundLog, HasFewRows}
 use Rattle.disk_backup.proofs.Beginning.{begun_short, begun_long}
 use Rattle.disk_backup.proofs.Logs.{one_log, closed_is_log}
 
@@ -26,11 +26,11 @@ writes_append name (s ∷ a) b = step (bytes_eq name s.name) (writes_append name
 
 -- ---- how long a table grows
 
-pub bounded_of : (records : List LogRecord) (writes : List ℕ → List Write) → ((name : List ℕ) → writes_of name records ≡ writes name) → ((name : List ℕ) → IsShort (writes name)) → IsBounded records
+pub bounded_of : (records : List LogRecord) (writes : List ℕ → List Write) → ((name : List ℕ) → writes_of name records ≡ writes name) → ((name : List ℕ) → HasFewRows (writes name)) → IsBounded records
 bounded_of records writes same short = λ name k. subst (λ (l : List Write). length (content (take k l)).rows ≤ 2 ^ 40) (sym (same name)) (short name k)
 
 -- the first of the writes
-pub shorter : (a b : List Write) → IsShort (a ++ b) → IsShort a
+pub shorter : (a b : List Write) → HasFewRows (a ++ b) → HasFewRows a
 shorter a b short = λ k.
     let m = min k (length a) in
     let front : take m (a ++ b) ≡ take k a = take-append-le m a b (omega arith) ∙ take_min k a in
@@ -39,7 +39,7 @@ shorter a b short = λ k.
 abbrev pub no_writes : List Write
 no_writes = []
 
-pub none_short : IsShort no_writes
+pub none_short : HasFewRows no_writes
 none_short = λ k.
     let none : take k no_writes ≡ no_writes = take_all k no_writes (omega arith) in
     subst (λ (l : List Write). length (content l).rows ≤ 2 ^ 40) (sym none) (omega arith)
@@ -50,7 +50,7 @@ short_log : (disk : List ℕ) (records : List LogRecord) (end : ℕ) → length 
 short_log disk records end short (is_short few none at) = (none, at)
 short_log disk records end short (is_closed log long) = absurd (omega (arith, short, long))
 
-begun_log : (disk : List ℕ) (records : List LogRecord) (end : ℕ) → IsLog disk records end → IsLog (begun disk) records end
+begun_log : (disk : List ℕ) (records : List LogRecord) (end : ℕ) → IsLog disk records end → IsLog (scanned_disk disk) records end
 begun_log disk records end log = elim (cases_lt 1 (length disk)) [
   | inl long ↦ subst (λ (d : List ℕ). IsLog d records end) (sym (begun_long disk long)) log
   | inr short ↦
@@ -68,9 +68,9 @@ module _ (writes : List ℕ → List Write) (disk : List ℕ) (had : HasSoundLog
       record { sound = (sound.0, sound.1, is_short (omega (arith, first.short, first.torn.no_longer)) none.0 none.1, sound.3); each = had.each }
 
   -- the log that is read is the one that it had
-  pub same_writes : (now : List ℕ) (records : List LogRecord) (end : ℕ) → now ≡ begun disk → ClosedLog records end now → (name : List ℕ) → writes_of name records ≡ writes name
+  pub same_writes : (now : List ℕ) (records : List LogRecord) (end : ℕ) → now ≡ scanned_disk disk → ClosedLog records end now → (name : List ℕ) → writes_of name records ≡ writes name
   same_writes now records end is closed name =
       let whole = begun_log disk had.sound.0 had.sound.1 had.sound.2 in
-      let read = closed_is_log (begun disk) records end (subst (ClosedLog records end) is closed) in
-      let one = one_log (begun disk) records had.sound.0 end had.sound.1 read whole in
+      let read = closed_is_log (scanned_disk disk) records end (subst (ClosedLog records end) is closed) in
+      let one = one_log (scanned_disk disk) records had.sound.0 end had.sound.1 read whole in
       ap (writes_of name) one.0 ∙ had.each name

@@ -31,10 +31,10 @@ abbrev pub BeginsScan : ℕ → List ℕ → List ℕ → Type 0
 BeginsScan len before now = (now ≡ before) ⊎ FirstByte len before now
 
 -- the disk that is read: a disk of at most one byte has become one gate that is not open
-abbrev pub begun : List ℕ → List ℕ
-begun [] = 0 ∷ []
-begun (b ∷ []) = 0 ∷ []
-begun (b ∷ c ∷ rest) = b ∷ c ∷ rest
+abbrev pub scanned_disk : List ℕ → List ℕ
+scanned_disk [] = 0 ∷ []
+scanned_disk (b ∷ []) = 0 ∷ []
+scanned_disk (b ∷ c ∷ rest) = b ∷ c ∷ rest
 
 -- ---- record by record
 
@@ -65,7 +65,7 @@ abbrev pub record_is : FlushRecord → LogRecord
 record_is flush = record { sets = flush.sets; name = flush.table; writes = flush.writes }
 
 -- the bytes begin with this whole record, and a byte follows it
-pub record Found (bytes : List ℕ) (r : LogRecord) : Type 0 where
+pub record FoundRecord (bytes : List ℕ) (r : LogRecord) : Type 0 where
   pub is : IsRecord r
   pub front : take (length (record_bytes r)) bytes ≡ record_bytes r
   pub more : length (record_bytes r) < length bytes

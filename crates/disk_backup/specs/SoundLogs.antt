@@ -5,8 +5,8 @@ use Rattle.leaf_model.specs.Content.{content}
 use Rattle.disk_backup.specs.Logs.{IsSound, writes_of}
 
 -- a table has at most 2^40 rows after any prefix of the writes
-abbrev pub IsShort : List Write → Type 0
-IsShort writes = (k : ℕ) → length (content (take k writes)).rows ≤ 2 ^ 40
+abbrev pub HasFewRows : List Write → Type 0
+HasFewRows writes = (k : ℕ) → length (content (take k writes)).rows ≤ 2 ^ 40
 
 -- the disk's log is sound, and has these writes of each name
 pub record HasSoundLog (writes : List ℕ → List Write) (disk : List ℕ) : Type 0 where

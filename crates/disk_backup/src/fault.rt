@@ -15,8 +15,7 @@ impl From<Failed> for DiskFault {
     }
 }
 
-/// Why a log was not read on: the disk refused a call; an open gate is not followed by a record and a gate; or memory
-/// ran out.
+/// Why a scan of a log stopped: the disk refused a call; no record and gate follow an open gate; or memory ran out.
 #[derive(Clone, Copy, Debug, PartialEq, Eq)]
 pub enum LogFault {
     DiskFault,

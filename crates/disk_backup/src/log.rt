@@ -72,8 +72,8 @@ impl BackupLog {
     }
 
     /// Brings the owed record onto the disk: writes it with a closed gate after it, syncs, opens the gate before it,
-    /// and syncs. No-op if nothing is owed. After an Err the next call goes on at the write that failed or whose sync
-    /// failed. A record is not written again once its first sync has succeeded.
+    /// and syncs. No-op if nothing is owed. After an Err the next call resumes at the write that failed, or whose sync
+    /// failed. It does not write the record again once its first sync has succeeded.
     pub fn settle<B: Berth>(&mut self, berth: &mut B) -> Result<(), DiskFault>
         ensures nothing { self.old.owed ≡ None → IsOk result × (self.new ≡ self.old) × (berth.new ≡ berth.old) }
         ensures done { OnOk result ((self.new.owed ≡ None) × (self.new.end ≡ end_with self.old)) }

@@ -5,7 +5,7 @@ ghost use Rattle.berth_face.specs.Berth.{Passes, Stays};
 ghost use Rattle.row_records.specs.Records.{LogRecord, IsRecord, record_bytes};
 ghost use Rattle.disk_backup.specs.State.{ScanState};
 ghost use Rattle.disk_backup.specs.declared.fault.LogFault.TheVariants as fault;
-ghost use Rattle.disk_backup.specs.Scanning.{size_at, record_is, Scanned, Damaged, NoRecord, Found, StepIs, GivesRecord, ScansOn};
+ghost use Rattle.disk_backup.specs.Scanning.{size_at, record_is, Scanned, Damaged, NoRecord, FoundRecord, StepIs, GivesRecord, ScansOn};
 
 use crate::fault::LogFault;
 use crate::log::BackupLog;
@@ -71,7 +71,7 @@ fn record_at<B: Berth>(
     ensures room { IfOk result (λ x. x.1 < len) }
     ensures writes { IfOk result (λ x. at + length x.0.writes ≤ x.1) }
     ensures told { IsTrue (B.meaning berth.old).tells → len ≡ length (B.meaning berth.old).held.disk
-        → IfOk result (λ x. Found (drop at (B.meaning berth.old).held.disk) (record_is x.0)
+        → IfOk result (λ x. FoundRecord (drop at (B.meaning berth.old).held.disk) (record_is x.0)
         × (x.1 ≡ at + length (record_bytes (record_is x.0)))) }
     ensures damaged { IsTrue (B.meaning berth.old).tells → len ≡ length (B.meaning berth.old).held.disk
         → result ≡ Err fault.DiskDamaged → NoRecord (drop at (B.meaning berth.old).held.disk) }

@@ -6,7 +6,7 @@ ghost use Rattle.berth_face.specs.Moments.{EachNow, Throughout};
 ghost use Rattle.row_records.specs.Records.{LogRecord};
 ghost use Rattle.disk_backup.specs.Logs.{IsLog};
 ghost use Rattle.disk_backup.specs.declared.fault.LogFault.TheVariants as fault;
-ghost use Rattle.disk_backup.specs.Scanning.{StepsFrom, BeginsScan, begun, Scanned, Damaged, StepIs, GivesRecord, ScansOn};
+ghost use Rattle.disk_backup.specs.Scanning.{StepsFrom, BeginsScan, scanned_disk, Scanned, Damaged, StepIs, GivesRecord, ScansOn};
 
 use crate::fault::LogFault;
 use crate::gate::first_gate;
@@ -23,7 +23,7 @@ impl LogScan {
         ensures len { IsTrue (B.meaning berth.old).tells
             → IfOk result (λ scan. scan.len ≡ length (B.meaning berth.new).held.disk) }
         ensures disk { IsTrue (B.meaning berth.old).tells
-            → OnOk result ((B.meaning berth.new).held.disk ≡ begun (B.meaning berth.old).held.disk) }
+            → OnOk result ((B.meaning berth.new).held.disk ≡ scanned_disk (B.meaning berth.old).held.disk) }
         ensures held { IsTrue (B.meaning berth.old).tells → BeginsScan
             (length (B.meaning berth.old).held.disk) (B.meaning berth.old).held.disk (B.meaning berth.new).held.disk }
         ensures region { IsTrue (B.meaning berth.old).tells

@@ -3,7 +3,7 @@ use Rattle.std.proofs.Common.{◌≡◌, ℕ, suc, ◌+◌, ◌^◌, ◌<◌, �
 use Rattle.std.specs.Prelude.{nat_le}
 use Rattle.std.specs.List.{AllByRecursion, list_any}
 use Rattle.std.proofs.lemmas.Bool.{or_parts, leb-false}
-use Rattle.leaf_model.specs.Values.{time_name}
+use Rattle.row_model.specs.Values.{time_name}
 use Rattle.row_blocks.specs.declared.column.BlockColumn.{BlockColumn}
 use Rattle.row_blocks.specs.Blocks.{Block, IsBlock, IsOther}
 use Rattle.row_blocks.specs.Held.{IsSkip}

@@ -5,7 +5,7 @@ use Rattle.std.specs.List.{AllByRecursion}
 use Rattle.std.proofs.Math.Seq.{drop-append_seam}
 use Rattle.std.proofs.lemmas.Bool.{le-ltb}
 use Rattle.std.proofs.lemmas.Nat.{from_le_bytes-to_le_bytes_8}
-use Rattle.leaf_model.specs.Names.{AreDistinct}
+use Rattle.row_model.specs.Names.{AreDistinct}
 use Rattle.column_bytes.specs.Coding.{joined}
 use Rattle.region_head.specs.declared.head.Head.TheVariants.{Version}
 use Rattle.region_head.specs.Head.{head_bytes, head_of}

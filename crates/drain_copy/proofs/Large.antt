@@ -11,8 +11,8 @@ use Rattle.column_bytes.specs.declared.form.Form.TheVariants.{Offset, Delta, Dic
 use Rattle.dictionaries.specs.Fields.{u32_at}
 use Rattle.column_bytes.specs.Cells.{IsExtra}
 use Rattle.column_bytes.specs.Column.{IsPresence, codes_from, codes_part, count_in, extra_from, extra_part, presence_bits, presence_part, width_in}
-use Rattle.dictionaries.specs.Dictionary.{IsDictionary, text_count, text_from}
-use Rattle.dictionaries.specs.Sets.{IsSetDictionary, sets_part, texts_part, texts_size}
+use Rattle.dictionaries.specs.Dictionary.{IsDictionary, text_count, text_from, texts_size}
+use Rattle.dictionaries.specs.Sets.{IsSetDictionary, sets_part, texts_part}
 use Rattle.row_blocks.specs.declared.column.BlockColumn.{BlockColumn}
 use Rattle.row_blocks.specs.Columns.{MeanCells}
 use Rattle.row_blocks.specs.Blocks.{Block, IsBlock, IsOther}
@@ -21,7 +21,7 @@ use Rattle.table_state.specs.Tables.{IsParts}
 use Rattle.region_layout.specs.Names.{IsName}
 use Rattle.region_layout.specs.declared.drained.DrainTable.{DrainTable}
 use Rattle.region_layout.specs.Drained.{is_wide}
-use Rattle.drain_copy.specs.Planned.{AreShort, HasShort, IsShort, NeedRoom, blocks_entries, blocks_size, columns_entries, columns_size, tables_count, tables_entries, tables_size}
+use Rattle.drain_copy.specs.Planned.{AreShort, HasShort, IsShortColumn, NeedRoom, blocks_entries, blocks_size, columns_entries, columns_size, tables_count, tables_entries, tables_size}
 use Rattle.drain_copy.proofs.Fitting.{block_short, some_columns}
 
 -- ---- numbers in the bytes
@@ -109,13 +109,13 @@ column_short bytes n below mean =
 
 -- ---- and of tables
 
-others_sized : (rows : ℕ) (columns : List BlockColumn) → AllByRecursion (IsOther rows) columns → AllByRecursion IsShort columns → columns_size columns ≤ 2 ^ 37 * length columns
+others_sized : (rows : ℕ) (columns : List BlockColumn) → AllByRecursion (IsOther rows) columns → AllByRecursion IsShortColumn columns → columns_size columns ≤ 2 ^ 37 * length columns
 others_sized rows [] each short = omega arith
 others_sized rows (c ∷ columns) each short = omega (arith, short.0 rows each.0.cells, others_sized rows columns each.1 short.1)
 
 block_sized : (b : Block) → IsBlock b → AreShort b → columns_size b.columns ≤ 2 ^ 37 * length b.columns
 block_sized b is short =
-    let each : AllByRecursion IsShort (is.times ∷ is.others) = subst (λ (cs : List BlockColumn). AllByRecursion IsShort cs) is.columns_are short in
+    let each : AllByRecursion IsShortColumn (is.times ∷ is.others) = subst (λ (cs : List BlockColumn). AllByRecursion IsShortColumn cs) is.columns_are short in
     subst (λ (cs : List BlockColumn). columns_size cs ≤ 2 ^ 37 * length cs) (sym is.columns_are)
     (omega (arith, each.0 b.rows is.timed.cells, others_sized b.rows is.others is.each each.1))
 

@@ -8,9 +8,9 @@ use Rattle.std.specs.List.Sorted.{IsStrictlySortedBy}
 use Rattle.std.specs.declared.cmp.Ordering.{Ordering}
 use Rattle.std.specs.declared.cmp.Ordering.TheVariants.{Less, Equal, Greater}
 use Rattle.std.specs.Ordering.{is_gt, ordering_then}
-use Rattle.leaf_model.specs.Names.{AreDistinct}
-use Rattle.leaf_model.specs.Values.{IsCellName}
-use Rattle.leaf_model.specs.Groups.{text_cmp}
+use Rattle.row_model.specs.Names.{AreDistinct}
+use Rattle.row_model.specs.Values.{IsCellName}
+use Rattle.row_model.specs.Texts.{text_cmp}
 use Rattle.column_bytes.specs.Coding.{joined}
 use Rattle.column_bytes.specs.declared.kind.Kind.{Kind}
 use Rattle.column_bytes.specs.declared.kind.Kind.TheVariants.{Ints, Texts, Sets}

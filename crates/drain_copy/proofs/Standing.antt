@@ -9,7 +9,7 @@ use Rattle.region_layout.specs.Region.{layout}
 use Rattle.drain_copy.specs.declared.step.Next.{Next}
 use Rattle.drain_copy.specs.declared.step.Next.TheVariants as next
 use Rattle.drain_copy.specs.declared.step.DrainStep.TheVariants.{Begun, Column, Directory, Finished}
-use Rattle.drain_copy.specs.Draining.{DrainState, IsStep, IsStepFrom, StandsAt, Draining, held, longest, image_bytes, directory_of}
+use Rattle.drain_copy.specs.Draining.{DrainState, IsStep, IsStepFrom, RegionStandsAt, Draining, held, longest, image_bytes, directory_of}
 use Rattle.drain_copy.specs.Regions.{EndsAt}
 use Rattle.drain_copy.proofs.Closed.{flag_first}
 
@@ -38,9 +38,9 @@ image_length place columns directory = omega (arith, length-append (joined colum
 
 -- ---- what stands behind a step
 
-pub stands_column : (image column : List ℕ) (rest : List (List ℕ)) (region now : List ℕ) → StandsAt next.Copy image (column ∷ rest) region → now ≡ region ++ column → StandsAt next.Copy image rest now
+pub stands_column : (image column : List ℕ) (rest : List (List ℕ)) (region now : List ℕ) → RegionStandsAt next.Copy image (column ∷ rest) region → now ≡ region ++ column → RegionStandsAt next.Copy image rest now
 stands_column image column rest region now stands is =
-    subst (StandsAt next.Copy image rest) (sym is)
+    subst (RegionStandsAt next.Copy image rest) (sym is)
     (omega (arith, stands.0, length-append region column), ap (λ (l : List ℕ). l ++ directory_of image) (append_assoc region column (joined rest)) ∙ stands.1)
 
 -- ---- where the region ends
@@ -50,7 +50,7 @@ first_of rest behind whole [] long e = absurd (omega (arith, long))
 first_of rest behind whole (x ∷ xs) long e = ap (take 1) e
 
 pub ends_at : (at : ℕ) (image : List ℕ) (heap : List (List ℕ)) (region : List ℕ) → 16 ≤ length image → at + length (joined heap) + length (directory_of image) ≡ length image
-    → StandsAt next.Copy image heap region → EndsAt at region
+    → RegionStandsAt next.Copy image heap region → EndsAt at region
 ends_at at image heap region long place stands =
     let lengths : length ((region ++ joined heap) ++ directory_of image) ≡ length (replicate 16 0 ++ drop 16 image) = ap (λ (l : List ℕ). length l) stands.1 in (
       omega (arith, long, place, lengths, length-append (region ++ joined heap) (directory_of image), length-append region (joined heap), length-append (replicate 16 0) (drop 16 image), length-replicate {A = ℕ} 16 0, length-drop 16 image),
@@ -59,7 +59,7 @@ ends_at at image heap region long place stands =
 
 -- ---- how long the region is
 
-long_by : (n : Next) (image : List ℕ) (heap : List (List ℕ)) (region : List ℕ) → 16 ≤ length image → n ≢ next.Begin → StandsAt n image heap region → length region + length (joined heap) ≤ length image
+long_by : (n : Next) (image : List ℕ) (heap : List (List ℕ)) (region : List ℕ) → 16 ≤ length image → n ≢ next.Begin → RegionStandsAt n image heap region → length region + length (joined heap) ≤ length image
 long_by next.Begin image heap region long later stands = absurd (later refl)
 long_by next.Copy image heap region long later stands =
     let lengths : length ((region ++ joined heap) ++ directory_of image) ≡ length (replicate 16 0 ++ drop 16 image) = ap (λ (l : List ℕ). length l) stands.1 in
@@ -114,25 +114,25 @@ ends_where place held n planned heap directory is same fits at behind =
 
 -- ---- of a drain
 
-copying : (d : DrainState) (region : List ℕ) → d.next ≡ next.Copy → Draining d region → StandsAt next.Copy d.image d.heap region
-copying d region copies stands = subst (λ (n : Next). StandsAt n d.image d.heap region) copies stands
+copying : (d : DrainState) (region : List ℕ) → d.next ≡ next.Copy → Draining d region → RegionStandsAt next.Copy d.image d.heap region
+copying d region copies stands = subst (λ (n : Next). RegionStandsAt n d.image d.heap region) copies stands
 
 pub copy_ends : (d : DrainState) (at : ℕ) (region : List ℕ) → d.next ≡ next.Copy → at + held d + length (directory_of d.image) ≡ length d.image → 16 ≤ at → Draining d region → EndsAt at region
 copy_ends d at region copies place head stands = ends_at at d.image d.heap region (omega (arith, place, head)) place (copying d region copies stands)
 
-draining_by : (d : DrainState) (n : Next) (image : List ℕ) (heap : List (List ℕ)) (region : List ℕ) → d.next ≡ n → d.image ≡ image → d.heap ≡ heap → StandsAt n image heap region → Draining d region
+draining_by : (d : DrainState) (n : Next) (image : List ℕ) (heap : List (List ℕ)) (region : List ℕ) → d.next ≡ n → d.image ≡ image → d.heap ≡ heap → RegionStandsAt n image heap region → Draining d region
 draining_by d n image heap region at same columns stands =
-    subst (λ (k : Next). StandsAt k d.image d.heap region) (sym at) (subst (λ (i : List ℕ). StandsAt n i d.heap region) (sym same) (subst (λ (h : List (List ℕ)). StandsAt n image h region) (sym columns) stands))
+    subst (λ (k : Next). RegionStandsAt k d.image d.heap region) (sym at) (subst (λ (i : List ℕ). RegionStandsAt n i d.heap region) (sym same) (subst (λ (h : List (List ℕ)). RegionStandsAt n image h region) (sym columns) stands))
 
 pub column_told : (d later : DrainState) (column region now : List ℕ) → d.next ≡ next.Copy → later.next ≡ d.next → later.image ≡ d.image → d.heap ≡ column ∷ later.heap → Draining d region → now ≡ region ++ column → Draining later now
 column_told d later column region now copies same_next same heap stands is =
-    let before : StandsAt next.Copy d.image (column ∷ later.heap) region = subst (λ (h : List (List ℕ)). StandsAt next.Copy d.image h region) heap (copying d region copies stands) in
+    let before : RegionStandsAt next.Copy d.image (column ∷ later.heap) region = subst (λ (h : List (List ℕ)). RegionStandsAt next.Copy d.image h region) heap (copying d region copies stands) in
     draining_by later next.Copy d.image later.heap now (same_next ∙ copies) same refl (stands_column d.image column later.heap region now before is)
 
 pub directory_told : (d later : DrainState) (head directory region now : List ℕ) → d.next ≡ next.Copy → d.heap ≡ [] → later.next ≡ next.Flag → later.image ≡ d.image → later.heap ≡ []
     → directory ≡ directory_of d.image → head ++ drop 16 d.image ≡ drop 1 d.image → Draining d region → now ≡ 0 ∷ (head ++ drop 16 (region ++ directory)) → Draining later now
 directory_told d later head directory region now copies none at same empty behind is stands now_is =
-    let before : StandsAt next.Copy d.image [] region = subst (λ (h : List (List ℕ)). StandsAt next.Copy d.image h region) none (copying d region copies stands) in
+    let before : RegionStandsAt next.Copy d.image [] region = subst (λ (h : List (List ℕ)). RegionStandsAt next.Copy d.image h region) none (copying d region copies stands) in
     let whole : region ++ directory ≡ replicate 16 0 ++ drop 16 d.image = ap (λ (l : List ℕ). region ++ l) behind ∙ ap (λ (l : List ℕ). l ++ directory_of d.image) (sym (append-nil region)) ∙ before.1 in
     let rest : drop 16 (region ++ directory) ≡ drop 16 d.image = ap (drop 16) whole in
     draining_by later next.Flag d.image [] now at same empty (now_is ∙ ap (λ (l : List ℕ). 0 ∷ (head ++ l)) rest ∙ ap (λ (l : List ℕ). 0 ∷ l) is, refl)
@@ -142,10 +142,10 @@ begun_told d later now at same columns whole is =
     let all : (replicate 16 0 ++ joined d.heap) ++ directory_of d.image ≡ replicate 16 0 ++ drop 16 d.image =
     append_assoc (replicate 16 0) (joined d.heap) (directory_of d.image) ∙ ap (λ (l : List ℕ). replicate 16 0 ++ l) whole in
     draining_by later next.Copy d.image d.heap now at same columns
-    (subst (StandsAt next.Copy d.image d.heap) (sym is) (omega (arith, length-replicate {A = ℕ} 16 0), all))
+    (subst (RegionStandsAt next.Copy d.image d.heap) (sym is) (omega (arith, length-replicate {A = ℕ} 16 0), all))
 
-flagged : (d : DrainState) (region : List ℕ) → d.next ≡ next.Flag → Draining d region → StandsAt next.Flag d.image d.heap region
-flagged d region at stands = subst (λ (n : Next). StandsAt n d.image d.heap region) at stands
+flagged : (d : DrainState) (region : List ℕ) → d.next ≡ next.Flag → Draining d region → RegionStandsAt next.Flag d.image d.heap region
+flagged d region at stands = subst (λ (n : Next). RegionStandsAt n d.image d.heap region) at stands
 
 pub flag_behind : (d : DrainState) (region : List ℕ) → d.next ≡ next.Flag → Draining d region → region ≡ 0 ∷ drop 1 d.image
 flag_behind d region at stands = (flagged d region at stands).0

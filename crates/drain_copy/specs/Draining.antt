@@ -32,14 +32,14 @@ directory_of image = drop (directory_from image) image
 
 -- What the region holds before a step. While columns are left: a closed head of zeros and the columns that were
 -- written. These, the columns on the heap and the directory make the image but for its head.
-abbrev pub StandsAt : Next → List ℕ → List (List ℕ) → List ℕ → Type 0
-StandsAt next.Begin image heap region = ⊤
-StandsAt next.Copy image heap region = (16 ≤ length region) × ((region ++ joined heap) ++ directory_of image ≡ replicate 16 0 ++ drop 16 image)
-StandsAt next.Flag image heap region = (region ≡ 0 ∷ drop 1 image) × (heap ≡ [])
-StandsAt next.Nothing image heap region = (region ≡ image) × (heap ≡ [])
+abbrev pub RegionStandsAt : Next → List ℕ → List (List ℕ) → List ℕ → Type 0
+RegionStandsAt next.Begin image heap region = ⊤
+RegionStandsAt next.Copy image heap region = (16 ≤ length region) × ((region ++ joined heap) ++ directory_of image ≡ replicate 16 0 ++ drop 16 image)
+RegionStandsAt next.Flag image heap region = (region ≡ 0 ∷ drop 1 image) × (heap ≡ [])
+RegionStandsAt next.Nothing image heap region = (region ≡ image) × (heap ≡ [])
 
 abbrev pub Draining : DrainState → List ℕ → Type 0
-Draining d region = StandsAt d.next d.image d.heap region
+Draining d region = RegionStandsAt d.next d.image d.heap region
 
 -- ---- steps
 

@@ -36,12 +36,12 @@ tables_size [] = 0
 tables_size (t ∷ tables) = blocks_size t.parts.blocks + tables_size tables
 
 -- bytes that mean cells are fewer than 2^37
-abbrev pub IsShort : BlockColumn → Type 0
-IsShort c = (n : ℕ) → MeanCells c.bytes n → length c.bytes < 2 ^ 37
+abbrev pub IsShortColumn : BlockColumn → Type 0
+IsShortColumn c = (n : ℕ) → MeanCells c.bytes n → length c.bytes < 2 ^ 37
 
 -- of each column
 abbrev pub AreShort : Block → Type 0
-AreShort b = AllByRecursion IsShort b.columns
+AreShort b = AllByRecursion IsShortColumn b.columns
 
 abbrev pub HasShort : DrainTable → Type 0
 HasShort t = AllByRecursion AreShort t.parts.blocks

@@ -13,7 +13,7 @@ pub record LeftFrom (P : List ℕ → Type 0) (old : Meaning) (p : Pair) : Type 
 abbrev pub ClosedOrOpened : List ℕ → List ℕ → Type 0
 ClosedOrOpened behind region = IsClosed region ⊎ (region ≡ 1 ∷ behind)
 
--- the region has at most so many bytes
+-- the region has at most this number of bytes
 abbrev pub IsWithin : ℕ → List ℕ → Type 0
 IsWithin n region = length region ≤ n
 

@@ -6,7 +6,7 @@ ghost use Rattle.berth_face.specs.Berth.{IsClosed, Passes, Ended, SameDisk};
 ghost use Rattle.berth_face.specs.Moments.{Meanwhile, Throughout};
 ghost use Rattle.berth_face.specs.Causes.{HasCause};
 ghost use Rattle.column_bytes.specs.Coding.{joined};
-ghost use Rattle.leaf_model.specs.Names.{AreDistinct};
+ghost use Rattle.row_model.specs.Names.{AreDistinct};
 ghost use Rattle.region_layout.specs.Names.{IsName};
 ghost use Rattle.table_state.specs.Tables.{IsParts};
 ghost use Rattle.region_layout.specs.declared.drained.DrainTable.{DrainTable};
@@ -21,7 +21,7 @@ ghost use Rattle.drain_copy.specs.Regions.{IsCutOrBegun};
 ghost use Rattle.drain_copy.specs.Planned.{NeedRoom, tables_count, tables_size};
 
 use crate::moving::move_tables;
-use crate::planning::Plan;
+use crate::planning::CopyPlan;
 use crate::region_calls::{append, begin, finish, open};
 use crate::sizes::room;
 use crate::step::{DrainStep, Next, PlanFault, RegionFault};
@@ -54,7 +54,11 @@ impl Model for Drain {
 
     ghost Value = { DrainState };
 
-    ghost view = { λ d. record { image = image_bytes d.place d.planned.value.items d.directory.items; next = d.next; heap = d.columns.items } };
+    ghost view = { λ d. record {
+      image = image_bytes d.place d.planned.value.items d.directory.items;
+      next = d.next;
+      heap = d.columns.items;
+    } };
 
     ghost invariant = { λ d.
         (d.place ≡ 16 + length (joined d.planned.value.items))
@@ -90,7 +94,7 @@ impl Drain {
         let Some(sizes) = room(tables.as_slice()) else {
             return Err((tables, PlanFault::NoRoom));
         };
-        match Plan::of(alloc, tables.as_slice(), sizes, log_end) {
+        match CopyPlan::of(alloc, tables.as_slice(), sizes, log_end) {
             Ok(plan) => Ok(Drain::of(plan, tables)),
             Err(_) => Err((tables, PlanFault::NoMemory)),
         }
@@ -98,7 +102,7 @@ impl Drain {
 
     // It begins with all columns of the tables.
     #[tactic(auto, using(crate::proofs::Imaging::directory_found, crate::proofs::Laying::tables_length))]
-    fn of(plan: Plan, tables: DrainTables) -> Drain
+    fn of(plan: CopyPlan, tables: DrainTables) -> Drain
         requires place { plan.place ≡ 16 + tables_size tables }
         requires fits { plan.place + length plan.directory.items < 2 ^ 63 }
         requires empty { plan.columns.items ≡ [] }
@@ -107,7 +111,7 @@ impl Drain {
         ensures next { result.next ≡ next.Begin }
         ensures heap { result.heap ≡ all_columns tables }
     {
-        let Plan {
+        let CopyPlan {
             directory,
             mut columns,
             place,

@@ -17,20 +17,20 @@ use std::collections::VecDeque;
 
 /// The directory of an image and its place, and room for the columns.
 #[derive(Drop)]
-pub struct Plan {
+pub struct CopyPlan {
     pub directory: Vec<u8>,
     pub columns: VecDeque<ColumnBytes>,
     pub place: u64,
 }
 
-impl Plan {
+impl CopyPlan {
     #[tactic(auto, using(crate::proofs::Reckoned::image_length_is, crate::proofs::Reckoned::planned_length, crate::proofs::Reckoned::short_of, crate::proofs::Reckoned::narrow_of, crate::proofs::Fitting::may_be_written))]
     pub fn of(
         alloc: Global,
         tables: &[DrainTable],
         sizes: Sizes,
         log_end: u64,
-    ) -> Result<Plan, AllocError>
+    ) -> Result<CopyPlan, AllocError>
         requires few { length tables.now ≤ 16 }
         requires names { AllByRecursion (λ (t : DrainTable). IsName t.name) tables.now }
         requires parts { AllByRecursion (λ (t : DrainTable). IsParts t.parts) tables.now }
@@ -45,7 +45,7 @@ impl Plan {
             deque_len plan.columns + tables_count tables.now ≤ deque_capacity plan.columns) }
     {
         let directory = directory_of(alloc, tables, log_end)?;
-        Ok(Plan {
+        Ok(CopyPlan {
             directory: directory.write(alloc)?,
             columns: VecDeque::with_capacity(alloc, sizes.columns as usize)?,
             place: 16 + sizes.bytes,

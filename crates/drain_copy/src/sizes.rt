@@ -7,7 +7,7 @@ ghost use Rattle.table_state.specs.Tables.{IsParts};
 ghost use Rattle.region_layout.specs.Names.{IsName};
 ghost use Rattle.region_layout.specs.declared.drained.DrainTable.{DrainTable};
 ghost use Rattle.region_layout.specs.Drained.{column_entry, has_no_room, is_wide};
-ghost use Rattle.drain_copy.specs.Planned.{AreShort, Grew, HasRoom, HasShort, IsShort, NeedRoom, blocks_entries, blocks_size, columns_entries, columns_size, tables_count, tables_entries, tables_size};
+ghost use Rattle.drain_copy.specs.Planned.{AreShort, Grew, HasRoom, HasShort, IsShortColumn, NeedRoom, blocks_entries, blocks_size, columns_entries, columns_size, tables_count, tables_entries, tables_size};
 
 use region_layout::DrainTable;
 use row_blocks::{BlockColumn, RowBlock};
@@ -123,7 +123,7 @@ fn with_block(start: Sizes, block: &RowBlock) -> Sizes
 
 fn with_columns(start: Sizes, columns: &[BlockColumn]) -> Sizes
     ensures grew { Grew start result (length columns.now) (columns_size columns.now) (columns_entries columns.now) }
-    ensures short { AllByRecursion IsShort columns.now }
+    ensures short { AllByRecursion IsShortColumn columns.now }
 {
     let mut sizes = start;
     for column in columns {
@@ -134,7 +134,7 @@ fn with_columns(start: Sizes, columns: &[BlockColumn]) -> Sizes
 
 fn with_column(start: Sizes, column: &BlockColumn) -> Sizes
     ensures grew { Grew start result 1 (length column.now.bytes) (column_entry column.now) }
-    ensures short { IsShort column.now }
+    ensures short { IsShortColumn column.now }
 {
     let name = column.name.as_str().len() as u64;
     Sizes {

@@ -18,8 +18,8 @@ pub enum PlanFault {
     NoMemory,
 }
 
-/// What a step did: it wrote a closed head into an empty region; or a column, of `bytes` bytes; or the directory, and
-/// the head after the flag; or it opened the flag.
+/// A step that was made: a closed head in an empty region; a column of `bytes` bytes; the directory, and the head after
+/// the flag; or the open flag.
 #[derive(Clone, Copy, PartialEq, Eq)]
 pub enum DrainStep {
     Begun,

@@ -1,7 +1,7 @@
 -- Laws of masks and cuts, as statements.
 use Rattle.std.specs.Prelude.{◌≡◌, ℕ, ◌-◌, List, length, take, drop, ℤ}
 use Rattle.std.specs.Int.{int_max}
-use Rattle.leaf_model.specs.declared.rows.Row.{Row}
+use Rattle.row_model.specs.declared.rows.Row.{Row}
 use Rattle.leaf_model.specs.Content.{rows_from, last_rows}
 use Rattle.expiry.specs.Masks.{mask_of, rows_left, times_of}
 

@@ -1,7 +1,7 @@
 -- Masks: whether each of a list of rows stays.
 use Rattle.std.specs.Prelude.{ℕ, List, [], ◌∷◌, length, map, Bool, ◌&&◌, if◌then◌else◌, ℤ, pos, nat_le, int_le, slice_index_or}
 use Rattle.std.specs.List.{range_with_len}
-use Rattle.leaf_model.specs.declared.rows.Row.{Row}
+use Rattle.row_model.specs.declared.rows.Row.{Row}
 
 -- a row stays if it is not among the first `skip`, and its time is at least the horizon
 abbrev pub stays_at : List ℤ → ℕ → ℤ → ℕ → Bool

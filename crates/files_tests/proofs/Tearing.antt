@@ -5,7 +5,7 @@ use Rattle.berth_face.specs.Berth.{Pair, Meaning, IsClosed, Stays, Ticks, Torn, 
 use Rattle.berth_face.specs.Moments.{EachNow, KeepsRegion}
 use Rattle.berth_files.specs.declared.leaf_file.LeafFile.{LeafFile}
 use Rattle.berth_files.specs.declared.leaf_file.LeafFile.TheVariants.{Region, Disk}
-use Rattle.berth_files.specs.Files.{FileWritten, GivesSome, GoesOn, content}
+use Rattle.berth_files.specs.Files.{FileWritten, GivesSome, FilesGoOn, file_content}
 use Rattle.files_tests.specs.Torn.{torn}
 
 -- ---- calls
@@ -15,7 +15,7 @@ module _ (old new : Meaning) where
   pairs : (t u : ℕ) → ((q : Pair) → new.leaves t q ↔ old.leaves u q) → (p : Pair) → (torn new).leaves t p ↔ (torn old).leaves u p
   pairs t u same p = (λ left. (left.0, (same left.0).0 left.1, left.2, left.3), λ left. (left.0, (same left.0).1 left.1, left.2, left.3))
 
-  pub goes_on : GoesOn old new → GoesOn (torn old) (torn new)
+  pub goes_on : FilesGoOn old new → FilesGoOn (torn old) (torn new)
   goes_on time = record { tells = time.tells; later = time.later; past = λ t p le. pairs t t (λ q. time.past t q le) p; past_regions = time.past_regions }
 
   pub stays : Stays old new → Stays (torn old) (torn new)
@@ -119,11 +119,11 @@ module _ (old new : Meaning) where
 
 -- ---- what reads give
 
-pub len_told : {E : Type 0} (file : LeafFile) (result : Result ℕ E) (m : Meaning) → IfOk result (λ n. n ≡ length (content file m)) → IfOk result (λ n. n ≡ length (content file (torn m)))
+pub len_told : {E : Type 0} (file : LeafFile) (result : Result ℕ E) (m : Meaning) → IfOk result (λ n. n ≡ length (file_content file m)) → IfOk result (λ n. n ≡ length (file_content file (torn m)))
 len_told Region result m is = is
 len_told Disk result m is = is
 
-pub read_told : {E : Type 0} (file : LeafFile) (at : ℕ) (buf : List ℕ) (result : Result ℕ E) (m : Meaning) → IfOk result (λ n. GivesSome at (content file m) buf n) → IfOk result (λ n. GivesSome at (content file (torn m)) buf n)
+pub read_told : {E : Type 0} (file : LeafFile) (at : ℕ) (buf : List ℕ) (result : Result ℕ E) (m : Meaning) → IfOk result (λ n. GivesSome at (file_content file m) buf n) → IfOk result (λ n. GivesSome at (file_content file (torn m)) buf n)
 read_told Region at buf result m gives = gives
 read_told Disk at buf result m gives = gives
 

@@ -1,4 +1,4 @@
--- Files of which a crash may leave any closed region, as those on a device do where the machine goes down.
+-- Files that a crash may leave with any closed region, as files on a device if the machine goes down.
 use Rattle.std.specs.Prelude.{◌≡◌, ◌⊎◌, List, ℕ, refl}
 use mathlib.Core.Logic.{inl, inr}
 use Rattle.std.proofs.Common.{◌∙◌, sym, subst}

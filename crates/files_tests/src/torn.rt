@@ -8,8 +8,7 @@ use crate::files::MemFiles;
 use berth_face::{Berth, Failed};
 use berth_files::{FileBerth, FileCalls, LeafFile};
 
-/// Files that tell of a crash what files on a device tell: beside what it leaves of the others, it may
-/// leave any region that is closed.
+/// Files on a device: a crash leaves what it leaves of the other files, or any closed region.
 #[derive(Drop)]
 pub struct TornFiles<F> {
     files: F,
@@ -26,7 +25,8 @@ impl<F: FileCalls + Send + Drop> FileCalls for TornFiles<F> {
 
     ghost stands = { λ f told. stands (F.holds f.files) (F.stands f.files told) };
 
-    ghost keeps_region = { λ f p told left. keeps_region (F.holds f.files) (λ q was. F.keeps_region f.files q told was) p left };
+    ghost keeps_region = { λ f p told left. keeps_region (F.holds f.files) (λ q was. F.keeps_region f.files q told was)
+        p left };
 
     ghost region_now = { λ f region told. F.region_now f.files region told };
 
@@ -66,7 +66,8 @@ impl<F: FileCalls + Send + Drop> FileCalls for TornFiles<F> {
 /// Closes the region's flag. Then each region that a crash may leave is closed, whatever a machine that goes down has
 /// torn of it.
 pub fn shut(berth: &mut FileBerth<TornFiles<MemFiles>>) -> Result<(), Failed>
-    ensures closed { OnOk result (EachNow (λ p. IsClosed p.region) (⟦<FileBerth<TornFiles<MemFiles>> as Berth>⟧.meaning berth.new)) }
+    ensures closed { OnOk result (EachNow (λ p. IsClosed p.region)
+        (⟦<FileBerth<TornFiles<MemFiles>> as Berth>⟧.meaning berth.new)) }
 {
     berth.region_write(0, &[0])
 }

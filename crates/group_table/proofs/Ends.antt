@@ -9,7 +9,7 @@ use Rattle.leaf_model.specs.declared.groups.Key.{Key}
 use Rattle.leaf_model.specs.declared.groups.Fold.{Fold}
 use Rattle.leaf_model.specs.declared.lent_rows.LentRow.{LentRow}
 use Rattle.leaf_model.specs.declared.lent_rows.LentRows.{LentRows}
-use Rattle.leaf_model.specs.declared.rows.Row.{Row}
+use Rattle.row_model.specs.declared.rows.Row.{Row}
 use Rattle.leaf_model.specs.Groups.{keys_cmp}
 use Rattle.leaf_model.specs.Lent.{rows_parted}
 use Rattle.leaf_model.specs.declared.lent_cells.LentValue.{LentValue}

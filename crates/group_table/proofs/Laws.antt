@@ -1,17 +1,18 @@
 -- Joining the groups of two lists of rows gives the groups of both.
 use Rattle.std.proofs.Common.{◌≡◌, ℕ, ◌+◌, ◌<◌, take, get_or, true, false, List, [], ◌∷◌, ◌++◌, length, map, filter, refl, sym, ap, subst, ◌∙◌}
-use Rattle.std.specs.Ordering.{is_eq, ordering_reverse}
+use Rattle.std.specs.Ordering.{is_eq, match_ordering, ordering_reverse}
+use Rattle.std.specs.BTreeSet.{insert_key}
 use Rattle.std.specs.List.{AllByRecursion}
 use Rattle.std.specs.declared.cmp.Ordering.{Ordering}
 use Rattle.std.specs.declared.cmp.Ordering.TheVariants.{Less, Equal, Greater}
 use Rattle.std.proofs.lemmas.Cmp.{alike_right, tied_itself}
 use Rattle.std.proofs.lemmas.List.Elements.{filter-append}
 use Rattle.std.proofs.lemmas.List.{length-map, take_more}
-use Rattle.leaf_model.specs.declared.rows.Row.{Row}
+use Rattle.row_model.specs.declared.rows.Row.{Row}
 use Rattle.leaf_model.specs.declared.queries.Query.{Query}
 use Rattle.leaf_model.specs.declared.groups.Key.{Key}
 use Rattle.leaf_model.specs.declared.groups.Group.{Group}
-use Rattle.leaf_model.specs.Groups.{keys_cmp, keys_of, passes, with_keys, with_keys_at, distinct_keys, group_of, rows_with, fold_of, agg_ints, groups}
+use Rattle.leaf_model.specs.Groups.{keys_cmp, keys_of, passes, distinct_keys, group_of, rows_with, fold_of, agg_ints, groups}
 use Rattle.group_table.specs.Joined.{joined_group, joined, joined_from, next_of}
 use Rattle.group_table.specs.Table.{keys_in, Above, Ascends, IsTable}
 use Rattle.leaf_model.proofs.KeyOrder.{keys_cmp_total, exact_keys}
@@ -98,33 +99,33 @@ above-tie : (k j : List Key) (js : List (List Key)) → keys_cmp k j ≡ Equal �
 above-tie k j [] h up = tt
 above-tie k j (i ∷ rest) h up = (tie_left k j i Less h up.0, above-tie k j rest h up.1)
 
-above-at : (j k i : List Key) (rest further : List (List Key)) (o : Ordering) → keys_cmp j k ≡ Less → Above j (i ∷ rest) → Above j further → Above j (with_keys_at o k i rest further)
+above-at : (j k i : List Key) (rest further : List (List Key)) (o : Ordering) → keys_cmp j k ≡ Less → Above j (i ∷ rest) → Above j further → Above j (match_ordering o (k ∷ i ∷ rest) (i ∷ rest) (i ∷ further))
 above-at j k i rest further Less h up more = (h, up)
 above-at j k i rest further Equal h up more = up
 above-at j k i rest further Greater h up more = (up.0, more)
 
-above-with : (j k : List Key) (js : List (List Key)) → keys_cmp j k ≡ Less → Above j js → Above j (with_keys k js)
+above-with : (j k : List Key) (js : List (List Key)) → keys_cmp j k ≡ Less → Above j js → Above j (insert_key keys_cmp js k)
 above-with j k [] h up = (h, tt)
-above-with j k (i ∷ rest) h up = above-at j k i rest (with_keys k rest) (keys_cmp k i) h up (above-with j k rest h up.1)
+above-with j k (i ∷ rest) h up = above-at j k i rest (insert_key keys_cmp rest k) (keys_cmp k i) h up (above-with j k rest h up.1)
 
-ascends-at : (k i : List Key) (rest : List (List Key)) (o : Ordering) → keys_cmp k i ≡ o → Ascends (i ∷ rest) → Ascends (with_keys k rest) → Ascends (with_keys_at o k i rest (with_keys k rest))
+ascends-at : (k i : List Key) (rest : List (List Key)) (o : Ordering) → keys_cmp k i ≡ o → Ascends (i ∷ rest) → Ascends (insert_key keys_cmp rest k) → Ascends (match_ordering o (k ∷ i ∷ rest) (i ∷ rest) (i ∷ (insert_key keys_cmp rest k)))
 ascends-at k i rest Less h up more = ((h, above-chain k i rest h up.0), up)
 ascends-at k i rest Equal h up more = up
 ascends-at k i rest Greater h up more = (above-with i k rest (turn k i h) up.0, more)
 
-ascends-with : (k : List Key) (js : List (List Key)) → Ascends js → Ascends (with_keys k js)
+ascends-with : (k : List Key) (js : List (List Key)) → Ascends js → Ascends (insert_key keys_cmp js k)
 ascends-with k [] up = (tt, tt)
 ascends-with k (i ∷ rest) up = ascends-at k i rest (keys_cmp k i) refl up (ascends-with k rest up.1)
 
 absent-at : (k j i : List Key) (rest further : List (List Key)) (o : Ordering) → keys_cmp j i ≡ o → (Absent k further → (is_eq (keys_cmp k j) ≡ false) × Absent k rest)
-    → Absent k (with_keys_at o j i rest further) → (is_eq (keys_cmp k j) ≡ false) × Absent k (i ∷ rest)
+    → Absent k (match_ordering o (j ∷ i ∷ rest) (i ∷ rest) (i ∷ further)) → (is_eq (keys_cmp k j) ≡ false) × Absent k (i ∷ rest)
 absent-at k j i rest further Less h more none = (none.0, none.1)
 absent-at k j i rest further Equal h more none = (ap is_eq (alike_right keys_cmp_total j i k h) ∙ none.0, none)
 absent-at k j i rest further Greater h more none = let m = more none.1 in (m.0, (none.0, m.1))
 
-absent-with : (k j : List Key) (js : List (List Key)) → Absent k (with_keys j js) → (is_eq (keys_cmp k j) ≡ false) × Absent k js
+absent-with : (k j : List Key) (js : List (List Key)) → Absent k (insert_key keys_cmp js j) → (is_eq (keys_cmp k j) ≡ false) × Absent k js
 absent-with k j [] none = none
-absent-with k j (i ∷ rest) none = absent-at k j i rest (with_keys j rest) (keys_cmp j i) refl (absent-with k j rest) none
+absent-with k j (i ∷ rest) none = absent-at k j i rest (insert_key keys_cmp rest j) (keys_cmp j i) refl (absent-with k j rest) none
 
 is_eq-reverse : (o : Ordering) → is_eq (ordering_reverse o) ≡ is_eq o
 is_eq-reverse Less = refl
@@ -185,8 +186,8 @@ absent-above k (j ∷ js) up = (less_is k j up.0, absent-above k js up.1)
 
 with_row-at : (q : Query) (row : Row) (rows : List Row) (j : List Key) (js : List (List Key)) (o : Ordering) → keys_cmp (keys_of q row) j ≡ o
     → Ascends (j ∷ js) → (Absent (keys_of q row) (j ∷ js) → rows_with q (keys_of q row) rows ≡ [])
-    → ((Absent (keys_of q row) js → rows_with q (keys_of q row) rows ≡ []) → map (made q (row ∷ rows)) (with_keys (keys_of q row) js) ≡ with_group (single q row) (map (made q rows) js))
-    → map (made q (row ∷ rows)) (with_keys_at o (keys_of q row) j js (with_keys (keys_of q row) js)) ≡ next_of o (single q row) (made q rows j) (made q rows j ∷ map (made q rows) js) (map (made q rows) js) (with_group (single q row) (map (made q rows) js))
+    → ((Absent (keys_of q row) js → rows_with q (keys_of q row) rows ≡ []) → map (made q (row ∷ rows)) (insert_key keys_cmp js (keys_of q row)) ≡ with_group (single q row) (map (made q rows) js))
+    → map (made q (row ∷ rows)) (match_ordering o ((keys_of q row) ∷ j ∷ js) (j ∷ js) (j ∷ (insert_key keys_cmp js (keys_of q row)))) ≡ next_of o (single q row) (made q rows j) (made q rows j ∷ map (made q rows) js) (map (made q rows) js) (with_group (single q row) (map (made q rows) js))
 with_row-at q row rows j js Less h up none more =
     let k = keys_of q row in
     let above = above-chain k j js h up.0 in
@@ -203,7 +204,7 @@ with_row-at q row rows j js Greater h up none more =
     λ i. first i ∷ rest i
 
 with_row : (q : Query) (row : Row) (rows : List Row) (js : List (List Key)) → Ascends js → (Absent (keys_of q row) js → rows_with q (keys_of q row) rows ≡ [])
-    → map (made q (row ∷ rows)) (with_keys (keys_of q row) js) ≡ with_group (single q row) (map (made q rows) js)
+    → map (made q (row ∷ rows)) (insert_key keys_cmp js (keys_of q row)) ≡ with_group (single q row) (map (made q rows) js)
 with_row q row rows [] up none = ap (λ g. g ∷ []) (made-alone q row rows (none tt))
 with_row q row rows (j ∷ js) up none =
     with_row-at q row rows j js (keys_cmp (keys_of q row) j) refl up none

@@ -7,14 +7,14 @@ use Rattle.std.proofs.lemmas.List.{append-nil, length-append}
 use Rattle.std.proofs.lemmas.List.Sums.{fold-append}
 use Rattle.std.proofs.lemmas.List.Elements.{filter_map-append}
 use Rattle.std.specs.Option.{option_and_then}
-use Rattle.leaf_model.specs.declared.rows.Row.{Row}
+use Rattle.row_model.specs.declared.rows.Row.{Row}
 use Rattle.leaf_model.specs.declared.queries.Query.{Query}
 use Rattle.leaf_model.specs.declared.groups.Key.{Key}
 use Rattle.leaf_model.specs.declared.queries.Agg.{Agg}
 use Rattle.leaf_model.specs.declared.queries.Agg.TheVariants.{Count, Sum, Min, Max, Avg}
 use Rattle.leaf_model.specs.declared.groups.Fold.{Fold}
 use Rattle.leaf_model.specs.declared.groups.Group.{Group}
-use Rattle.leaf_model.specs.Groups.{int_sum, least, greatest, fold_of, agg_ints, group_of, ints_of, value_of, as_int}
+use Rattle.leaf_model.specs.Groups.{least, greatest, fold_of, agg_ints, group_of, ints_of, value_of, as_int}
 use Rattle.group_table.specs.Joined.{either, joined_fold, joined_folds, joined_group}
 
 pub add_assoc : (a b c : ℤ) → (a +ℤ b) +ℤ c ≡ a +ℤ (b +ℤ c)
@@ -37,10 +37,10 @@ fold_out : (f : ℤ → ℤ → ℤ) → ((a b c : ℤ) → f (f a b) c ≡ f a 
 fold_out f assoc a b [] = refl
 fold_out f assoc a b (n ∷ ns) = ap (λ z. fold f z ns) (assoc a b n) ∙ fold_out f assoc a (f b n) ns
 
-pub sum-append : (ms ns : List ℤ) → int_sum (ms ++ ns) ≡ int_sum ms +ℤ int_sum ns
+pub sum-append : (ms ns : List ℤ) → fold ◌+ℤ◌ (pos 0) (ms ++ ns) ≡ fold ◌+ℤ◌ (pos 0) ms +ℤ fold ◌+ℤ◌ (pos 0) ns
 sum-append ms ns =
-    let zero_right : int_sum ms +ℤ pos 0 ≡ int_sum ms = omega (arith, ints) in
-    fold-append ◌+ℤ◌ (pos 0) ms ns ∙ ap (λ z. fold ◌+ℤ◌ z ns) (sym zero_right) ∙ fold_out ◌+ℤ◌ add_assoc (int_sum ms) (pos 0) ns
+    let zero_right : fold ◌+ℤ◌ (pos 0) ms +ℤ pos 0 ≡ fold ◌+ℤ◌ (pos 0) ms = omega (arith, ints) in
+    fold-append ◌+ℤ◌ (pos 0) ms ns ∙ ap (λ z. fold ◌+ℤ◌ z ns) (sym zero_right) ∙ fold_out ◌+ℤ◌ add_assoc (fold ◌+ℤ◌ (pos 0) ms) (pos 0) ns
 
 pub least-append : (ms ns : List ℤ) → least (ms ++ ns) ≡ either int_min (least ms) (least ns)
 least-append [] ns = refl

@@ -1,7 +1,7 @@
 -- What a query reads of a row, in the words of the definitions.
 use Rattle.std.specs.Prelude.{◌≡◌, ℕ, Bool, true, ◌&&◌, List, [], ◌∷◌, ◌++◌, map, Option, option_map, option_and_then, option_to_list}
-use Rattle.leaf_model.specs.declared.rows.Value.{Value}
-use Rattle.leaf_model.specs.declared.rows.Row.{Row}
+use Rattle.row_model.specs.declared.rows.Value.{Value}
+use Rattle.row_model.specs.declared.rows.Row.{Row}
 use Rattle.leaf_model.specs.declared.groups.Key.{Key}
 use Rattle.leaf_model.specs.declared.groups.Fold.{Fold}
 use Rattle.leaf_model.specs.declared.queries.Cond.{Cond}
@@ -9,7 +9,7 @@ use Rattle.leaf_model.specs.declared.queries.Agg.{Agg}
 use Rattle.leaf_model.specs.declared.queries.Agg.TheVariants.{Count, Sum, Min, Max, Avg}
 use Rattle.leaf_model.specs.declared.queries.Query.{Query}
 use Rattle.leaf_model.specs.declared.lent_cells.LentValue.{LentValue}
-use Rattle.leaf_model.specs.Values.{time_name}
+use Rattle.row_model.specs.Values.{time_name}
 use Rattle.leaf_model.specs.Groups.{as_int, cond_accepts, fold_of, key_of, keys_of, value_of}
 use Rattle.leaf_model.specs.Lent.{each_value, lent_row, lent_value}
 use Rattle.group_table.specs.declared.seen.SeenRow.{SeenRow}

@@ -2,7 +2,7 @@
 ghost use Rattle.std.specs.Prelude.{◌≡◌, ◌≤◌, ◌<◌, ◌+◌, ◌++◌, ℕ, List, [], IfOk, drop, length, take};
 ghost use Rattle.std.specs.List.{AllByRecursion};
 ghost use Rattle.std.specs.Vec.{vec_len};
-ghost use Rattle.leaf_model.specs.declared.rows.Row.{Row};
+ghost use Rattle.row_model.specs.declared.rows.Row.{Row};
 ghost use Rattle.leaf_model.specs.Content.{rows_from};
 ghost use Rattle.leaf_model.specs.Groups.{groups};
 ghost use Rattle.leaf_model.specs.Lent.{lent_rows};
@@ -11,7 +11,7 @@ ghost use Rattle.group_table.specs.Kept.{MayGrow, kept};
 
 use crate::join::merge;
 use crate::seen::{SeenRow, sought_by};
-use crate::tables::{Guessed, Tables, join_both, take_row};
+use crate::tables::{GroupTables, Guessed, join_both, take_row};
 use leaf_model::{Groups, LentRows, LentValue, Query};
 use std::alloc::{AllocError, Global};
 
@@ -49,11 +49,11 @@ fn no_groups(alloc: Global) -> Groups
 }
 
 /// Two tables: `start` is settled, and the fresh one is empty.
-fn begun(alloc: Global, start: Groups) -> Tables
+fn begun(alloc: Global, start: Groups) -> GroupTables
     ensures settled { result.settled.items ≡ start }
     ensures fresh { result.fresh.items ≡ [] }
 {
-    Tables {
+    GroupTables {
         settled: start.into_inner(),
         fresh: Vec::new(alloc),
     }

@@ -4,7 +4,7 @@ ghost use Rattle.std.specs.VecDeque.{deque_len};
 ghost use Rattle.std.specs.Vec.{vec_len};
 ghost use Rattle.std.specs.Int.{int_min, int_max};
 ghost use Rattle.leaf_model.specs.declared.queries.Query.{Query};
-ghost use Rattle.leaf_model.specs.declared.rows.Row.{Row};
+ghost use Rattle.row_model.specs.declared.rows.Row.{Row};
 ghost use Rattle.leaf_model.specs.Groups.{groups};
 ghost use Rattle.group_table.specs.Joined.{either, joined_fold, joined_folds, joined_group, joined, FitsFold, FitsGroup, IsWithin, IfBoth};
 

@@ -1,7 +1,7 @@
 // What a query reads of a row. Each name is looked up once.
 ghost use Rattle.std.specs.Prelude.{◌≡◌, ◌++◌, map, IfOk, Some};
 ghost use Rattle.leaf_model.specs.declared.queries.Cond.{Cond};
-ghost use Rattle.leaf_model.specs.declared.rows.Row.{Row};
+ghost use Rattle.row_model.specs.declared.rows.Row.{Row};
 ghost use Rattle.leaf_model.specs.Groups.{key_of, value_of};
 ghost use Rattle.leaf_model.specs.Lent.{each_value, lent_row, lent_value};
 ghost use Rattle.leaf_model.specs.Looks.{sought_in};

@@ -20,7 +20,7 @@ use std::cmp::Ordering;
 
 /// A place in a table, and whether the group there has the keys that were looked for.
 #[derive(Clone, Copy)]
-pub struct Place {
+pub struct GroupPlace {
     pub at: usize,
     pub is_there: bool,
 }
@@ -46,7 +46,7 @@ fn search_for(table: &[Group], keys: &[Option<LentValue>]) -> usize
 }
 
 /// The place where these keys stand in an ascending table, or would stand.
-pub fn place_of(table: &[Group], keys: &[Option<LentValue>]) -> Place
+pub fn place_of(table: &[Group], keys: &[Option<LentValue>]) -> GroupPlace
     requires { Ascends (keys_in table.now) }
     ensures bound { result.at ≤ length table.now }
     ensures there { result.is_there ≡ is_first (map seen_key keys.now) (drop result.at table.now) }
@@ -56,23 +56,23 @@ pub fn place_of(table: &[Group], keys: &[Option<LentValue>]) -> Place
 {
     let at = search_for(table, keys);
     let is_there = stands_at(table, at, keys);
-    Place { at, is_there }
+    GroupPlace { at, is_there }
 }
 
 /// Finds the place of these keys, at the guess first. Without a guess they are taken as not there.
-pub fn find(table: &[Group], keys: &[Option<LentValue>], guess: Option<usize>) -> Place
+pub fn find(table: &[Group], keys: &[Option<LentValue>], guess: Option<usize>) -> GroupPlace
     requires { Ascends (keys_in table.now) }
     ensures there { result.is_there ≡ true → is_first (map seen_key keys.now) (drop result.at table.now) ≡ true }
     ensures inside { result.is_there ≡ true → result.at < length table.now }
 {
     match guess {
-        None => Place {
+        None => GroupPlace {
             at: 0,
             is_there: false,
         },
         Some(at) => {
             if stands_at(table, at, keys) {
-                Place { at, is_there: true }
+                GroupPlace { at, is_there: true }
             } else {
                 place_of(table, keys)
             }
@@ -134,7 +134,7 @@ pub fn put_row(
     alloc: Global,
     query: &Query,
     mut table: Vec<Group>,
-    place: Place,
+    place: GroupPlace,
     row: &SeenRow,
 ) -> Result<Vec<Group>, AllocError>
     requires seen { AreSeen query.now row.now }

@@ -20,7 +20,7 @@ use std::alloc::{AllocError, Global};
 
 /// A settled table, which gets no new group, and a fresh one for rows whose keys were not found in it.
 #[derive(Drop)]
-pub struct Tables {
+pub struct GroupTables {
     pub settled: Vec<Group>,
     pub fresh: Vec<Group>,
 }
@@ -47,8 +47,8 @@ impl Guessed {
         self.settled.renew(alloc, settled)
     }
 
-    /// Whether to settle the fresh table. To rebuild a large settled table costs much, and so does an insert into a
-    /// large fresh one.
+    /// Whether to settle the fresh table. A rebuild of a large settled table is dear, and so is an insert into a large
+    /// fresh one.
     fn is_due(&self, settled: usize, most: usize) -> bool {
         self.missed >= settled.max(64).min(most).max(settled / 8)
     }
@@ -58,10 +58,10 @@ impl Guessed {
 fn add_row(
     alloc: Global,
     query: &Query,
-    mut tables: Tables,
+    mut tables: GroupTables,
     guessed: &mut Guessed,
     row: &SeenRow,
-) -> Result<Tables, AllocError>
+) -> Result<GroupTables, AllocError>
     requires seen { AreSeen query.now row.now }
     requires split { IsSplit (2 ^ 64 - 2) query.now tables.settled.items tables.fresh.items }
     ensures value { IfOk result (λ ts. joined ts.settled.items ts.fresh.items
@@ -81,14 +81,14 @@ fn add_row(
     guessed.missed = guessed.missed.saturating_add(1);
     let place = place_of(tables.fresh.as_slice(), row.keys);
     let fresh = put_row(alloc, query, tables.fresh, place, row)?;
-    Ok(Tables {
+    Ok(GroupTables {
         settled: tables.settled,
         fresh,
     })
 }
 
 /// Merges both tables into one.
-pub fn join_both(alloc: Global, tables: Tables) -> Result<Groups, AllocError>
+pub fn join_both(alloc: Global, tables: GroupTables) -> Result<Groups, AllocError>
     requires { AllByRecursion FitsGroup (joined tables.settled.items tables.fresh.items) }
     ensures { IfOk result (λ gs. gs ≡ joined tables.settled.items tables.fresh.items) }
 {
@@ -98,10 +98,10 @@ pub fn join_both(alloc: Global, tables: Tables) -> Result<Groups, AllocError>
 /// Settles all groups, once enough rows went to the fresh table.
 fn make_room(
     alloc: Global,
-    tables: Tables,
+    tables: GroupTables,
     guessed: &mut Guessed,
     most: usize,
-) -> Result<Tables, AllocError>
+) -> Result<GroupTables, AllocError>
     requires { AllByRecursion FitsGroup (joined tables.settled.items tables.fresh.items) }
     ensures value { IfOk result (λ ts.
         joined ts.settled.items ts.fresh.items ≡ joined tables.settled.items tables.fresh.items) }
@@ -113,7 +113,7 @@ fn make_room(
     }
     let settled = join_both(alloc, tables)?.into_inner();
     guessed.renew(alloc, settled.as_slice())?;
-    Ok(Tables {
+    Ok(GroupTables {
         settled,
         fresh: Vec::new(alloc),
     })
@@ -133,12 +133,12 @@ fn is_kept(row: &LentRow, horizon: Option<i64>) -> bool
 pub fn take_row(
     alloc: Global,
     query: &Query,
-    tables: Tables,
+    tables: GroupTables,
     guessed: &mut Guessed,
     row: &SeenRow,
     horizon: Option<i64>,
     most: usize,
-) -> Result<Tables, AllocError>
+) -> Result<GroupTables, AllocError>
     requires seen { AreSeen query.now row.now }
     requires split { is_kept horizon (seen_row row.now) ≡ true
         → IsSplit (2 ^ 64 - 2) query.now tables.settled.items tables.fresh.items }

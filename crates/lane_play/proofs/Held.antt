@@ -7,7 +7,7 @@ use Rattle.berth_face.proofs.Moments.{passes_none, passes_on}
 use Rattle.printed_lines.specs.declared.line.Ending.{Ending}
 use Rattle.printed_lines.specs.declared.line.Deed.{Deed}
 use Rattle.transcript.specs.Pieces.{Piece, Called, Worn, Acted, Says}
-use Rattle.transcript.specs.Counts.{Counted, CountsRose, deeds_in, disk_faults_in, disk_reads_in, is_disk_fault, is_region_fault, reads_disk, region_faults_in}
+use Rattle.transcript.specs.Counts.{CountRose, CountsRose, deeds_in, is_disk_fault, is_region_fault, reads_disk}
 use Rattle.leaf_moves.specs.Holds.{AllMeet, Hold, caller_in}
 use Rattle.leaf_moves.specs.Stage.{Leaf}
 use Rattle.player.specs.Crew.{AllCounted, AllPass, CountedIf, HasLeaf, HasSeats, PassesIf, StillHas}
@@ -100,7 +100,7 @@ deeds_append test leaf (Called l t c number said ∷ xs) ys = deeds_append test 
 deeds_append test leaf (Worn l t ∷ xs) ys = deeds_append test leaf xs ys
 deeds_append test leaf (Says line ∷ xs) ys = deeds_append test leaf xs ys
 
-counted_faults : (a b c m n k : ℕ) → k ≡ m + n → Counted a b m → Counted b c n → Counted a c k
+counted_faults : (a b c m n k : ℕ) → k ≡ m + n → CountRose a b m → CountRose b c n → CountRose a c k
 counted_faults a b c m n k e g h = omega (arith, e, g, h)
 
 counted_reads : (a b c m n k : ℕ) → k ≡ m + n → (m ≡ 0 → b ≡ a) → (n ≡ 0 → c ≡ b) → k ≡ 0 → c ≡ a
@@ -108,19 +108,19 @@ counted_reads a b c m n k e g h none = h (omega (arith, e, none)) ∙ g (omega (
 
 counted_on : (leaf : ℕ) (xs ys : List Piece) (a b c : Meaning) → CountsRose leaf xs a b → CountsRose leaf ys b c → CountsRose leaf (xs ++ ys) a c
 counted_on leaf xs ys a b c g h = record {
-  region = counted_faults a.region_faults b.region_faults c.region_faults (region_faults_in leaf xs) (region_faults_in leaf ys) (region_faults_in leaf (xs ++ ys))
+  region = counted_faults a.region_faults b.region_faults c.region_faults (deeds_in (λ deed ending. is_region_fault ending) leaf xs) (deeds_in (λ deed ending. is_region_fault ending) leaf ys) (deeds_in (λ deed ending. is_region_fault ending) leaf (xs ++ ys))
       (deeds_append (λ deed ending. is_region_fault ending) leaf xs ys) g.region h.region;
-  disk = counted_faults a.disk_faults b.disk_faults c.disk_faults (disk_faults_in leaf xs) (disk_faults_in leaf ys) (disk_faults_in leaf (xs ++ ys))
+  disk = counted_faults a.disk_faults b.disk_faults c.disk_faults (deeds_in (λ deed ending. is_disk_fault ending) leaf xs) (deeds_in (λ deed ending. is_disk_fault ending) leaf ys) (deeds_in (λ deed ending. is_disk_fault ending) leaf (xs ++ ys))
       (deeds_append (λ deed ending. is_disk_fault ending) leaf xs ys) g.disk h.disk;
-  reads = counted_reads a.disk_reads b.disk_reads c.disk_reads (disk_reads_in leaf xs) (disk_reads_in leaf ys) (disk_reads_in leaf (xs ++ ys))
+  reads = counted_reads a.disk_reads b.disk_reads c.disk_reads (deeds_in reads_disk leaf xs) (deeds_in reads_disk leaf ys) (deeds_in reads_disk leaf (xs ++ ys))
       (deeds_append reads_disk leaf xs ys) g.reads h.reads;
 }
 
 -- pieces that tell no deed of a leaf count nothing
 no_deeds : (leaf : ℕ) (xs : List Piece) (m : Meaning) → ((test : Deed → Ending → Bool) → deeds_in test leaf xs ≡ 0) → CountsRose leaf xs m m
 no_deeds leaf xs m none = record {
-  region = let zero_is : region_faults_in leaf xs ≡ 0 = none (λ deed ending. is_region_fault ending) in omega (arith, zero_is);
-  disk = let zero_is : disk_faults_in leaf xs ≡ 0 = none (λ deed ending. is_disk_fault ending) in omega (arith, zero_is);
+  region = let zero_is : deeds_in (λ deed ending. is_region_fault ending) leaf xs ≡ 0 = none (λ deed ending. is_region_fault ending) in omega (arith, zero_is);
+  disk = let zero_is : deeds_in (λ deed ending. is_disk_fault ending) leaf xs ≡ 0 = none (λ deed ending. is_disk_fault ending) in omega (arith, zero_is);
   reads = λ z. refl;
 }
 

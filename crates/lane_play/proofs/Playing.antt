@@ -10,13 +10,13 @@ use Rattle.rollover_watch.specs.Watches.{Held}
 use Rattle.printed_lines.specs.declared.line.Line.{Line}
 use Rattle.printed_lines.specs.declared.line.Line.TheVariants.{Lane}
 use Rattle.printed_lines.specs.Lines.{IsOf}
-use Rattle.script_text.specs.declared.fleet.Fleet.{Fleet}
+use Rattle.script_text.specs.declared.fleet.FleetShape.{FleetShape}
 use Rattle.transcript.specs.Pieces.{Piece, Played, commands_in, lane_lines, lines_in, piece_lines, pieces_in}
 use Rattle.leaf_moves.specs.Holds.{Hold}
 use Rattle.leaf_moves.specs.Lanes.{PlaysOn}
 use Rattle.player.specs.Crew.{AllCounted, PlaysWith}
 use Rattle.lane_play.specs.Played.{all_of}
-use Rattle.lane_play.specs.Went.{AreBegun, LaneWent, LanesFit, TurnsWent, told_lines}
+use Rattle.lane_play.specs.Went.{ArePrefixes, LaneWent, LanesFit, TurnsWent, told_lines}
 use Rattle.transcript.specs.Watching.{Hears, HearsAll}
 use Rattle.leaf_moves.specs.Plays.{Plays}
 use Rattle.lane_play.proofs.Held.{all_counted_on, counted_none}
@@ -68,7 +68,7 @@ no_lines {E} result e is = ap (λ (r : Result (Vec Line Global) E). told_lines r
 pub all_done : (commands : List Command) (played : List Played) (rest : List Command) → commands ≡ commands_in played ++ rest → rest ≡ [] → commands ≡ commands_in played
 all_done commands played rest is none = is ∙ (ap (λ (cs : List Command). commands_in played ++ cs) none ∙ append-nil (commands_in played))
 
-pub begun_append : (xs ys us vs : List (List Command)) → AreBegun xs ys → AreBegun us vs → AreBegun (xs ++ us) (ys ++ vs)
+pub begun_append : (xs ys us vs : List (List Command)) → ArePrefixes xs ys → ArePrefixes us vs → ArePrefixes (xs ++ us) (ys ++ vs)
 begun_append [] [] us vs a b = b
 begun_append [] (y ∷ ys) us vs a b = absurd a
 begun_append (x ∷ xs) [] us vs a b = absurd a
@@ -79,7 +79,7 @@ abbrev pub unplayed : List (List Command) → List (List Played)
 unplayed [] = []
 unplayed (lane ∷ lanes) = [] ∷ unplayed lanes
 
-pub unplayed_begin : (lanes : List (List Command)) → AreBegun (map commands_in (unplayed lanes)) lanes
+pub unplayed_begin : (lanes : List (List Command)) → ArePrefixes (map commands_in (unplayed lanes)) lanes
 unplayed_begin [] = tt
 unplayed_begin (lane ∷ lanes) = ((lane, refl), unplayed_begin lanes)
 
@@ -98,7 +98,7 @@ lanes_fit names first (lane ∷ lanes) fit = (tt, all_append (IsOf names) (lines
 
 -- ---- commands one after another
 
-module _ {B : Type 0} (meaning : B → Meaning) (fleet : Fleet) where
+module _ {B : Type 0} (meaning : B → Meaning) (fleet : FleetShape) where
   -- what a command did, with or without lines
   pub record Did (c : Command) (xs : List (Hold B)) (before : List Held) (ys : List (Hold B)) (after : List Held) : Type 0 where
     pub pieces : List Piece
@@ -215,7 +215,7 @@ module _ {B : Type 0} (meaning : B → Meaning) (fleet : Fleet) where
       → LaneWent meaning fleet lane ys vs (Some own) zs ws → length done ≡ number → all ≡ lines ++ Lane number ∷ own → TurnsWent meaning fleet (done ++ lane ∷ []) xs us (Some all) zs ws
   turns_go_on xs ys zs us vs ws done lane lines own all number a b count is = record {
     played = a.played ++ b.played ∷ [];
-    begun = subst (λ ls. AreBegun ls (done ++ lane ∷ [])) (sym (lanes_snoc a.played b.played)) (begun_append (map commands_in a.played) done (commands_in b.played ∷ []) (lane ∷ []) a.begun ((b.rest, b.commands_are), tt));
+    begun = subst (λ ls. ArePrefixes ls (done ++ lane ∷ [])) (sym (lanes_snoc a.played b.played)) (begun_append (map commands_in a.played) done (commands_in b.played ∷ []) (lane ∷ []) a.begun ((b.rest, b.commands_are), tt));
     plays = subst (λ ps. PlaysOn meaning fleet xs ps zs) (sym (all_snoc a.played b.played)) (plays_join xs (all_of a.played) ys b.played zs a.plays b.plays);
     counted = subst (λ ps. AllCounted meaning ps xs zs) (sym (pieces_all_snoc a.played b.played))
         (all_counted_on meaning xs ys zs (pieces_in (all_of a.played)) (pieces_in b.played) a.counted b.counted);
@@ -235,10 +235,10 @@ module _ {B : Type 0} (meaning : B → Meaning) (fleet : Fleet) where
       let ps : List (List Played) = a.played ++ b.played ∷ [] in
       record {
         played = ps ++ unplayed left;
-        begun = subst (λ ls. AreBegun (map commands_in (ps ++ unplayed left)) ls) (append_assoc done (lane ∷ []) left ∙ sym is)
-            (subst (λ ls. AreBegun ls ((done ++ lane ∷ []) ++ left)) (sym (map-append commands_in ps (unplayed left)))
+        begun = subst (λ ls. ArePrefixes (map commands_in (ps ++ unplayed left)) ls) (append_assoc done (lane ∷ []) left ∙ sym is)
+            (subst (λ ls. ArePrefixes ls ((done ++ lane ∷ []) ++ left)) (sym (map-append commands_in ps (unplayed left)))
             (begun_append (map commands_in ps) (done ++ lane ∷ []) (map commands_in (unplayed left)) left
-            (subst (λ ls. AreBegun ls (done ++ lane ∷ [])) (sym (lanes_snoc a.played b.played)) (begun_append (map commands_in a.played) done (commands_in b.played ∷ []) (lane ∷ []) a.begun ((b.rest, b.commands_are), tt)))
+            (subst (λ ls. ArePrefixes ls (done ++ lane ∷ [])) (sym (lanes_snoc a.played b.played)) (begun_append (map commands_in a.played) done (commands_in b.played ∷ []) (lane ∷ []) a.begun ((b.rest, b.commands_are), tt)))
             (unplayed_begin left)));
         plays = subst (λ qs. PlaysOn meaning fleet xs qs zs) (sym (whole left)) (plays_join xs (all_of a.played) ys b.played zs a.plays b.plays);
         counted = subst (λ qs. AllCounted meaning (pieces_in qs) xs zs) (sym (whole left))
@@ -255,17 +255,17 @@ module _ {B : Type 0} (meaning : B → Meaning) (fleet : Fleet) where
           ∙ (ap (λ (qs : List Played). all_of (a.played ++ b.played ∷ []) ++ qs) (unplayed_all left) ∙ (append-nil (all_of (a.played ++ b.played ∷ [])) ∙ all_snoc a.played b.played))
 
 -- a command that gave lines was played, and they are its own
-pub has_lines : {B E : Type 0} (meaning : B → Meaning) (fleet : Fleet) (c : Command) (xs ys : List (Hold B)) (us vs : List Held) (lines : Vec Line Global)
+pub has_lines : {B E : Type 0} (meaning : B → Meaning) (fleet : FleetShape) (c : Command) (xs ys : List (Hold B)) (us vs : List Held) (lines : Vec Line Global)
     → (PlaysWith {E = E} meaning fleet c xs us (Ok lines) ys vs) ⊎ (IsErr {E = E} (Ok lines) × (ys ≡ xs) × (vs ≡ us)) → (d : Did meaning fleet c xs us ys vs) × (lines.items ≡ lines_in d.pieces)
 has_lines {B} {E} meaning fleet c xs ys us vs lines (inl p) = (record { pieces = p.pieces; plays = p.plays; counted = p.counted; fit = p.fit; heard = p.heard }, p.lines_are)
 has_lines meaning fleet c xs ys us vs lines (inr none) = let wrong = none.0 in absurd cc
 
 -- ---- the same fleet
 
-module _ {B : Type 0} (meaning : B → Meaning) (fleet fleet' : Fleet) (same : fleet' ≡ fleet) (xs ys : List (Hold B)) (us vs : List Held) where
+module _ {B : Type 0} (meaning : B → Meaning) (fleet fleet' : FleetShape) (same : fleet' ≡ fleet) (xs ys : List (Hold B)) (us vs : List Held) where
   pub command_over : {E : Type 0} (c : Command) (result : Result (Vec Line Global) E) → (PlaysWith meaning fleet' c xs us result ys vs) ⊎ (IsErr result × (ys ≡ xs) × (vs ≡ us))
       → (PlaysWith meaning fleet c xs us result ys vs) ⊎ (IsErr result × (ys ≡ xs) × (vs ≡ us))
-  command_over c result played = subst (λ (f : Fleet). (PlaysWith meaning f c xs us result ys vs) ⊎ (IsErr result × (ys ≡ xs) × (vs ≡ us))) same played
+  command_over c result played = subst (λ (f : FleetShape). (PlaysWith meaning f c xs us result ys vs) ⊎ (IsErr result × (ys ≡ xs) × (vs ≡ us))) same played
 
   pub lane_over : (commands : List Command) (lines : Option (List Line)) → LaneWent meaning fleet' commands xs us lines ys vs → LaneWent meaning fleet commands xs us lines ys vs
-  lane_over commands lines went = subst (λ (f : Fleet). LaneWent meaning f commands xs us lines ys vs) same went
+  lane_over commands lines went = subst (λ (f : FleetShape). LaneWent meaning f commands xs us lines ys vs) same went

@@ -5,7 +5,7 @@ use Rattle.script_text.specs.declared.command.Command.{Command}
 use Rattle.script_text.specs.declared.command.Command.TheVariants as command
 use Rattle.script_text.specs.Aims.{Aim, AtFleet, AtLeaf, AtLeaves, AtNamed, AtRun, AtTable, aim_of}
 use Rattle.script_text.specs.Fits.{IsCommand}
-use Rattle.script_text.specs.declared.fleet.Fleet.{Fleet}
+use Rattle.script_text.specs.declared.fleet.FleetShape.{FleetShape}
 use Rattle.script_text.specs.Commands.{leaf_count}
 use Rattle.transcript.specs.Pieces.{place_among}
 use Rattle.leaf_moves.specs.Holds.{Hold}
@@ -14,11 +14,11 @@ use Rattle.player.specs.Crew.{HasAimed, HasFor, StillHas}
 use Rattle.lane_play.specs.Played.{MayPlayOn}
 use Rattle.lane_play.proofs.Held.{still_leaf, still_seats}
 
-pub may_play : (fleet : Fleet) (c : Command) → IsCommand (leaf_count fleet) fleet.names c → MayPlay fleet c
+pub may_play : (fleet : FleetShape) (c : Command) → IsCommand (leaf_count fleet) fleet.names c → MayPlay fleet c
 may_play fleet (command.Fleet machines per_machine tables) is = absurd is
 may_play fleet _ is = is
 
-module _ {B : Type 0} (fleet : Fleet) (xs ys : List (Hold B)) (still : StillHas xs ys) where
+module _ {B : Type 0} (fleet : FleetShape) (xs ys : List (Hold B)) (still : StillHas xs ys) where
   still_aimed : (aim : Aim) → HasAimed fleet xs aim → HasAimed fleet ys aim
   still_aimed AtFleet has = λ leaf. still_leaf xs ys still leaf (has leaf)
   still_aimed (AtTable table) has = still_seats xs ys still table has

@@ -9,7 +9,7 @@ use Rattle.script_text.specs.declared.item.Item.{Item}
 use Rattle.rollover_watch.specs.Watches.{Held}
 use Rattle.printed_lines.specs.declared.line.Line.{Line}
 use Rattle.printed_lines.specs.Lines.{IsOf}
-use Rattle.script_text.specs.declared.fleet.Fleet.{Fleet}
+use Rattle.script_text.specs.declared.fleet.FleetShape.{FleetShape}
 use Rattle.transcript.specs.Pieces.{Played, PlayedItem, all_pieces, commands_in, item_lines, item_of, lane_lines, lines_in, pieces_in, plays_of}
 use Rattle.leaf_moves.specs.Holds.{Hold, AllMeet}
 use Rattle.leaf_moves.specs.Lanes.{Fans, PlaysItem, PlaysOn}
@@ -29,7 +29,7 @@ own_lines (Some lines) = Some lines.items
 own_lines None = None
 
 -- A prefix of the lane's commands was played. If there are lines, all commands were, and the lines are theirs.
-pub record LaneWent {B : Type 0} (meaning : B → Meaning) (fleet : Fleet) (commands : List Command) (xs : List (Hold B)) (before : List Held) (lines : Option (List Line)) (ys : List (Hold B)) (after : List Held) : Type 0 where
+pub record LaneWent {B : Type 0} (meaning : B → Meaning) (fleet : FleetShape) (commands : List Command) (xs : List (Hold B)) (before : List Held) (lines : Option (List Line)) (ys : List (Hold B)) (after : List Held) : Type 0 where
   pub played : List Played
   pub rest : List Command
   pub commands_are : commands ≡ commands_in played ++ rest
@@ -40,17 +40,17 @@ pub record LaneWent {B : Type 0} (meaning : B → Meaning) (fleet : Fleet) (comm
   pub lines_are : IfSome lines (λ ls. (rest ≡ []) × (ls ≡ lines_in (pieces_in played)))
 
 -- of each lane a prefix
-abbrev pub AreBegun : List (List Command) → List (List Command) → Type 0
-AreBegun lanes wholes = AllZip (λ (lane whole : List Command). Begins lane whole) lanes wholes
+abbrev pub ArePrefixes : List (List Command) → List (List Command) → Type 0
+ArePrefixes lanes wholes = AllZip (λ (lane whole : List Command). Begins lane whole) lanes wholes
 
 -- the lines of each lane name only tables of the fleet
 abbrev pub LanesFit : List (List ℕ) → List (List Played) → Type 0
 LanesFit names lanes = AllByRecursion (λ (lane : List Played). AllByRecursion (IsOf names) (lines_in (pieces_in lane))) lanes
 
 -- the same of lanes that play one after another
-pub record TurnsWent {B : Type 0} (meaning : B → Meaning) (fleet : Fleet) (lanes : List (List Command)) (xs : List (Hold B)) (before : List Held) (lines : Option (List Line)) (ys : List (Hold B)) (after : List Held) : Type 0 where
+pub record TurnsWent {B : Type 0} (meaning : B → Meaning) (fleet : FleetShape) (lanes : List (List Command)) (xs : List (Hold B)) (before : List Held) (lines : Option (List Line)) (ys : List (Hold B)) (after : List Held) : Type 0 where
   pub played : List (List Played)
-  pub begun : AreBegun (map commands_in played) lanes
+  pub begun : ArePrefixes (map commands_in played) lanes
   pub plays : PlaysOn meaning fleet xs (all_of played) ys
   pub counted : AllCounted meaning (pieces_in (all_of played)) xs ys
   pub fit : LanesFit fleet.names played
@@ -59,9 +59,9 @@ pub record TurnsWent {B : Type 0} (meaning : B → Meaning) (fleet : Fleet) (lan
 
 -- The same of lanes that play beside one another. If `whole` holds, all lanes of the burst were cut off, and their
 -- lines are known.
-pub record FansWent {B : Type 0} (meaning : B → Meaning) (fleet : Fleet) (whole : Type 0) (lanes : List (List Command)) (xs : List (Hold B)) (before : List Held) (lines : Option (List Line)) (ys : List (Hold B)) (after : List Held) : Type 0 where
+pub record FansWent {B : Type 0} (meaning : B → Meaning) (fleet : FleetShape) (whole : Type 0) (lanes : List (List Command)) (xs : List (Hold B)) (before : List Held) (lines : Option (List Line)) (ys : List (Hold B)) (after : List Held) : Type 0 where
   pub played : List (List Played)
-  pub begun : AreBegun (map commands_in played) lanes
+  pub begun : ArePrefixes (map commands_in played) lanes
   pub fans : Fans meaning fleet xs played ys
   pub counted : AllCounted meaning (pieces_in (all_of played)) xs ys
   pub fit : LanesFit fleet.names played
@@ -69,13 +69,13 @@ pub record FansWent {B : Type 0} (meaning : B → Meaning) (fleet : Fleet) (whol
   pub lines_are : whole → IfSome lines (λ ls. (map commands_in played ≡ lanes) × (ls ≡ lane_lines 0 played))
 
 -- the same, after all seats met
-pub record BesideWent {B : Type 0} (meaning : B → Meaning) (fleet : Fleet) (lanes : List (List Command)) (xs : List (Hold B)) (before : List Held) (lines : Option (List Line)) (ys : List (Hold B)) (after : List Held) : Type 0 where
+pub record BesideWent {B : Type 0} (meaning : B → Meaning) (fleet : FleetShape) (lanes : List (List Command)) (xs : List (Hold B)) (before : List Held) (lines : Option (List Line)) (ys : List (Hold B)) (after : List Held) : Type 0 where
   pub met : List (Hold B)
   pub meet : AllMeet meaning xs met
   pub fans : FansWent meaning fleet ⊤ lanes met before lines ys after
 
 -- An item, or prefixes of its lanes. If there are lines, all of it was played, and the lines are its.
-pub record ItemWent {B : Type 0} (meaning : B → Meaning) (fleet : Fleet) (item : Item) (xs : List (Hold B)) (before : List Held) (lines : Option (List Line)) (ys : List (Hold B)) (after : List Held) : Type 0 where
+pub record ItemWent {B : Type 0} (meaning : B → Meaning) (fleet : FleetShape) (item : Item) (xs : List (Hold B)) (before : List Held) (lines : Option (List Line)) (ys : List (Hold B)) (after : List Held) : Type 0 where
   pub played : PlayedItem
   pub begun : BeginsItem (item_of played) item
   pub plays : PlaysItem meaning fleet xs played ys

@@ -23,10 +23,15 @@ pub fn play_command<'t, R: Wait + Threads + Sync, B: Berth, G: Gate>(
 ) -> Result<Vec<Line>, AllocError>
     requires may { MayPlay crew.old.fleet command }
     requires has { HasFor crew.old.fleet crew.old.holds command }
-    ensures plays { PlaysWith B.meaning crew.old.fleet command crew.old.holds (map (λ watch. held watch) watches.old.items) result crew.new.holds (map (λ watch. held watch) watches.new.items) ⊎ (IsErr result × (crew.new.holds ≡ crew.old.holds) × (map (λ watch. held watch) watches.new.items ≡ map (λ watch. held watch) watches.old.items)) }
+    ensures plays { PlaysWith B.meaning crew.old.fleet command crew.old.holds
+        (map (λ watch. held watch) watches.old.items) result crew.new.holds
+        (map (λ watch. held watch) watches.new.items)
+        ⊎ (IsErr result × (crew.new.holds ≡ crew.old.holds)
+        × (map (λ watch. held watch) watches.new.items ≡ map (λ watch. held watch) watches.old.items)) }
     ensures fleet { (crew.new.fleet ≡ crew.old.fleet) × (crew.new.tables ≡ crew.old.tables) }
     ensures still { StillHas crew.old.holds crew.new.holds }
     ensures time { AllPass B.meaning crew.old.holds crew.new.holds }
 {
-    crew.play(rt, alloc, gate, watches, command)
+    let order = command.order();
+    crew.play(rt, alloc, gate, watches, order)
 }

@@ -28,7 +28,9 @@ pub fn play_lane<'t, R: Wait + Threads + Sync, B: Berth, G: Gate>(
     commands: Vec<Command>,
 ) -> Result<Vec<Line>, AllocError>
     requires { AllByRecursion (MayPlayOn crew.old.fleet crew.old.holds) commands.items }
-    ensures went { LaneWent B.meaning crew.old.fleet commands.items crew.old.holds (map (λ watch. held watch) watches.old.items) (told_lines result) crew.new.holds (map (λ watch. held watch) watches.new.items) }
+    ensures went { LaneWent B.meaning crew.old.fleet commands.items crew.old.holds
+        (map (λ watch. held watch) watches.old.items) (told_lines result) crew.new.holds
+        (map (λ watch. held watch) watches.new.items) }
     ensures fleet { (crew.new.fleet ≡ crew.old.fleet) × (crew.new.tables ≡ crew.old.tables) }
     ensures still { StillHas crew.old.holds crew.new.holds }
     ensures time { AllPass B.meaning crew.old.holds crew.new.holds }

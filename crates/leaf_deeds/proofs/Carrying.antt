@@ -14,7 +14,7 @@ use Rattle.leaf_steward.specs.Seated.{Seated, AreFounded, watched_by}
 use Rattle.leaf_steward.specs.Making.{Makes, OneEntry}
 use Rattle.leaf_steward.proofs.WatchMakes.{makes_tables}
 use Rattle.leaf_machine.proofs.UpMaking.{makes_join}
-use Rattle.leaf_moves.specs.Stage.{Leaf, IsDown, IsUp, IsPreparing, Stands, StandsOn, Carries, seated_of}
+use Rattle.leaf_moves.specs.Stage.{Leaf, IsDown, IsUp, IsPreparing, LeafStands, StandsOn, Carries, seated_of}
 use Rattle.leaf_deeds.specs.Held.{KeepsSeats}
 
 -- at the same tables, founded ones stay founded
@@ -22,7 +22,7 @@ pub founded_on : (x y : Seated) → y.tables ≡ x.tables → AreFounded x → A
 founded_on x y same founded = subst (λ (ts : List Shared). AllByRecursion (λ (t : Shared). is_founded (base_seen t) ≡ true) ts) (sym same) founded
 
 -- what stands is told of the one moment
-pub stands_told : (base : NamedStates) (leaf : Leaf) (m : Meaning) → Stands base leaf m → moments.Told base (watched_by (seated_of leaf)) (watched_by (seated_of leaf)) m m
+pub stands_told : (base : NamedStates) (leaf : Leaf) (m : Meaning) → LeafStands base leaf m → moments.Told base (watched_by (seated_of leaf)) (watched_by (seated_of leaf)) m m
 stands_told base (IsDown x) m stands = rests_told (watched_by x) (watched_by x) base stands.0 stands.1 m stands.2 (none_more m.clock m.clock (watched_by x))
 stands_told base (IsUp x) m stands =
     runs_told (watched_by x.seated) (watched_by x.seated) base x.owing.owner x.owing.log stands.0 m stands.1 (none_more m.clock m.clock (watched_by x.seated))

@@ -14,7 +14,7 @@ use Rattle.region_layout.specs.Region.{IsAdoptable}
 use Rattle.drain_copy.specs.declared.step.Next.{Next}
 use Rattle.drain_copy.specs.declared.step.Next.TheVariants as next
 use Rattle.drain_copy.specs.declared.step.RegionFault.{RegionFault}
-use Rattle.drain_copy.specs.Draining.{DrainState, Draining, StandsAt, directory_of, left_from}
+use Rattle.drain_copy.specs.Draining.{DrainState, Draining, RegionStandsAt, directory_of, left_from}
 use Rattle.crash_moments.specs.Left.{NamedStates}
 use Rattle.crash_moments.specs.Told as moments
 use Rattle.crash_moments.proofs.Telling.{none_more, told_join}
@@ -35,14 +35,14 @@ use Rattle.transcript.specs.Life as life
 use Rattle.leaf_moves.specs.Steps.{AreShut, HasCopyLength, RegionStopped}
 use Rattle.leaf_deeds.specs.Steps.{AreLeft, Spends, copy_left}
 use Rattle.leaf_deeds.specs.Moves as move
-use Rattle.leaf_deeds.specs.Moves.{CopyEnds, CopyRests, CopyStands, MakesCopies}
+use Rattle.leaf_deeds.specs.Moves.{CopyEnds, CopyRests, CopyingStands, MakesCopies}
 use Rattle.leaf_deeds.proofs.Counted.{none_made, spent, may_make, all_made}
 
 -- ---- the copy so far
 
 -- a copy that stood stands on, and at each moment a crash left what belongs to its tables
 abbrev pub CopyTold : Copying → Copying → Meaning → Meaning → Type 0
-CopyTold c d m n = CopyStands d n × ((base : NamedStates) → moments.Told base (watched_by c.seated) (watched_by d.seated) m n)
+CopyTold c d m n = CopyingStands d n × ((base : NamedStates) → moments.Told base (watched_by c.seated) (watched_by d.seated) m n)
 
 -- behind no step the region is untouched
 abbrev pub IsReached : ℕ → Meaning → Meaning → Next → Type 0
@@ -60,11 +60,11 @@ pub record CopiedSoFar (c : Copying) (m : Meaning) (stop : Option ℕ) (d : Copy
   pub none : notes ≡ []
   pub image : d.drain.image ≡ c.drain.image
   pub reached : IsReached made m n d.drain.next
-  pub copies : IsTrue m.tells → AreFounded c.seated → CopyStands c m → CopyTold c d m n
+  pub copies : IsTrue m.tells → AreFounded c.seated → CopyingStands c m → CopyTold c d m n
   pub reads : n.disk_reads ≡ m.disk_reads
   pub passes : Passes m n
 
-copy_told : (base : NamedStates) (c : Copying) (m : Meaning) → CopyStands c m → moments.Told base (watched_by c.seated) (watched_by c.seated) m m
+copy_told : (base : NamedStates) (c : Copying) (m : Meaning) → CopyingStands c m → moments.Told base (watched_by c.seated) (watched_by c.seated) m m
 copy_told base c m stands = copies_told (watched_by c.seated) (watched_by c.seated) base c.drain stands.0 m stands.1 (none_more m.clock m.clock (watched_by c.seated))
 
 pub copied_none : (c : Copying) (m : Meaning) (stop : Option ℕ) (notes : List Note) → notes ≡ [] → CopiedSoFar c m stop c m stop notes
@@ -144,7 +144,7 @@ long_image image images log_end is = by (ltb (length image) 16) refl
     by true e = absurd (closed_head image (inl (ltb-true (length image) 16 e)) is.version is.is.has.head)
     by false e = omega (arith, ltb-false (length image) 16 e)
 
-closed_now : (at : Next) (image : List ℕ) (heap : List (List ℕ)) (region : List ℕ) → IsUnderWay at → 16 ≤ length image → StandsAt at image heap region → head_of region ≡ head.Closed 0
+closed_now : (at : Next) (image : List ℕ) (heap : List (List ℕ)) (region : List ℕ) → IsUnderWay at → 16 ≤ length image → RegionStandsAt at image heap region → head_of region ≡ head.Closed 0
 closed_now next.Begin image heap region is long stands = absurd is
 closed_now next.Copy image heap region is long stands =
     closed_columns region _ (directory_of image) (replicate 15 0 ++ drop 16 image) stands.0 stands.1

@@ -17,12 +17,12 @@ use Rattle.leaf_machine.specs.declared.preparing.Prepared.TheVariants as prepare
 use Rattle.leaf_machine.specs.declared.preparing.PrepareFault.{PrepareFault}
 use Rattle.leaf_machine.specs.declared.preparing.PrepareFault.TheVariants as fault
 use Rattle.leaf_machine.specs.States.{Shutting, Copying, GoesOnCopying, IsShutAndTaken, RestsOn, GoesOnServing, treated}
-use Rattle.leaf_machine.specs.Prepares.{AllTreated, CrowdsStep, IsCrowded, IsTreatingStep, StepGoesOn, berth_of_step, seats_of_step}
+use Rattle.leaf_machine.specs.Prepares.{AllTreated, CrowdsStep, PreparingIsCrowded, IsTreatingStep, StepGoesOn, berth_of_step, seats_of_step}
 use Rattle.leaf_machine.proofs.UpMaking.{makes_join}
 use Rattle.printed_lines.specs.declared.line.Ending.{Ending}
 use Rattle.printed_lines.specs.declared.line.Ending.TheVariants as ending
 use Rattle.transcript.specs.Pieces.{Noted}
-use Rattle.transcript.specs.Life.{MayMake, Steps, Treats}
+use Rattle.transcript.specs.Life.{MayMake, StepsOfDrain, Treats}
 use Rattle.transcript.specs.Life as life
 use Rattle.leaf_moves.specs.Stage.{IsPreparing}
 use Rattle.leaf_moves.specs.Modes.{HasShut, mode_of, progress_of}
@@ -31,7 +31,7 @@ use Rattle.leaf_moves.proofs.NoteLines.{noted_append}
 use Rattle.leaf_deeds.specs.declared.drain.Shut.TheVariants as how
 use Rattle.leaf_deeds.specs.Steps.{AreLeft, Spends}
 use Rattle.leaf_deeds.specs.Moves as move
-use Rattle.leaf_deeds.specs.Moves.{CarriesCopy, Drains, IsKilled, Treated}
+use Rattle.leaf_deeds.specs.Moves.{CarriesCopy, Drains, ShuttingIsKilled, Treated}
 use Rattle.leaf_deeds.proofs.Counted.{steps_more, none_made, spent, may_make, all_made}
 use Rattle.leaf_deeds.proofs.Copied.{copy_long}
 use Rattle.leaf_deeds.proofs.Fewer.{treats_few}
@@ -119,7 +119,7 @@ module _ {B : Type 0} (meaning : B → Meaning) (x : Shutting) (m : Meaning) (st
     shut_more more stepped = record {
       made = suc so_far.made;
       treated_so = record {
-        steps = λ copy. subst (λ (ns : List Noted). Steps tables copy (suc so_far.made) (life.Shutting (progress_of x)) ns (life.Shutting (progress_of more.0))) (sym (noted_append before notes))
+        steps = λ copy. subst (λ (ns : List Noted). StepsOfDrain tables copy (suc so_far.made) (life.Shutting (progress_of x)) ns (life.Shutting (progress_of more.0))) (sym (noted_append before notes))
             (steps_more tables copy so_far.made (life.Shutting (progress_of x)) (noted_all before) (life.Shutting (progress_of leaf.0)) (noted_all notes) (life.Shutting (progress_of more.0))
             (so_far.treated_so.steps copy) (omega (arith, stepped.one.0, same_tables), step));
         part = record { from = m.clock; to = (meaning more.1).clock; made = far.made };
@@ -210,7 +210,7 @@ module _ {B : Type 0} (meaning : B → Meaning) (x : Shutting) (m : Meaning) (st
             may_now,
             one.0 ∙ same_tables,
             subst (λ (z : Shutting). AreShut z.serving.seated) same (are_shut one.0),
-            subst (λ (z : Shutting). IsCrowded z.serving.seated) same crowded,
+            subst (λ (z : Shutting). PreparingIsCrowded z.serving.seated) same crowded,
             one.2,
             ap (λ (z : Shutting). mode_of (IsPreparing z)) one.3,
             half_far.region,
@@ -232,7 +232,7 @@ pub kills : (x : Shutting) (m m' : Meaning) (y : Seated) (notes : List Note)
     → ((count : ℕ) × (length x.closed + count ≡ length x.serving.seated.tables) × EachNoted IsClosedNote (length x.closed) count notes)
     → Makes m.clock m'.clock x.serving.seated notes y
     → ((writes : List ℕ → List Write) → AreFounded x.serving.seated → Runs (watched_by x.serving.seated) x.serving.owing.owner x.serving.owing.log writes m → RestsOn x.serving.seated y m m')
-    → IsKilled x y notes m m'
+    → ShuttingIsKilled x y notes m m'
 kills x m m' y notes each made rests = record {
   count = each.0;
   all = each.1;

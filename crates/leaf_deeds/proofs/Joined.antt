@@ -18,16 +18,16 @@ use Rattle.leaf_machine.proofs.UpMaking.{makes_join}
 use Rattle.printed_lines.specs.declared.line.Ending.{Ending}
 use Rattle.printed_lines.specs.declared.line.Ending.TheVariants as ending
 use Rattle.transcript.specs.Pieces.{Noted}
-use Rattle.transcript.specs.Life.{MayMake, Stage, Steps}
+use Rattle.transcript.specs.Life.{MayMake, StageOfDrain, StepsOfDrain}
 use Rattle.transcript.specs.Life as life
-use Rattle.leaf_moves.specs.Stage.{Leaf, IsDown, IsUp, IsPreparing, Stands, Carries, seated_of}
+use Rattle.leaf_moves.specs.Stage.{Leaf, IsDown, IsUp, IsPreparing, LeafStands, Carries, seated_of}
 use Rattle.leaf_moves.specs.Modes.{progress_of}
 use Rattle.leaf_moves.specs.Steps.{DrainMoves, HasCopyLength, Reaches, RegionStopped, Stops, noted_all}
 use Rattle.leaf_moves.proofs.Drains.{by_endings}
 use Rattle.leaf_deeds.specs.Held.{KeepsSeats}
 use Rattle.leaf_deeds.specs.Steps.{copy_left}
 use Rattle.leaf_deeds.specs.Moves as move
-use Rattle.leaf_deeds.specs.Moves.{CopyEnds, CopyRests, CopyStands, Drains, IsCopied, IsCopyReady, IsKilled, IsStopped}
+use Rattle.leaf_deeds.specs.Moves.{CopyEnds, CopyRests, CopyingStands, Drains, IsCopied, IsCopyReady, ShuttingIsKilled, IsStopped}
 use Rattle.leaf_deeds.proofs.Carrying.{carries_on, founded_on, makes_keeps}
 use Rattle.leaf_deeds.proofs.Counted.{all_made, copies_on, may_make_more, steps_more}
 use Rattle.leaf_deeds.proofs.Fewer.{each_few, tables_few}
@@ -55,7 +55,7 @@ module _ (x : Shutting) (m n o : Meaning) (stop left : Option ℕ) (before notes
   same_count = ap (λ (ts : List Shared). length ts) copy_tables
 
   -- the copy stands, of a leaf that stood
-  copy_stands : (base : NamedStates) → IsTrue m.tells → AreFounded x.serving.seated → Stands base (IsPreparing x) m → IsTrue n.tells × AreFounded c.seated × CopyStands c n
+  copy_stands : (base : NamedStates) → IsTrue m.tells → AreFounded x.serving.seated → LeafStands base (IsPreparing x) m → IsTrue n.tells × AreFounded c.seated × CopyingStands c n
   copy_stands base tells founded stands = (passes.tells ∙ tells, founded_on x.serving.seated c.seated copy_tables founded, (ready.carries.stands base tells founded stands).0)
 
   copy_carries : Carries (IsPreparing x) (IsDown z) (before ++ notes) m o
@@ -68,10 +68,10 @@ module _ (x : Shutting) (m n o : Meaning) (stop left : Option ℕ) (before notes
   }
 
   -- the plan is a step more
-  planned : (copy : ℕ) → Steps (length x.serving.seated.tables) copy (suc ready.made) (life.Shutting (progress_of x)) (noted_all before) (life.Copying 0)
+  planned : (copy : ℕ) → StepsOfDrain (length x.serving.seated.tables) copy (suc ready.made) (life.Shutting (progress_of x)) (noted_all before) (life.Copying 0)
   planned copy =
       let all = ready.all ∙ (ap (λ (y : Seated). length y.tables) (sym ready.copy.seated) ∙ same_count) in
-      subst (λ (ns : List Noted). Steps (length x.serving.seated.tables) copy (suc ready.made) (life.Shutting (progress_of x)) ns (life.Copying 0)) (append-nil (noted_all before))
+      subst (λ (ns : List Noted). StepsOfDrain (length x.serving.seated.tables) copy (suc ready.made) (life.Shutting (progress_of x)) ns (life.Copying 0)) (append-nil (noted_all before))
       (steps_more (length x.serving.seated.tables) copy ready.made (life.Shutting (progress_of x)) (noted_all before) (life.Shutting (progress_of ready.whole)) [] (life.Copying 0)
       (ready.so_far.steps copy) (all, refl, refl))
 
@@ -161,7 +161,7 @@ module _ (x : Shutting) (m m' : Meaning) (stop : Option ℕ) (before closing : L
   same_tables : length y.serving.seated.tables ≡ length x.serving.seated.tables
   same_tables = ap (λ (ts : List Shared). length ts) (makes_tables m.clock m'.clock x.serving.seated before y.serving.seated stopped.carries.made)
 
-  pub drain_stopped : IsKilled y z closing m' m' → Drains m m' (IsPreparing x) stop (before ++ closing) ending.Stopped (IsDown z)
+  pub drain_stopped : ShuttingIsKilled y z closing m' m' → Drains m m' (IsPreparing x) stop (before ++ closing) ending.Stopped (IsDown z)
   drain_stopped killed = record {
     moves = (
       0,
@@ -192,13 +192,13 @@ module _ (x : Shutting) (m m' : Meaning) (stop : Option ℕ) (before closing : L
   }
 
   -- each table that was open is closed
-  pub kill_few : (n o : Meaning) → AreSeated x.serving.seated → IsKilled y z closing n o → length closing ≤ 16
+  pub kill_few : (n o : Meaning) → AreSeated x.serving.seated → ShuttingIsKilled y z closing n o → length closing ≤ 16
   kill_few n o seated killed = omega (arith, each_few IsClosedNote (length y.closed) killed.count closing killed.each, killed.all, same_tables, tables_few x.serving.seated seated)
 
 -- ---- a leaf that is up begins to shut its tables
 
 module _ (s : Serving) (m m' : Meaning) (stop : Option ℕ) (notes : List Note) (leaf' : Leaf) where
-  abbrev reaches_up : (copy : ℕ) (t : Stage) → Reaches (IsPreparing (begins s)) leaf' notes copy t → Reaches (IsUp s) leaf' notes copy t
+  abbrev reaches_up : (copy : ℕ) (t : StageOfDrain) → Reaches (IsPreparing (begins s)) leaf' notes copy t → Reaches (IsUp s) leaf' notes copy t
   reaches_up copy t r = record {
     made = r.made;
     treating = r.treating;
@@ -210,7 +210,7 @@ module _ (s : Serving) (m m' : Meaning) (stop : Option ℕ) (notes : List Note) 
     ends = r.ends;
   }
 
-  stops_up : (copy : ℕ) (t : Stage) (r : Reaches (IsPreparing (begins s)) leaf' notes copy t) → Stops m m' (IsPreparing (begins s)) leaf' notes copy t r
+  stops_up : (copy : ℕ) (t : StageOfDrain) (r : Reaches (IsPreparing (begins s)) leaf' notes copy t) → Stops m m' (IsPreparing (begins s)) leaf' notes copy t r
       → Stops m m' (IsUp s) leaf' notes copy t (reaches_up copy t r)
   stops_up copy (life.Shutting p) r h = h
   stops_up copy (life.Copying made) r h = h

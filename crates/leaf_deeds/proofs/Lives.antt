@@ -60,7 +60,7 @@ closed_words n place = (place, said.Closed n) ∷ (place, said.Flushed n) ∷ []
 
 -- ---- each way that a step may go
 
-pub treats : (x y : Shutting) (notes : List Note) → HasShut x → prepares.Treats x y notes → Treats (progress_of x) (noted_all notes) (progress_of y)
+pub treats : (x y : Shutting) (notes : List Note) → HasShut x → prepares.PreparingTreats x y notes → Treats (progress_of x) (noted_all notes) (progress_of y)
 treats x y notes shut (prepares.whole first closing flushing n content open_ owes notes_are closed open_then none) =
     let place = place_whole x open_ in (
       (n, by_waits x false n (noted_all notes) open_ (tells x.serving.owing notes first _ (treated x) (said.Closed n ∷ said.Flushed n ∷ []) owes notes_are (ap (closed_words n) place))),
@@ -76,7 +76,7 @@ treats x y notes shut (prepares.rest half owes closed open_then none) = (
 half_treated : (x y : Shutting) (content : Table) → x.waits ≡ false → y.closed ≡ x.closed ++ content ∷ [] → y.waits ≡ true → treated y ≡ treated x
 half_treated x y content open_ closed half = omega (arith, treated_as y true half, one_closed x y content closed, place_whole x open_)
 
-pub halts : (x y : Shutting) (notes : List Note) → prepares.Halts x y notes → Halts (progress_of x) (noted_all notes) (progress_of y)
+pub halts : (x y : Shutting) (notes : List Note) → prepares.PreparingHalts x y notes → Halts (progress_of x) (noted_all notes) (progress_of y)
 halts x y notes (prepares.half first closing n content open_ owes notes_are closed half some owner count) =
     let place = place_whole x open_ in
     inl (
@@ -96,7 +96,7 @@ starves_same : (tables : ℕ) (x y : Shutting) (notes : List Note) → OwedNotes
 starves_same tables x y notes owes closed shut none =
     inl (tells_owed x.serving.owing notes (treated x) owes, progress_is y None (treated x) x.waits (owed_none y.serving.owing none) (treated_same x y closed shut) shut)
 
-pub starves : (tables : ℕ) (x y : Shutting) (notes : List Note) → length x.serving.seated.tables ≡ tables → prepares.Starves x y notes → Starves tables (progress_of x) (noted_all notes) (progress_of y)
+pub starves : (tables : ℕ) (x y : Shutting) (notes : List Note) → length x.serving.seated.tables ≡ tables → prepares.PreparingStarves x y notes → Starves tables (progress_of x) (noted_all notes) (progress_of y)
 starves tables x y notes size (prepares.before open_ owes closed open_then none) = starves_same tables x y notes owes closed (open_then ∙ sym open_) none
 starves tables x y notes size (prepares.behind first closing flushing n content open_ few owes notes_are closed half none) =
     let place = place_whole x open_ in

@@ -5,17 +5,17 @@ use Rattle.leaf_model.specs.declared.writes.Write.{Write}
 use Rattle.row_records.specs.Records.{LogRecord}
 use Rattle.berth_face.specs.Berth.{Meaning}
 use Rattle.leaf_history.specs.History.{LegalFrom}
-use Rattle.turnstile.specs.Seats.{IsSeatOf, LearnsOthers, Told}
+use Rattle.turnstile.specs.Seats.{IsSeatOf, LearnsOthers, SeesAlso}
 use Rattle.leaf_table.specs.Turns.{Shared, is_founded, start_of}
 use Rattle.leaf_table.specs.Calls.{SeatView, base_seen, seen_of}
 use Rattle.crash_moments.specs.Left.{NamedStates}
 use Rattle.crash_states.specs.Standing.{Rests, Runs}
 use Rattle.leaf_steward.specs.Seated.{Seated, AreFounded, AtPlace, watched_by, with_seat}
 use Rattle.leaf_machine.specs.States.{Serving, Shutting}
-use Rattle.leaf_moves.specs.Stage.{IsDown, IsUp, IsPreparing, Stands, with_seats}
+use Rattle.leaf_moves.specs.Stage.{IsDown, IsUp, IsPreparing, LeafStands, with_seats}
 use Rattle.leaf_deeds.specs.declared.leaf.OneLeaf.{OneLeaf}
 use Rattle.leaf_deeds.specs.declared.leaf.OneLeaf.TheVariants as one
-use Rattle.leaf_deeds.specs.Held.{state_of, berth_of, seats_of}
+use Rattle.leaf_deeds.specs.Held.{leaf_state, berth_of, seats_of}
 
 -- what a seat brings to a meeting
 abbrev pub IsLegalSeat : SeatView → Shared → Type 0
@@ -47,13 +47,13 @@ is_there x table within count =
 module _ {B : Type 0} (meaning : B → Meaning) where
   -- what a meeting makes of a leaf
   pub record LeafMet (self then : OneLeaf B) (table : ℕ) (c : SeatView) : Type 0 where
-    pub learns : AtPlace (λ t v. (w : SeatView) × (state_of then ≡ with_seats (state_of self) (slice_set (seats_of self).seats table w)) × Told v c w × LearnsOthers v w) (seats_of self) table
+    pub learns : AtPlace (λ t v. (w : SeatView) × (leaf_state then ≡ with_seats (leaf_state self) (slice_set (seats_of self).seats table w)) × SeesAlso v c w × LearnsOthers v w) (seats_of self) table
     pub berth : berth_of then ≡ berth_of self
-    pub stands : (base : NamedStates) → AreFounded (seats_of self) → Stands base (state_of self) (meaning (berth_of self)) → Stands base (state_of then) (meaning (berth_of then))
+    pub stands : (base : NamedStates) → AreFounded (seats_of self) → LeafStands base (leaf_state self) (meaning (berth_of self)) → LeafStands base (leaf_state then) (meaning (berth_of then))
 
   pub down_met : (self then : OneLeaf B) (x y : Seated × B) (table : ℕ) (c : SeatView) → self ≡ one.Down x → then ≡ one.Down y
       → table < length (seats_of self).tables → length (seats_of self).seats ≡ length (seats_of self).tables
-      → AtPlace (λ t v. (w : SeatView) × (y ≡ (with_seat x.0 table w, x.1)) × Told v c w × LearnsOthers v w × IsLegal t w) x.0 table
+      → AtPlace (λ t v. (w : SeatView) × (y ≡ (with_seat x.0 table w, x.1)) × SeesAlso v c w × LearnsOthers v w × IsLegal t w) x.0 table
       → ((others : NamedStates) (least : List ℕ → List Write) (next : Option LogRecord) → AreFounded x.0 → Rests (watched_by x.0) others least next (meaning x.1)
       → Rests (watched_by y.0) others least next (meaning y.1))
       → LeafMet self then table c
@@ -73,7 +73,7 @@ module _ {B : Type 0} (meaning : B → Meaning) where
 
   pub up_met : (self then : OneLeaf B) (x y : Serving × B) (table : ℕ) (c : SeatView) → self ≡ one.Up x → then ≡ one.Up y
       → table < length (seats_of self).tables → length (seats_of self).seats ≡ length (seats_of self).tables
-      → AtPlace (λ t v. (w : SeatView) × (y ≡ (record { seated = with_seat x.0.seated table w; owing = x.0.owing }, x.1)) × Told v c w × LearnsOthers v w × IsLegal t w) x.0.seated table
+      → AtPlace (λ t v. (w : SeatView) × (y ≡ (record { seated = with_seat x.0.seated table w; owing = x.0.owing }, x.1)) × SeesAlso v c w × LearnsOthers v w × IsLegal t w) x.0.seated table
       → ((writes : List ℕ → List Write) → AreFounded x.0.seated → Runs (watched_by x.0.seated) x.0.owing.owner x.0.owing.log writes (meaning x.1)
       → Runs (watched_by y.0.seated) y.0.owing.owner y.0.owing.log writes (meaning y.1))
       → LeafMet self then table c
@@ -94,7 +94,7 @@ module _ {B : Type 0} (meaning : B → Meaning) where
   pub preparing_met : (self then : OneLeaf B) (x y : Shutting × B) (table : ℕ) (c : SeatView) → self ≡ one.Preparing x → then ≡ one.Preparing y
       → table < length (seats_of self).tables → length (seats_of self).seats ≡ length (seats_of self).tables
       → AtPlace (λ t v. (w : SeatView)
-      × (y ≡ (record { serving = record { seated = with_seat x.0.serving.seated table w; owing = x.0.serving.owing }; closed = x.0.closed; waits = x.0.waits }, x.1)) × Told v c w × LearnsOthers v w × IsLegal t w)
+      × (y ≡ (record { serving = record { seated = with_seat x.0.serving.seated table w; owing = x.0.serving.owing }; closed = x.0.closed; waits = x.0.waits }, x.1)) × SeesAlso v c w × LearnsOthers v w × IsLegal t w)
       x.0.serving.seated table
       → ((writes : List ℕ → List Write) → AreFounded x.0.serving.seated → Runs (watched_by x.0.serving.seated) x.0.serving.owing.owner x.0.serving.owing.log writes (meaning x.1)
       → Runs (watched_by y.0.serving.seated) y.0.serving.owing.owner y.0.serving.owing.log writes (meaning y.1))
@@ -119,7 +119,7 @@ at_place P self other table is at = subst (λ (l : OneLeaf _). AtPlace P (seats_
 
 -- the caller's seat behind a meeting
 abbrev pub IsMetSeat : SeatView → SeatView → Shared → SeatView → Type 0
-IsMetSeat c c' t v = IsSeatOf c' t.site × Told c v c' × LearnsOthers c c' × LegalFrom (is_founded (base_seen t)) (start_of (base_seen t)) (seen_of c')
+IsMetSeat c c' t v = IsSeatOf c' t.site × SeesAlso c v c' × LearnsOthers c c' × LegalFrom (is_founded (base_seen t)) (start_of (base_seen t)) (seen_of c')
 
 pub met_seat : {B : Type 0} (self other : OneLeaf B) (table : ℕ) (c c' now : SeatView) → self ≡ other → now ≡ c' → AtPlace (IsMetSeat c c') (seats_of other) table → AtPlace (IsMetSeat c now) (seats_of self) table
 met_seat self other table c c' now is same at = at_place (IsMetSeat c now) other self table (sym is) (subst (λ (d : SeatView). AtPlace (IsMetSeat c d) (seats_of other) table) (sym same) at)

@@ -20,7 +20,7 @@ use Rattle.leaf_steward.specs.Making.{Makes, EachNoted, IsClosedNote}
 use Rattle.leaf_machine.specs.declared.faults.StartFault.{StartFault}
 use Rattle.leaf_machine.specs.declared.faults.StartFault.TheVariants as fault
 use Rattle.leaf_machine.specs.declared.up.FlushReply.{FlushReply}
-use Rattle.leaf_machine.specs.States.{Serving, Shutting, GoesOn, RestsOn, GoesOnServing}
+use Rattle.leaf_machine.specs.States.{Serving, Shutting, ServingGoesOn, RestsOn, GoesOnServing}
 use Rattle.leaf_machine.specs.Starts.{CameUp, IsExactRefusal, IsStart, IsStartRefused, StartGoesOn, told_of}
 use Rattle.leaf_machine.specs.Flushes.{Flushes}
 use Rattle.leaf_machine.specs.Prepares.{begins}
@@ -30,13 +30,13 @@ use Rattle.printed_lines.specs.declared.line.Line.{Line}
 use Rattle.printed_lines.specs.declared.line.Deed.{Deed}
 use Rattle.printed_lines.specs.declared.line.Deed.TheVariants.{Start}
 use Rattle.transcript.specs.Counts.{reads_disk}
-use Rattle.leaf_moves.specs.Stage.{Leaf, IsDown, IsUp, IsPreparing, Stands, Carries, seated_of}
+use Rattle.leaf_moves.specs.Stage.{Leaf, IsDown, IsUp, IsPreparing, LeafStands, Carries, seated_of}
 use Rattle.leaf_moves.specs.Modes.{HasShut}
 use Rattle.leaf_moves.specs.Steps.{StartMoves, FlushMoves, KillMoves, Moves, IsTrueOf, RegionRefused, ending_of, ending_of_flush}
 use Rattle.leaf_deeds.specs.declared.leaf.OneLeaf.{OneLeaf}
 use Rattle.leaf_deeds.specs.declared.leaf.OneLeaf.TheVariants as one
-use Rattle.leaf_deeds.specs.Held.{KeepsSeats, state_of, berth_of, seats_of}
-use Rattle.leaf_deeds.specs.Deeds.{Does}
+use Rattle.leaf_deeds.specs.Held.{KeepsSeats, leaf_state, berth_of, seats_of}
+use Rattle.leaf_deeds.specs.Deeds.{DeedDoes}
 use Rattle.leaf_deeds.specs.Moves.{Drains, FaultRose}
 use Rattle.leaf_deeds.proofs.Carrying.{carries_none, makes_keeps}
 use Rattle.leaf_deeds.proofs.Joined.{up_drained}
@@ -45,7 +45,7 @@ use Rattle.leaf_deeds.proofs.Joined.{up_drained}
 
 -- a leaf that serves goes on
 pub runs_carried : (x y : Serving) (notes : List Note) (m m' : Meaning) → Makes m.clock m'.clock x.seated notes y.seated
-    → (IsTrue m.tells → AreFounded x.seated → GoesOn x y m m') → Carries (IsUp x) (IsUp y) notes m m'
+    → (IsTrue m.tells → AreFounded x.seated → ServingGoesOn x y m m') → Carries (IsUp x) (IsUp y) notes m m'
 runs_carried x y notes m m' made crash = record {
   made = made;
   stands = λ base tells founded sound stands.
@@ -55,7 +55,7 @@ runs_carried x y notes m m' made crash = record {
 
 -- a leaf comes to rest
 pub rests_carried : (leaf : Leaf) (y : Seated) (notes : List Note) (m m' : Meaning) → Makes m.clock m'.clock (seated_of leaf) notes y
-    → ((base : NamedStates) → AreFounded (seated_of leaf) → Stands base leaf m → RestsOn (seated_of leaf) y m m') → Carries leaf (IsDown y) notes m m'
+    → ((base : NamedStates) → AreFounded (seated_of leaf) → LeafStands base leaf m → RestsOn (seated_of leaf) y m m') → Carries leaf (IsDown y) notes m m'
 rests_carried leaf y notes m m' made crash = record {
   made = made;
   stands = λ base tells founded sound stands.
@@ -112,11 +112,11 @@ refusal_reads (fault.Worn table) none = absurd cc
 module _ {B : Type 0} (meaning : B → Meaning) where
   -- ---- nothing is done
 
-  pub still_carries : (self other : OneLeaf B) (notes : List Note) → self ≡ other → notes ≡ [] → Carries (state_of self) (state_of other) notes (meaning (berth_of self)) (meaning (berth_of other))
+  pub still_carries : (self other : OneLeaf B) (notes : List Note) → self ≡ other → notes ≡ [] → Carries (leaf_state self) (leaf_state other) notes (meaning (berth_of self)) (meaning (berth_of other))
   still_carries self other notes same none =
-      subst (λ (l : OneLeaf B). Carries (state_of self) (state_of l) notes (meaning (berth_of self)) (meaning (berth_of l))) same
-      (subst (λ (ns : List Note). Carries (state_of self) (state_of self) ns (meaning (berth_of self)) (meaning (berth_of self))) (sym none)
-      (carries_none (state_of self) (meaning (berth_of self))))
+      subst (λ (l : OneLeaf B). Carries (leaf_state self) (leaf_state l) notes (meaning (berth_of self)) (meaning (berth_of l))) same
+      (subst (λ (ns : List Note). Carries (leaf_state self) (leaf_state self) ns (meaning (berth_of self)) (meaning (berth_of self))) (sym none)
+      (carries_none (leaf_state self) (meaning (berth_of self))))
 
   -- ---- a start
 
@@ -125,18 +125,18 @@ module _ {B : Type 0} (meaning : B → Meaning) where
       → (IsTrue (meaning x.1).tells → CameUp x.0.names (meaning x.1) (meaning s.1) notes s.0 way)
       → (IsTrue (meaning x.1).tells → IsWayOf (meaning x.1).held.region way)
       → (IsTrue (meaning x.1).tells → IsAnswer x.0.names (meaning x.1).held.region (meaning x.1).held.disk (Ok way))
-      → StartMoves (meaning (berth_of self)) (meaning s.1) (state_of self) notes (ending.Started way) (IsUp s.0)
+      → StartMoves (meaning (berth_of self)) (meaning s.1) (leaf_state self) notes (ending.Started way) (IsUp s.0)
   start_opens self x s way notes is start came found exact =
-      subst (λ (l : OneLeaf B). StartMoves (meaning (berth_of l)) (meaning s.1) (state_of l) notes (ending.Started way) (IsUp s.0)) (sym is)
+      subst (λ (l : OneLeaf B). StartMoves (meaning (berth_of l)) (meaning s.1) (leaf_state l) notes (ending.Started way) (IsUp s.0)) (sym is)
       (StartMoves.opened x.0 s.0 way refl start.3 start.4 (λ tells. record { came = came tells; way_is = found tells; exact = exact tells }) refl refl)
 
   pub start_carries : (self : OneLeaf B) (x : Seated × B) (s : Serving × B) (way : Way) (notes : List Note) → self ≡ one.Down x
       → Makes (meaning x.1).clock (meaning s.1).clock x.0 notes s.0.seated
       → ((others : NamedStates) (least : List ℕ → List Write) (next : Option LogRecord) → IsTrue (meaning x.1).tells → AreFounded x.0 → Rests (watched_by x.0) others least next (meaning x.1)
       → StartGoesOn meaning x.0 (meaning x.1) others least next (Ok (s, way)))
-      → Carries (state_of self) (IsUp s.0) notes (meaning (berth_of self)) (meaning s.1)
+      → Carries (leaf_state self) (IsUp s.0) notes (meaning (berth_of self)) (meaning s.1)
   start_carries self x s way notes is made crash =
-      subst (λ (l : OneLeaf B). Carries (state_of l) (IsUp s.0) notes (meaning (berth_of l)) (meaning s.1)) (sym is) (record {
+      subst (λ (l : OneLeaf B). Carries (leaf_state l) (IsUp s.0) notes (meaning (berth_of l)) (meaning s.1)) (sym is) (record {
         made = made;
         stands = λ base tells founded sound stands.
             let on = crash base stands.0 stands.1 tells founded stands.2 in
@@ -151,10 +151,10 @@ module _ {B : Type 0} (meaning : B → Meaning) where
       → ((others : NamedStates) (least : List ℕ → List Write) (next : Option LogRecord) → IsTrue (meaning x.1).tells → AreFounded x.0 → Rests (watched_by x.0) others least next (meaning x.1)
       → StartGoesOn meaning x.0 (meaning x.1) others least next (Err (y, f)))
       → ends ≡ ending_of f
-      → StartMoves (meaning (berth_of self)) (meaning y.1) (state_of self) notes ends (IsDown y.0)
+      → StartMoves (meaning (berth_of self)) (meaning y.1) (leaf_state self) notes ends (IsDown y.0)
   start_refused self x y f notes ends is start why exact disk crash told =
       let was : Refused x.0 notes y.0 f = refused x.0 x.1 notes y f start in
-      subst (λ (l : OneLeaf B). StartMoves (meaning (berth_of l)) (meaning y.1) (state_of l) notes ends (IsDown y.0)) (sym is)
+      subst (λ (l : OneLeaf B). StartMoves (meaning (berth_of l)) (meaning y.1) (leaf_state l) notes ends (IsDown y.0)) (sym is)
       (StartMoves.refused x.0 f refl was.worn (λ base tells founded stands. (crash base stands.0 stands.1 tells founded stands.2).2)
       (λ tells. record { why = why tells; exact = exact tells; region = region_refused meaning x.0 x.1 notes y f start (why tells); disk = disk tells })
       was.none told (ap IsDown was.same))
@@ -163,9 +163,9 @@ module _ {B : Type 0} (meaning : B → Meaning) where
       → Makes (meaning x.1).clock (meaning y.1).clock x.0 notes y.0
       → ((others : NamedStates) (least : List ℕ → List Write) (next : Option LogRecord) → IsTrue (meaning x.1).tells → AreFounded x.0 → Rests (watched_by x.0) others least next (meaning x.1)
       → StartGoesOn meaning x.0 (meaning x.1) others least next (Err (y, f)))
-      → Carries (state_of self) (IsDown y.0) notes (meaning (berth_of self)) (meaning y.1)
+      → Carries (leaf_state self) (IsDown y.0) notes (meaning (berth_of self)) (meaning y.1)
   refusal_carries self x y f notes is made crash =
-      subst (λ (l : OneLeaf B). Carries (state_of l) (IsDown y.0) notes (meaning (berth_of l)) (meaning y.1)) (sym is) (record {
+      subst (λ (l : OneLeaf B). Carries (leaf_state l) (IsDown y.0) notes (meaning (berth_of l)) (meaning y.1)) (sym is) (record {
         made = made;
         stands = λ base tells founded sound stands.
             let on = crash base stands.0 stands.1 tells founded stands.2 in
@@ -187,44 +187,44 @@ module _ {B : Type 0} (meaning : B → Meaning) where
       → Flushes table x.0 y.0 notes reply
       → (IsTrue (meaning x.1).tells → (meaning y.1).held.region ≡ (meaning x.1).held.region)
       → ends ≡ ending_of_flush reply
-      → FlushMoves table (meaning (berth_of self)) (meaning y.1) (state_of self) notes ends (IsUp y.0)
+      → FlushMoves table (meaning (berth_of self)) (meaning y.1) (leaf_state self) notes ends (IsUp y.0)
   flush_moves self x y table notes reply ends is flushes region told =
-      subst (λ (l : OneLeaf B). FlushMoves table (meaning (berth_of l)) (meaning y.1) (state_of l) notes ends (IsUp y.0)) (sym is)
+      subst (λ (l : OneLeaf B). FlushMoves table (meaning (berth_of l)) (meaning y.1) (leaf_state l) notes ends (IsUp y.0)) (sym is)
       (FlushMoves.flushed x.0 y.0 reply refl flushes region told refl)
 
   pub flush_carries : (self : OneLeaf B) (x y : Serving × B) (notes : List Note) → self ≡ one.Up x
       → Makes (meaning x.1).clock (meaning y.1).clock x.0.seated notes y.0.seated
-      → (IsTrue (meaning x.1).tells → AreFounded x.0.seated → GoesOn x.0 y.0 (meaning x.1) (meaning y.1))
-      → Carries (state_of self) (IsUp y.0) notes (meaning (berth_of self)) (meaning y.1)
+      → (IsTrue (meaning x.1).tells → AreFounded x.0.seated → ServingGoesOn x.0 y.0 (meaning x.1) (meaning y.1))
+      → Carries (leaf_state self) (IsUp y.0) notes (meaning (berth_of self)) (meaning y.1)
   flush_carries self x y notes is made crash =
-      subst (λ (l : OneLeaf B). Carries (state_of l) (IsUp y.0) notes (meaning (berth_of l)) (meaning y.1)) (sym is)
+      subst (λ (l : OneLeaf B). Carries (leaf_state l) (IsUp y.0) notes (meaning (berth_of l)) (meaning y.1)) (sym is)
       (runs_carried x.0 y.0 notes (meaning x.1) (meaning y.1) made crash)
 
   -- ---- a kill
 
   pub kill_moves : (self : OneLeaf B) (x : Serving × B) (y : Seated × B) (notes : List Note) → self ≡ one.Up x → y.1 ≡ x.1
       → EachNoted IsClosedNote 0 (length x.0.seated.tables) notes
-      → KillMoves (meaning (berth_of self)) (meaning y.1) (state_of self) notes ending.Done (IsDown y.0)
+      → KillMoves (meaning (berth_of self)) (meaning y.1) (leaf_state self) notes ending.Done (IsDown y.0)
   kill_moves self x y notes is berth each =
-      subst (λ (l : OneLeaf B). KillMoves (meaning (berth_of l)) (meaning y.1) (state_of l) notes ending.Done (IsDown y.0)) (sym is)
+      subst (λ (l : OneLeaf B). KillMoves (meaning (berth_of l)) (meaning y.1) (leaf_state l) notes ending.Done (IsDown y.0)) (sym is)
       (KillMoves.up x.0 y.0 refl each (ap (λ (b : B). (meaning b).held) berth) refl refl)
 
   pub kill_carries : (self : OneLeaf B) (x : Serving × B) (y : Seated × B) (notes : List Note) → self ≡ one.Up x → y.1 ≡ x.1
       → Makes (meaning x.1).clock (meaning x.1).clock x.0.seated notes y.0
       → ((writes : List ℕ → List Write) → AreFounded x.0.seated → Runs (watched_by x.0.seated) x.0.owing.owner x.0.owing.log writes (meaning x.1)
       → RestsOn x.0.seated y.0 (meaning x.1) (meaning y.1))
-      → Carries (state_of self) (IsDown y.0) notes (meaning (berth_of self)) (meaning y.1)
+      → Carries (leaf_state self) (IsDown y.0) notes (meaning (berth_of self)) (meaning y.1)
   kill_carries self x y notes is berth made crash =
       let later : Makes (meaning x.1).clock (meaning y.1).clock x.0.seated notes y.0 =
       subst (λ (b : B). Makes (meaning x.1).clock (meaning b).clock x.0.seated notes y.0) (sym berth) made in
-      subst (λ (l : OneLeaf B). Carries (state_of l) (IsDown y.0) notes (meaning (berth_of l)) (meaning y.1)) (sym is)
+      subst (λ (l : OneLeaf B). Carries (leaf_state l) (IsDown y.0) notes (meaning (berth_of l)) (meaning y.1)) (sym is)
       (rests_carried (IsUp x.0) y.0 notes (meaning x.1) (meaning y.1) later (λ base founded stands. crash stands.0 founded stands.1))
 
   pub shutting_kill_moves : (self : OneLeaf B) (x : Shutting × B) (y : Seated × B) (notes : List Note) → self ≡ one.Preparing x → y.1 ≡ x.1 → HasShut x.0
       → (count : ℕ) × (length x.0.closed + count ≡ length x.0.serving.seated.tables) × EachNoted IsClosedNote (length x.0.closed) count notes
-      → KillMoves (meaning (berth_of self)) (meaning y.1) (state_of self) notes ending.Done (IsDown y.0)
+      → KillMoves (meaning (berth_of self)) (meaning y.1) (leaf_state self) notes ending.Done (IsDown y.0)
   shutting_kill_moves self x y notes is berth shut each =
-      subst (λ (l : OneLeaf B). KillMoves (meaning (berth_of l)) (meaning y.1) (state_of l) notes ending.Done (IsDown y.0)) (sym is)
+      subst (λ (l : OneLeaf B). KillMoves (meaning (berth_of l)) (meaning y.1) (leaf_state l) notes ending.Done (IsDown y.0)) (sym is)
       (KillMoves.preparing x.0 y.0 each.0 refl (ap (λ (n : ℕ). n + each.0) (sym shut) ∙ each.1) (subst (λ (n : ℕ). EachNoted IsClosedNote n each.0 notes) shut each.2)
       (ap (λ (b : B). (meaning b).held) berth) refl refl)
 
@@ -233,19 +233,19 @@ module _ {B : Type 0} (meaning : B → Meaning) where
       → ((writes : List ℕ → List Write) → AreFounded x.0.serving.seated
       → Runs (watched_by x.0.serving.seated) x.0.serving.owing.owner x.0.serving.owing.log writes (meaning x.1)
       → RestsOn x.0.serving.seated y.0 (meaning x.1) (meaning y.1))
-      → Carries (state_of self) (IsDown y.0) notes (meaning (berth_of self)) (meaning y.1)
+      → Carries (leaf_state self) (IsDown y.0) notes (meaning (berth_of self)) (meaning y.1)
   shutting_kill_carries self x y notes is berth made crash =
       let later : Makes (meaning x.1).clock (meaning y.1).clock x.0.serving.seated notes y.0 =
       subst (λ (b : B). Makes (meaning x.1).clock (meaning b).clock x.0.serving.seated notes y.0) (sym berth) made in
-      subst (λ (l : OneLeaf B). Carries (state_of l) (IsDown y.0) notes (meaning (berth_of l)) (meaning y.1)) (sym is)
+      subst (λ (l : OneLeaf B). Carries (leaf_state l) (IsDown y.0) notes (meaning (berth_of l)) (meaning y.1)) (sym is)
       (rests_carried (IsPreparing x.0) y.0 notes (meaning x.1) (meaning y.1) later (λ base founded stands. crash stands.0 founded stands.1))
 
   -- ---- a drain of a leaf that is down
 
   pub drain_not_up : (self : OneLeaf B) (x : Seated × B) (stop : Option ℕ) (notes : List Note) → self ≡ one.Down x → notes ≡ []
-      → Drains (meaning (berth_of self)) (meaning x.1) (state_of self) stop notes ending.NotUp (IsDown x.0)
+      → Drains (meaning (berth_of self)) (meaning x.1) (leaf_state self) stop notes ending.NotUp (IsDown x.0)
   drain_not_up self x stop notes is none =
-      subst (λ (l : OneLeaf B). Drains (meaning (berth_of l)) (meaning x.1) (state_of l) stop notes ending.NotUp (IsDown x.0)) (sym is) (record {
+      subst (λ (l : OneLeaf B). Drains (meaning (berth_of l)) (meaning x.1) (leaf_state l) stop notes ending.NotUp (IsDown x.0)) (sym is) (record {
         moves = (tt, none, refl, refl);
         carries = subst (λ (ns : List Note). Carries (IsDown x.0) (IsDown x.0) ns (meaning x.1) (meaning x.1)) (sym none) (carries_none (IsDown x.0) (meaning x.1));
         reads = refl;
@@ -253,22 +253,22 @@ module _ {B : Type 0} (meaning : B → Meaning) where
 
   -- a leaf that is up begins to shut its tables
   pub up_drains : (self : OneLeaf B) (x : Serving × B) (p : Shutting × B) (m' : Meaning) (stop : Option ℕ) (notes : List Note) (ends : Ending) (leaf' : Leaf) → self ≡ one.Up x → p ≡ (begins x.0, x.1)
-      → Drains (meaning p.1) m' (IsPreparing p.0) stop notes ends leaf' → Drains (meaning (berth_of self)) m' (state_of self) stop notes ends leaf'
+      → Drains (meaning p.1) m' (IsPreparing p.0) stop notes ends leaf' → Drains (meaning (berth_of self)) m' (leaf_state self) stop notes ends leaf'
   up_drains self x p m' stop notes ends leaf' is prepared drains =
-      subst (λ (l : OneLeaf B). Drains (meaning (berth_of l)) m' (state_of l) stop notes ends leaf') (sym is)
+      subst (λ (l : OneLeaf B). Drains (meaning (berth_of l)) m' (leaf_state l) stop notes ends leaf') (sym is)
       (up_drained x.0 (meaning x.1) m' stop notes leaf' ends (subst (λ (q : Shutting × B). Drains (meaning q.1) m' (IsPreparing q.0) stop notes ends leaf') prepared drains))
 
   -- one that shuts them goes on
   pub preparing_drains : (self : OneLeaf B) (x : Shutting × B) (m' : Meaning) (stop : Option ℕ) (notes : List Note) (ends : Ending) (leaf' : Leaf) → self ≡ one.Preparing x
-      → Drains (meaning x.1) m' (IsPreparing x.0) stop notes ends leaf' → Drains (meaning (berth_of self)) m' (state_of self) stop notes ends leaf'
-  preparing_drains self x m' stop notes ends leaf' is drains = subst (λ (l : OneLeaf B). Drains (meaning (berth_of l)) m' (state_of l) stop notes ends leaf') (sym is) drains
+      → Drains (meaning x.1) m' (IsPreparing x.0) stop notes ends leaf' → Drains (meaning (berth_of self)) m' (leaf_state self) stop notes ends leaf'
+  preparing_drains self x m' stop notes ends leaf' is drains = subst (λ (l : OneLeaf B). Drains (meaning (berth_of l)) m' (leaf_state l) stop notes ends leaf') (sym is) drains
 
 -- ---- a deed, by what it is
 
 pub does_as : (d deed : Deed) (m m' : Meaning) (leaf : Leaf) (notes : List Note) (ends : Ending) (leaf' : Leaf) → deed ≡ d
-    → Moves d m m' leaf notes ends leaf' → Carries leaf leaf' notes m m' → FaultRose ends m m' → (reads_disk d ends ≡ false → m'.disk_reads ≡ m.disk_reads) → Does deed m m' leaf notes ends leaf'
+    → Moves d m m' leaf notes ends leaf' → Carries leaf leaf' notes m m' → FaultRose ends m m' → (reads_disk d ends ≡ false → m'.disk_reads ≡ m.disk_reads) → DeedDoes deed m m' leaf notes ends leaf'
 does_as d deed m m' leaf notes ends leaf' is moves carries cause reads =
-    subst (λ (e : Deed). Does e m m' leaf notes ends leaf') (sym is) (record { moves = moves; carries = carries; cause = cause; reads = reads })
+    subst (λ (e : Deed). DeedDoes e m m' leaf notes ends leaf') (sym is) (record { moves = moves; carries = carries; cause = cause; reads = reads })
 
 -- ---- its tables stay
 

@@ -8,7 +8,7 @@ use Rattle.leaf_steward.specs.declared.notes.Note.{Note}
 use Rattle.leaf_steward.specs.Seated.{AreFounded, watched_by}
 use Rattle.leaf_steward.specs.Making.{Makes}
 use Rattle.leaf_steward.proofs.WatchMakes.{makes_tables}
-use Rattle.leaf_machine.specs.States.{Serving, Shutting, GoesOn, GoesOnServing}
+use Rattle.leaf_machine.specs.States.{Serving, Shutting, ServingGoesOn, GoesOnServing}
 use Rattle.leaf_machine.proofs.UpMaking.{makes_join}
 use Rattle.leaf_machine.proofs.PrepCopies.{goes_none}
 use Rattle.leaf_moves.specs.Stage.{IsPreparing, Carries}
@@ -17,7 +17,7 @@ use Rattle.leaf_deeds.proofs.Carrying.{founded_on}
 
 -- ---- the leaf goes on
 
-pub goes_join : (s t u : Serving) (a b c : Meaning) → GoesOn s t a b → GoesOn t u b c → GoesOn s u a c
+pub goes_join : (s t u : Serving) (a b c : Meaning) → ServingGoesOn s t a b → ServingGoesOn t u b c → ServingGoesOn s u a c
 goes_join s t u a b c first second writes runs =
     let one : GoesOnServing s t a b = first writes runs in
     let two : GoesOnServing t u b c = second one.later one.runs in
@@ -30,7 +30,7 @@ goes_join s t u a b c first second writes runs =
 -- the steward made entries with these notes, the leaf went on, the region is as it was, and the disk was not read
 pub record GoesFar (x y : Shutting) (notes : List Note) (m n : Meaning) : Type 0 where
   pub made : Makes m.clock n.clock x.serving.seated notes y.serving.seated
-  pub goes : IsTrue m.tells → AreFounded x.serving.seated → GoesOn x.serving y.serving m n
+  pub goes : IsTrue m.tells → AreFounded x.serving.seated → ServingGoesOn x.serving y.serving m n
   pub region : SameRegion m n
   pub reads : n.disk_reads ≡ m.disk_reads
   pub passes : Passes m n

@@ -1,22 +1,16 @@
 -- What a deed does to one leaf.
-use Rattle.std.specs.Prelude.{◌≡◌, ℕ, ◌<◌, false, List, ⊤}
+use Rattle.std.specs.Prelude.{◌≡◌, false, List}
 use Rattle.berth_face.specs.Berth.{Meaning}
 use Rattle.leaf_steward.specs.declared.notes.Note.{Note}
 use Rattle.printed_lines.specs.declared.line.Deed.{Deed}
-use Rattle.printed_lines.specs.declared.line.Deed.TheVariants.{Flush}
 use Rattle.printed_lines.specs.declared.line.Ending.{Ending}
 use Rattle.transcript.specs.Counts.{reads_disk}
 use Rattle.leaf_moves.specs.Stage.{Leaf, Carries}
 use Rattle.leaf_moves.specs.Steps.{Moves}
 use Rattle.leaf_deeds.specs.Moves.{FaultRose}
 
--- the table of the deed, if it names one, is one of `tables`
-abbrev pub IsOfTables : ℕ → Deed → Type 0
-IsOfTables tables (Flush table) = table < tables
-IsOfTables tables _ = ⊤
-
 -- what a deed does to a leaf and its berth, with its notes and its ending
-pub record Does (deed : Deed) (m m' : Meaning) (leaf : Leaf) (notes : List Note) (ends : Ending) (leaf' : Leaf) : Type 0 where
+pub record DeedDoes (deed : Deed) (m m' : Meaning) (leaf : Leaf) (notes : List Note) (ends : Ending) (leaf' : Leaf) : Type 0 where
   pub moves : Moves deed m m' leaf notes ends leaf'
   pub carries : Carries leaf leaf' notes m m'
   pub cause : FaultRose ends m m'

@@ -18,12 +18,12 @@ use Rattle.leaf_machine.specs.States.{Shutting, Copying}
 use Rattle.leaf_machine.specs.Prepares.{AllTreated, IsCopyOf}
 use Rattle.printed_lines.specs.declared.line.Ending.{Ending}
 use Rattle.printed_lines.specs.declared.line.Ending.TheVariants as ending
-use Rattle.transcript.specs.Life.{MayMake, Steps}
+use Rattle.transcript.specs.Life.{MayMake, StepsOfDrain}
 use Rattle.transcript.specs.Life as life
 use Rattle.leaf_moves.specs.Stage as stage
-use Rattle.leaf_moves.specs.Stage.{Leaf, IsDown, IsPreparing, Stands, Carries, MeetsIf, seated_of, with_seats}
+use Rattle.leaf_moves.specs.Stage.{Leaf, IsDown, IsPreparing, LeafStands, Carries, MeetsIf, seated_of, with_seats}
 use Rattle.leaf_moves.specs.Modes.{HasShut, progress_of}
-use Rattle.leaf_moves.specs.Steps.{DrainMoves, HasCopyLength, Part, RegionStopped, SameRegion, noted_all}
+use Rattle.leaf_moves.specs.Steps.{DrainMoves, HasCopyLength, MakesNoted, RegionStopped, SameRegion, noted_all}
 use Rattle.leaf_deeds.specs.declared.drain.Shut.{Shut}
 use Rattle.leaf_deeds.specs.declared.drain.Shut.TheVariants as shut
 use Rattle.leaf_deeds.specs.Steps.{AreLeft, copy_left}
@@ -39,26 +39,26 @@ FaultRose _ m m' = ⊤
 -- ---- drains
 
 -- region and disk hold what belongs to a leaf that copies its tables
-abbrev pub CopyStands : Copying → Meaning → Type 0
-CopyStands c m = (writes : List ℕ → List Write) × Copies (watched_by c.seated) c.drain writes m
+abbrev pub CopyingStands : Copying → Meaning → Type 0
+CopyingStands c m = (writes : List ℕ → List Write) × Copies (watched_by c.seated) c.drain writes m
 
 -- the steward makes entries with these notes, and the leaf comes to copy its tables
 pub record CarriesCopy (x : Shutting) (c : Copying) (notes : List Note) (m m' : Meaning) : Type 0 where
   pub made : Makes m.clock m'.clock x.serving.seated notes c.seated
-  pub stands : (base : NamedStates) → IsTrue m.tells → AreFounded x.serving.seated → Stands base (IsPreparing x) m
-      → CopyStands c m' × moments.Told base (watched_by x.serving.seated) (watched_by c.seated) m m'
+  pub stands : (base : NamedStates) → IsTrue m.tells → AreFounded x.serving.seated → LeafStands base (IsPreparing x) m
+      → CopyingStands c m' × moments.Told base (watched_by x.serving.seated) (watched_by c.seated) m m'
 
 -- a leaf that copied its tables comes to rest, and its disk was not read
 pub record CopyRests (c : Copying) (y : Seated) (notes : List Note) (m m' : Meaning) : Type 0 where
   pub made : Makes m.clock m'.clock c.seated notes y
   pub reads : m'.disk_reads ≡ m.disk_reads
-  pub stands : (base : NamedStates) → IsTrue m.tells → AreFounded c.seated → stage.AreHandedNothing base → CopyStands c m
-      → Stands base (IsDown y) m' × moments.Told base (watched_by c.seated) (watched_by y) m m'
+  pub stands : (base : NamedStates) → IsTrue m.tells → AreFounded c.seated → stage.AreHandedNothing base → CopyingStands c m
+      → LeafStands base (IsDown y) m' × moments.Told base (watched_by c.seated) (watched_by y) m m'
 
--- tables were treated, with so many steps of the leaf's life, and by these notes
+-- tables were treated in `made` steps of the leaf's life, with these notes
 pub record Treated (x : Shutting) (made : ℕ) (notes : List Note) (y : Shutting) : Type 0 where
-  pub steps : (copy : ℕ) → Steps (length x.serving.seated.tables) copy made (life.Shutting (progress_of x)) (noted_all notes) (life.Shutting (progress_of y))
-  pub part : Part x.serving.seated notes y.serving.seated
+  pub steps : (copy : ℕ) → StepsOfDrain (length x.serving.seated.tables) copy made (life.Shutting (progress_of x)) (noted_all notes) (life.Shutting (progress_of y))
+  pub part : MakesNoted x.serving.seated notes y.serving.seated
 
 -- all tables that were left were treated, with these notes, and their copy is planned
 pub record IsCopyReady (x : Shutting) (m : Meaning) (stop : Option ℕ) (notes : List Note) (c : Copying) (m' : Meaning) (left : Option ℕ) : Type 0 where
@@ -89,7 +89,8 @@ pub record Drains (m m' : Meaning) (leaf : Leaf) (stop : Option ℕ) (notes : Li
   pub carries : Carries leaf leaf' notes m m'
   pub reads : m'.disk_reads ≡ m.disk_reads
 
--- tables were shut, by these notes, and so many steps are left: their copy is planned; or no step was left; or the drain has ended
+-- the end of a loop that shuts the tables, with its notes and the steps that are left: their copy is planned; or no
+-- step was left; or the drain has ended
 abbrev pub ShutsTables : {B : Type 0} → (B → Meaning) → Shutting → Meaning → Option ℕ → List Note → Shut B → Option ℕ → Type 0
 ShutsTables meaning x m stop notes (shut.Ready leaf) left = IsCopyReady x m stop notes leaf.0 (meaning leaf.1) left
 ShutsTables meaning x m stop notes (shut.Stopped leaf) left = IsStopped x m stop notes leaf.0 (meaning leaf.1)
@@ -110,7 +111,7 @@ abbrev pub RoseShut : {B : Type 0} → ℕ → ℕ → Shut B → Type 0
 RoseShut before now (shut.Halted leaf) = Rose before now
 RoseShut before now _ = ⊤
 
--- so many steps of a copy that takes so many, none of them the last
+-- a copy of `copy` steps has made `made` of them, and not the last
 abbrev pub MakesCopies : ℕ → ℕ → Type 0
 MakesCopies copy made = 0 < copy → made < copy
 
@@ -125,8 +126,8 @@ pub data CopyEnds (c : Copying) (stop : Option ℕ) (m m' : Meaning) (notes : Li
       → suc made ≡ copy_left c
       → MayMake stop (suc made)
       → EachNoted IsHandedNote 0 (length c.seated.tables) notes
-      → (IsTrue m.tells → AreFounded c.seated → CopyStands c m → IsWayLeft true m'.held.region Memory)
-      → (IsTrue m.tells → AreFounded c.seated → CopyStands c m → IsCopied c m')
+      → (IsTrue m.tells → AreFounded c.seated → CopyingStands c m → IsWayLeft true m'.held.region Memory)
+      → (IsTrue m.tells → AreFounded c.seated → CopyingStands c m → IsCopied c m')
       → ends ≡ ending.Done
       → CopyEnds c stop m m' notes ends y
   failed : (made : ℕ)
@@ -134,7 +135,7 @@ pub data CopyEnds (c : Copying) (stop : Option ℕ) (m m' : Meaning) (notes : Li
       → MayMake stop (suc made)
       → notes ≡ []
       → y ≡ c.seated
-      → (IsTrue m.tells → AreFounded c.seated → CopyStands c m → IsCopied c m')
+      → (IsTrue m.tells → AreFounded c.seated → CopyingStands c m → IsCopied c m')
       → ends ≡ ending.FaultRegion
       → CopyEnds c stop m m' notes ends y
   stopped : (made : ℕ)
@@ -142,12 +143,12 @@ pub data CopyEnds (c : Copying) (stop : Option ℕ) (m m' : Meaning) (notes : Li
       → stop ≡ Some made
       → notes ≡ []
       → y ≡ c.seated
-      → (IsTrue m.tells → AreFounded c.seated → CopyStands c m → RegionStopped (life.Copying made) m m')
+      → (IsTrue m.tells → AreFounded c.seated → CopyingStands c m → RegionStopped (life.Copying made) m m')
       → ends ≡ ending.Stopped
       → CopyEnds c stop m m' notes ends y
 
 -- a leaf that shuts its tables is killed: each open table is closed
-pub record IsKilled (x : Shutting) (y : Seated) (notes : List Note) (m m' : Meaning) : Type 0 where
+pub record ShuttingIsKilled (x : Shutting) (y : Seated) (notes : List Note) (m m' : Meaning) : Type 0 where
   pub count : ℕ
   pub all : length x.closed + count ≡ length x.serving.seated.tables
   pub each : EachNoted IsClosedNote (length x.closed) count notes

@@ -2,12 +2,12 @@
 ghost use Rattle.std.specs.Prelude.{◌≡◌, ◌≤◌, [], length};
 ghost use Rattle.berth_face.specs.Berth.{Passes};
 ghost use Rattle.leaf_moves.specs.Stage.{IsPreparing};
-ghost use Rattle.leaf_deeds.specs.Held.{KeepsSeats, berth_of, seats_of, state_of};
+ghost use Rattle.leaf_deeds.specs.Held.{KeepsSeats, berth_of, seats_of, leaf_state};
 ghost use Rattle.leaf_deeds.specs.Moves as move;
-ghost use Rattle.leaf_deeds.specs.Moves.{CopyEnds, CopyRests, Drains, FaultRose, IsKilled, RoseShut, berth_left};
+ghost use Rattle.leaf_deeds.specs.Moves.{CopyEnds, CopyRests, Drains, FaultRose, ShuttingIsKilled, RoseShut, berth_left};
 
 use crate::leaf::OneLeaf;
-use crate::steps::Steps;
+use crate::steps::StepsAllowed;
 use berth_face::{Berth, Gate};
 use leaf_machine::{Copied, Copying, Down, Notes, PrepareFault, Prepared, Preparing};
 use printed_lines::Ending;
@@ -15,18 +15,18 @@ use std::alloc::Global;
 use std::sync::Wait;
 use std::thread::Threads;
 
-/// How the shutting of the tables ended.
+/// The end of a loop over the steps that shut the tables.
 #[derive(Drop)]
 pub enum Shut<'t, B: Berth> {
     /// All tables are treated, and their copy is planned.
     Ready(Copying<'t, B>),
-    /// No step was left.
+    /// The allowed steps were used up.
     Stopped(Preparing<'t, B>),
     /// The disk failed.
     Halted(Preparing<'t, B>),
     /// Memory ran out, to seal a table or to plan the copy.
     Starved(Preparing<'t, B>),
-    /// The copy has no room.
+    /// The tables make no image.
     Roomless(Preparing<'t, B>),
 }
 
@@ -40,13 +40,14 @@ pub fn drain<'t, R: Wait + Threads + Sync, B: Berth, G: Gate>(
     notes: &mut Notes,
 ) -> (OneLeaf<'t, B>, Ending)
     requires none { notes.old ≡ [] }
-    ensures drains { Drains (B.meaning leaf.entry.1) (B.meaning (berth_of result.0)) (IsPreparing leaf.entry.0) stop notes.new result.1 (state_of result.0) }
+    ensures drains { Drains (B.meaning leaf.entry.1) (B.meaning (berth_of result.0)) (IsPreparing leaf.entry.0) stop
+        notes.new result.1 (leaf_state result.0) }
     ensures keeps { KeepsSeats leaf.entry.0.serving.seated (seats_of result.0) }
     ensures time { Passes (B.meaning leaf.entry.1) (B.meaning (berth_of result.0)) }
     ensures cause { FaultRose result.1 (B.meaning leaf.entry.1) (B.meaning (berth_of result.0)) }
 {
     leaf.shuts();
-    let mut steps = Steps { left: stop };
+    let mut steps = StepsAllowed { left: stop };
     let mut last = Notes::new();
     match shut_all(rt, alloc, gate, leaf, &mut steps, notes) {
         Shut::Ready(leaf) => {
@@ -71,11 +72,12 @@ fn shut_all<'t, R: Wait + Threads + Sync, B: Berth, G: Gate>(
     alloc: Global,
     gate: &G,
     leaf: Preparing<'t, B>,
-    steps: &mut Steps,
+    steps: &mut StepsAllowed,
     notes: &mut Notes,
 ) -> Shut<'t, B>
     requires none { notes.old ≡ [] }
-    ensures shuts { move.ShutsTables B.meaning leaf.entry.0 (B.meaning leaf.entry.1) steps.old.left notes.new result steps.new.left }
+    ensures shuts { move.ShutsTables B.meaning leaf.entry.0 (B.meaning leaf.entry.1) steps.old.left notes.new result
+        steps.new.left }
     ensures few { length notes.new ≤ 51 }
     ensures time { Passes (B.meaning leaf.entry.1) (B.meaning (berth_left result)) }
     ensures cause { RoseShut (B.meaning leaf.entry.1).disk_faults (B.meaning (berth_left result)).disk_faults result }
@@ -106,7 +108,7 @@ fn killed<'t, R: Wait + Threads + Sync, B: Berth, G: Gate>(
     leaf: Preparing<'t, B>,
     notes: &mut Notes,
 ) -> Down<'t, B>
-    ensures killed { IsKilled leaf.entry.0 result.0 notes.new (B.meaning leaf.entry.1) (B.meaning result.1) }
+    ensures killed { ShuttingIsKilled leaf.entry.0 result.0 notes.new (B.meaning leaf.entry.1) (B.meaning result.1) }
     ensures berth { result.1 ≡ leaf.entry.1 }
 {
     leaf.kill(rt, gate, notes)
@@ -117,11 +119,12 @@ fn copy_all<'t, R: Wait + Threads + Sync, B: Berth, G: Gate>(
     rt: &R,
     gate: &G,
     leaf: Copying<'t, B>,
-    steps: &mut Steps,
+    steps: &mut StepsAllowed,
     notes: &mut Notes,
 ) -> (Down<'t, B>, Ending)
     requires none { notes.old ≡ [] }
-    ensures ends { CopyEnds leaf.entry.0 steps.old.left (B.meaning leaf.entry.1) (B.meaning result.0.1) notes.new result.1 result.0.0 }
+    ensures ends { CopyEnds leaf.entry.0 steps.old.left (B.meaning leaf.entry.1) (B.meaning result.0.1) notes.new
+        result.1 result.0.0 }
     ensures rests { CopyRests leaf.entry.0 result.0.0 notes.new (B.meaning leaf.entry.1) (B.meaning result.0.1) }
     ensures time { Passes (B.meaning leaf.entry.1) (B.meaning result.0.1) }
     ensures cause { FaultRose result.1 (B.meaning leaf.entry.1) (B.meaning result.0.1) }

@@ -2,18 +2,19 @@
 ghost use Rattle.std.specs.Prelude.{◌≡◌, ◌<◌, false, [], length, slice_set, IsOk};
 ghost use Rattle.berth_face.specs.Berth.{Passes};
 ghost use Rattle.leaf_history.specs.History.{LegalFrom};
-ghost use Rattle.turnstile.specs.Seats.{IsSeatOf, LearnsOthers, Told};
+ghost use Rattle.turnstile.specs.Seats.{IsSeatOf, LearnsOthers, SeesAlso};
 ghost use Rattle.crash_moments.specs.Left.{NamedStates};
 ghost use Rattle.leaf_table.specs.Turns.{is_founded, start_of};
 ghost use Rattle.leaf_table.specs.Calls.{SeatView, base_seen, seen_of};
 ghost use Rattle.leaf_steward.specs.Seated.{AreFounded, AtPlace};
+ghost use Rattle.script_text.specs.Orders.{IsOfTables};
 ghost use Rattle.printed_lines.specs.declared.line.Ending.TheVariants as ending;
 ghost use Rattle.printed_lines.specs.declared.line.Deed.TheVariants.{Start};
 ghost use Rattle.transcript.specs.Counts.{reads_disk};
-ghost use Rattle.leaf_moves.specs.Stage.{Carries, Stands, with_seats};
+ghost use Rattle.leaf_moves.specs.Stage.{Carries, LeafStands, with_seats};
 ghost use Rattle.leaf_moves.specs.Steps.{FlushMoves, KillMoves, StartMoves, IsDownLeaf, ending_of, ending_of_flush};
-ghost use Rattle.leaf_deeds.specs.Held.{KeepsSeats, state_of, berth_of, seats_of};
-ghost use Rattle.leaf_deeds.specs.Deeds.{Does, IsOfTables};
+ghost use Rattle.leaf_deeds.specs.Held.{KeepsSeats, leaf_state, berth_of, seats_of};
+ghost use Rattle.leaf_deeds.specs.Deeds.{DeedDoes};
 ghost use Rattle.leaf_deeds.specs.Moves.{Drains, FaultRose};
 
 use crate::drain;
@@ -38,12 +39,20 @@ impl<'t, B: Berth> OneLeaf<'t, B> {
     pub fn meet(&mut self, table: u32, seat: &mut Seat)
         requires table { table < length (seats_of self.old).tables }
         requires seats { length (seats_of self.old).seats ≡ length (seats_of self.old).tables }
-        requires seat { AtPlace (λ t v. IsSeatOf seat.old t.site × LegalFrom (is_founded (base_seen t)) (start_of (base_seen t)) (seen_of seat.old)) (seats_of self.old) table }
-        ensures learns { AtPlace (λ t v. (w : SeatView) × (state_of self.new ≡ with_seats (state_of self.old) (slice_set (seats_of self.old).seats table w)) × Told v seat.old w × LearnsOthers v w) (seats_of self.old) table }
-        ensures seat { AtPlace (λ t v. IsSeatOf seat.new t.site × Told seat.old v seat.new × LearnsOthers seat.old seat.new
-            × LegalFrom (is_founded (base_seen t)) (start_of (base_seen t)) (seen_of seat.new)) (seats_of self.old) table }
+        requires seat { AtPlace (λ t v. IsSeatOf seat.old t.site
+            × LegalFrom (is_founded (base_seen t)) (start_of (base_seen t)) (seen_of seat.old)) (seats_of self.old)
+            table }
+        ensures learns { AtPlace (λ t v. (w : SeatView)
+            × (leaf_state self.new ≡ with_seats (leaf_state self.old) (slice_set (seats_of self.old).seats table w))
+            × SeesAlso v seat.old w × LearnsOthers v w) (seats_of self.old) table }
+        ensures seat { AtPlace (λ t v. IsSeatOf seat.new t.site × SeesAlso seat.old v seat.new
+            × LearnsOthers seat.old seat.new
+            × LegalFrom (is_founded (base_seen t)) (start_of (base_seen t)) (seen_of seat.new)) (seats_of self.old)
+            table }
         ensures berth { berth_of self.new ≡ berth_of self.old }
-        ensures stands { (base : NamedStates) → AreFounded (seats_of self.old) → Stands base (state_of self.old) (B.meaning (berth_of self.old)) → Stands base (state_of self.new) (B.meaning (berth_of self.new)) }
+        ensures stands { (base : NamedStates) → AreFounded (seats_of self.old)
+            → LeafStands base (leaf_state self.old) (B.meaning (berth_of self.old))
+            → LeafStands base (leaf_state self.new) (B.meaning (berth_of self.new)) }
     {
         let met = match self {
             OneLeaf::Down(leaf) => leaf.meet(table, seat),
@@ -67,7 +76,8 @@ impl<'t, B: Berth> OneLeaf<'t, B> {
     ) -> (OneLeaf<'t, B>, Ending)
         requires none { notes.old ≡ [] }
         requires table { IsOfTables (length (seats_of self).tables) deed }
-        ensures does { Does deed (B.meaning (berth_of self.entry)) (B.meaning (berth_of result.0)) (state_of self.entry) notes.new result.1 (state_of result.0) }
+        ensures does { DeedDoes deed (B.meaning (berth_of self.entry)) (B.meaning (berth_of result.0))
+            (leaf_state self.entry) notes.new result.1 (leaf_state result.0) }
         ensures keeps { KeepsSeats (seats_of self.entry) (seats_of result.0) }
         ensures time { Passes (B.meaning (berth_of self.entry)) (B.meaning (berth_of result.0)) }
     {
@@ -92,12 +102,15 @@ impl<'t, B: Berth> OneLeaf<'t, B> {
         notes: &mut Notes,
     ) -> (OneLeaf<'t, B>, Ending)
         requires { notes.old ≡ [] }
-        ensures moves { StartMoves (B.meaning (berth_of self.entry)) (B.meaning (berth_of result.0)) (state_of self.entry) notes.new result.1 (state_of result.0) }
-        ensures carries { Carries (state_of self.entry) (state_of result.0) notes.new (B.meaning (berth_of self.entry)) (B.meaning (berth_of result.0)) }
+        ensures moves { StartMoves (B.meaning (berth_of self.entry)) (B.meaning (berth_of result.0))
+            (leaf_state self.entry) notes.new result.1 (leaf_state result.0) }
+        ensures carries { Carries (leaf_state self.entry) (leaf_state result.0) notes.new
+            (B.meaning (berth_of self.entry)) (B.meaning (berth_of result.0)) }
         ensures keeps { KeepsSeats (seats_of self.entry) (seats_of result.0) }
         ensures time { Passes (B.meaning (berth_of self.entry)) (B.meaning (berth_of result.0)) }
         ensures cause { FaultRose result.1 (B.meaning (berth_of self.entry)) (B.meaning (berth_of result.0)) }
-        ensures reads { reads_disk Start result.1 ≡ false → (B.meaning (berth_of result.0)).disk_reads ≡ (B.meaning (berth_of self.entry)).disk_reads }
+        ensures reads { reads_disk Start result.1 ≡ false → (B.meaning (berth_of result.0)).disk_reads
+            ≡ (B.meaning (berth_of self.entry)).disk_reads }
     {
         match self {
             OneLeaf::Up(up) => (OneLeaf::Up(up), Ending::NotDown),
@@ -119,8 +132,10 @@ impl<'t, B: Berth> OneLeaf<'t, B> {
     ) -> Ending
         requires notes { notes.old ≡ [] }
         requires table { table < length (seats_of self.old).tables }
-        ensures moves { FlushMoves table (B.meaning (berth_of self.old)) (B.meaning (berth_of self.new)) (state_of self.old) notes.new result (state_of self.new) }
-        ensures carries { Carries (state_of self.old) (state_of self.new) notes.new (B.meaning (berth_of self.old)) (B.meaning (berth_of self.new)) }
+        ensures moves { FlushMoves table (B.meaning (berth_of self.old)) (B.meaning (berth_of self.new))
+            (leaf_state self.old) notes.new result (leaf_state self.new) }
+        ensures carries { Carries (leaf_state self.old) (leaf_state self.new) notes.new (B.meaning (berth_of self.old))
+            (B.meaning (berth_of self.new)) }
         ensures keeps { KeepsSeats (seats_of self.old) (seats_of self.new) }
         ensures time { Passes (B.meaning (berth_of self.old)) (B.meaning (berth_of self.new)) }
         ensures cause { FaultRose result (B.meaning (berth_of self.old)) (B.meaning (berth_of self.new)) }
@@ -141,8 +156,10 @@ impl<'t, B: Berth> OneLeaf<'t, B> {
         notes: &mut Notes,
     ) -> (OneLeaf<'t, B>, Ending)
         requires { notes.old ≡ [] }
-        ensures moves { KillMoves (B.meaning (berth_of self.entry)) (B.meaning (berth_of result.0)) (state_of self.entry) notes.new result.1 (state_of result.0) }
-        ensures carries { Carries (state_of self.entry) (state_of result.0) notes.new (B.meaning (berth_of self.entry)) (B.meaning (berth_of result.0)) }
+        ensures moves { KillMoves (B.meaning (berth_of self.entry)) (B.meaning (berth_of result.0))
+            (leaf_state self.entry) notes.new result.1 (leaf_state result.0) }
+        ensures carries { Carries (leaf_state self.entry) (leaf_state result.0) notes.new
+            (B.meaning (berth_of self.entry)) (B.meaning (berth_of result.0)) }
         ensures keeps { KeepsSeats (seats_of self.entry) (seats_of result.0) }
         ensures berth { berth_of result.0 ≡ berth_of self.entry }
         ensures cause { FaultRose result.1 (B.meaning (berth_of self.entry)) (B.meaning (berth_of result.0)) }
@@ -167,7 +184,8 @@ impl<'t, B: Berth> OneLeaf<'t, B> {
         notes: &mut Notes,
     ) -> (OneLeaf<'t, B>, Ending)
         requires { notes.old ≡ [] }
-        ensures drains { Drains (B.meaning (berth_of self.entry)) (B.meaning (berth_of result.0)) (state_of self.entry) stop notes.new result.1 (state_of result.0) }
+        ensures drains { Drains (B.meaning (berth_of self.entry)) (B.meaning (berth_of result.0))
+            (leaf_state self.entry) stop notes.new result.1 (leaf_state result.0) }
         ensures keeps { KeepsSeats (seats_of self.entry) (seats_of result.0) }
         ensures time { Passes (B.meaning (berth_of self.entry)) (B.meaning (berth_of result.0)) }
         ensures cause { FaultRose result.1 (B.meaning (berth_of self.entry)) (B.meaning (berth_of result.0)) }

@@ -1,14 +1,14 @@
 // The steps that a drain may still make.
 ghost use Rattle.leaf_deeds.specs.Steps.{Spends};
 
-/// The steps that a drain may still make before it is stopped. None: as many as it takes.
+/// The number of steps that a drain may still make. None: no limit.
 #[derive(Drop)]
-pub struct Steps {
+pub struct StepsAllowed {
     pub left: Option<u32>,
 }
 
-impl Steps {
-    /// Takes one of the steps that are left. False if none is.
+impl StepsAllowed {
+    /// Uses one step. False if none is left.
     pub fn spend(&mut self) -> bool
         ensures { Spends self.old.left result self.new.left }
     {

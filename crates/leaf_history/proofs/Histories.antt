@@ -3,10 +3,10 @@ use Rattle.std.proofs.Common.{◌≡◌, ℕ, ◌+◌, ◌-◌, ◌≤◌, Bool,
 use Rattle.std.specs.Prelude.{if◌then◌else◌, ◌<◌}
 use Rattle.leaf_history.specs.Calls.{Call}
 use Rattle.leaf_history.specs.Calls as call
-use Rattle.leaf_history.specs.Replies.{Reply}
+use Rattle.leaf_history.specs.Replies.{EntryReply}
 use Rattle.leaf_model.specs.Content.{Contents}
 use Rattle.leaf_history.specs.Replies as reply
-use Rattle.leaf_model.specs.declared.rows.Row.{Row}
+use Rattle.row_model.specs.declared.rows.Row.{Row}
 use Rattle.leaf_model.specs.declared.writes.Write.{Write}
 use Rattle.leaf_model.specs.declared.writes.Write.TheVariants as write
 use Rattle.leaf_history.specs.History.{HistoryState, Entry, changed, is_refusal, written, opened, AddReply, RemoveReply, OpenAllowed, LegalFrom, Allowed, after, after_entry}
@@ -36,7 +36,7 @@ clash true f t = cc
 clash false f t = cc
 
 -- what an accepted call leaves does not matter where the table is shut
-shut_add : (s x : HistoryState) (rows : List Row) (r : Reply) → s.live ≡ false → AddReply s rows r → (if is_refusal r then s else x) ≡ s
+shut_add : (s x : HistoryState) (rows : List Row) (r : EntryReply) → s.live ≡ false → AddReply s rows r → (if is_refusal r then s else x) ≡ s
 shut_add s x rows reply.Shut shut a = refl
 shut_add s x rows reply.Full shut a = refl
 shut_add s x rows reply.NoMemory shut a = refl
@@ -46,7 +46,7 @@ shut_add s x rows (reply.Groups gs) shut a = absurd a
 shut_add s x rows (reply.Counted n) shut a = absurd a
 shut_add s x rows reply.Noted shut a = absurd a
 
-shut_remove : (s x : HistoryState) (w : Write) (r : Reply) → s.live ≡ false → RemoveReply s w r → (if is_refusal r then s else x) ≡ s
+shut_remove : (s x : HistoryState) (w : Write) (r : EntryReply) → s.live ≡ false → RemoveReply s w r → (if is_refusal r then s else x) ≡ s
 shut_remove s x w reply.Shut shut a = refl
 shut_remove s x w reply.NoMemory shut a = refl
 shut_remove s x w reply.Full shut a = absurd a
@@ -57,7 +57,7 @@ shut_remove s x w (reply.Counted n) shut a = absurd a
 shut_remove s x w reply.Noted shut a = absurd a
 
 -- an ask changes nothing at all
-shut_ask : (s : HistoryState) (r : Reply) → (if is_refusal r then s else s) ≡ s
+shut_ask : (s : HistoryState) (r : EntryReply) → (if is_refusal r then s else s) ≡ s
 shut_ask s reply.Shut = refl
 shut_ask s _ = refl
 
@@ -65,7 +65,7 @@ no_steward : (caller : ℕ) → 0 < caller → caller ≡ 0 → ⊥
 no_steward caller h e = omega (arith, h, e)
 
 -- on a shut table a caller's entry changes nothing
-pub shut_call : (founded : Bool) (s : HistoryState) (caller : ℕ) (c : Call) (r : Reply) → s.live ≡ false → 0 < caller → Allowed founded s caller c r
+pub shut_call : (founded : Bool) (s : HistoryState) (caller : ℕ) (c : Call) (r : EntryReply) → s.live ≡ false → 0 < caller → Allowed founded s caller c r
     → (if is_refusal r then s else changed founded s c) ≡ s
 shut_call founded s caller (call.Add rows) r shut h a = shut_add s _ rows r shut a.1
 shut_call founded s caller (call.Expire horizon) r shut h a = shut_remove s _ (write.Expire horizon) r shut a.1
@@ -77,7 +77,7 @@ shut_call founded s caller call.Shut r shut h a = absurd (no_steward caller h a.
 shut_call founded s caller call.Done r shut h a = absurd (no_steward caller h a.0)
 shut_call founded s caller (call.Open n contents) r shut h a = absurd (no_steward caller h a.0)
 
-is_open_add : (s : HistoryState) (rows : List Row) (r : Reply) → AddReply s rows r → is_refusal r ≡ false → s.live ≡ true
+is_open_add : (s : HistoryState) (rows : List Row) (r : EntryReply) → AddReply s rows r → is_refusal r ≡ false → s.live ≡ true
 is_open_add s rows (reply.Added kept late) a by_reply = a.0
 is_open_add s rows reply.Shut a by_reply = absurd (clash true by_reply refl)
 is_open_add s rows reply.Full a by_reply = absurd (clash true by_reply refl)
@@ -87,7 +87,7 @@ is_open_add s rows (reply.Groups gs) a by_reply = absurd a
 is_open_add s rows (reply.Counted n) a by_reply = absurd a
 is_open_add s rows reply.Noted a by_reply = absurd a
 
-is_open_remove : (s : HistoryState) (w : Write) (r : Reply) → RemoveReply s w r → is_refusal r ≡ false → s.live ≡ true
+is_open_remove : (s : HistoryState) (w : Write) (r : EntryReply) → RemoveReply s w r → is_refusal r ≡ false → s.live ≡ true
 is_open_remove s w (reply.Removed n) a by_reply = a.0
 is_open_remove s w reply.Shut a by_reply = absurd (clash true by_reply refl)
 is_open_remove s w reply.NoMemory a by_reply = absurd (clash true by_reply refl)
@@ -125,7 +125,7 @@ keeps_both s t u a b = record {
 }
 
 -- what one caller's entry leaves
-pub caller_keeps : (founded : Bool) (s : HistoryState) (by : ℕ) (c : Call) (r : Reply) → 0 < by → Allowed founded s by c r → CallersKeep s (if is_refusal r then s else changed founded s c)
+pub caller_keeps : (founded : Bool) (s : HistoryState) (by : ℕ) (c : Call) (r : EntryReply) → 0 < by → Allowed founded s by c r → CallersKeep s (if is_refusal r then s else changed founded s c)
 caller_keeps founded s by (call.Add rows) r h a = keeps_written s (write.Add rows) (is_refusal r) (is_open_add s rows r a.1)
 caller_keeps founded s by (call.Expire horizon) r h a = keeps_written s (write.Expire horizon) (is_refusal r) (is_open_remove s (write.Expire horizon) r a.1)
 caller_keeps founded s by (call.Keep n) r h a = keeps_written s (write.Keep n) (is_refusal r) (is_open_remove s (write.Keep n) r a.1)
@@ -141,6 +141,30 @@ pub others_keep : (founded : Bool) (s : HistoryState) (es : List Entry) → Lega
 others_keep founded s [] l o = keeps_all s
 others_keep founded s (e ∷ es) l o = keeps_both s (after_entry founded s e) (after founded s (e ∷ es)) (caller_keeps founded s e.caller e.call e.reply o.0 l.0) (others_keep founded (after_entry founded s e) es l.1 o.1)
 
+-- no entry changes how many spare columns a table has
+opened_spare : (founded : Bool) (s : HistoryState) (n : ℕ) (contents : Contents) → (opened founded s n contents).spare ≡ s.spare
+opened_spare true s n contents = refl
+opened_spare false s n contents = refl
+
+changed_spare : (founded : Bool) (s : HistoryState) (c : Call) → (changed founded s c).spare ≡ s.spare
+changed_spare founded s (call.Add rows) = refl
+changed_spare founded s (call.Expire horizon) = refl
+changed_spare founded s (call.Keep n) = refl
+changed_spare founded s (call.Ask q) = refl
+changed_spare founded s call.Take = refl
+changed_spare founded s (call.Flushed n) = refl
+changed_spare founded s call.Shut = refl
+changed_spare founded s call.Done = refl
+changed_spare founded s (call.Open n contents) = opened_spare founded s n contents
+
+entry_spare : (s t : HistoryState) (refused : Bool) → t.spare ≡ s.spare → (if refused then s else t).spare ≡ s.spare
+entry_spare s t true same = refl
+entry_spare s t false same = same
+
+pub after_spare : (founded : Bool) (s : HistoryState) (es : List Entry) → (after founded s es).spare ≡ s.spare
+after_spare founded s [] = refl
+after_spare founded s (e ∷ es) = after_spare founded (after_entry founded s e) es ∙ entry_spare s (changed founded s e.call) (is_refusal e.reply) (changed_spare founded s e.call)
+
 longer : (ws : List Write) (w : Write) → length (ws ++ w ∷ []) ≡ length ws + 1
 longer [] w = refl
 longer (x ∷ ws) w = let further = longer ws w in omega (arith, further)
@@ -155,7 +179,7 @@ counted_opened : (founded : Bool) (s : HistoryState) (n : ℕ) (contents : Conte
 counted_opened true s n contents c a = record { taken = let l = length_take (n - s.handed_in) s.writes (omega (arith, a.accepted, c.handed_in)) in omega (arith, l, a.flushed, a.accepted, c.handed_in); handed_in = omega (arith, a.flushed, c.handed_in) }
 counted_opened false s n contents c a = record { taken = omega arith; handed_in = omega arith }
 
-counted_changed : (founded : Bool) (s : HistoryState) (by : ℕ) (c : Call) (r : Reply) → HasSoundCounts s → Allowed founded s by c r → HasSoundCounts (changed founded s c)
+counted_changed : (founded : Bool) (s : HistoryState) (by : ℕ) (c : Call) (r : EntryReply) → HasSoundCounts s → Allowed founded s by c r → HasSoundCounts (changed founded s c)
 counted_changed founded s by (call.Add rows) r is a = counted_written s (write.Add rows) is
 counted_changed founded s by (call.Expire horizon) r is a = counted_written s (write.Expire horizon) is
 counted_changed founded s by (call.Keep n) r is a = counted_written s (write.Keep n) is

@@ -1,7 +1,7 @@
 -- Worked histories, which the definitions compute.
 use Rattle.std.specs.Prelude.{◌≡◌, ℕ, List, [], ◌∷◌, map, pos, None, codes, refl, true}
 use Rattle.std.proofs.Common.{lit<, lit≤}
-use Rattle.leaf_model.specs.declared.rows.Row.{Row}
+use Rattle.row_model.specs.declared.rows.Row.{Row}
 use Rattle.leaf_model.specs.declared.writes.Write.TheVariants as write
 use Rattle.leaf_model.specs.declared.queries.Agg.TheVariants.{Count}
 use Rattle.leaf_model.specs.declared.queries.Query.{Query}
@@ -9,14 +9,14 @@ use Rattle.leaf_model.specs.Content.{content, nothing}
 use Rattle.leaf_model.specs.Groups.{groups}
 use Rattle.leaf_history.specs.Calls.{Call}
 use Rattle.leaf_history.specs.Calls as call
-use Rattle.leaf_history.specs.Replies.{Reply}
+use Rattle.leaf_history.specs.Replies.{EntryReply}
 use Rattle.leaf_history.specs.Replies as reply
-use Rattle.leaf_history.specs.History.{Entry, Legal, no_base, after, held}
+use Rattle.leaf_history.specs.History.{Entry, Legal, no_base, after, contents_held}
 
 abbrev times : List ℕ → List Row
 times ts = map (λ t. record { time = pos t; cells = [] }) ts
 
-abbrev entry : ℕ → Call → Reply → Entry
+abbrev entry : ℕ → Call → EntryReply → Entry
 entry caller c r = record { caller = caller; call = c; reply = r; clock = 0 }
 
 abbrev count_all : Query
@@ -80,5 +80,5 @@ drained_legal = (
   ),
 )
 
-rows_again : (held (after true no_base drained)).rows ≡ times (5 ∷ [])
+rows_again : (contents_held (after true no_base drained)).rows ≡ times (5 ∷ [])
 rows_again = refl

@@ -1,6 +1,6 @@
 -- The calls of a table: the first four are callers', the others the leaf's steward's.
 use Rattle.std.specs.Prelude.{ℕ, List, ℤ}
-use Rattle.leaf_model.specs.declared.rows.Row.{Row}
+use Rattle.row_model.specs.declared.rows.Row.{Row}
 use Rattle.leaf_model.specs.declared.queries.Query.{Query}
 use Rattle.leaf_model.specs.Content.{Contents}
 
@@ -21,5 +21,5 @@ pub data Call : Type 0 where
   Shut : Call
   -- the steward says that the shut table was handed over whole
   Done : Call
-  -- the steward opens the table with the contents that so many writes came to
+  -- the steward opens the table with these contents, the fold of so many writes
   Open : (writes : ℕ) → (contents : Contents) → Call

@@ -2,9 +2,9 @@
 use Rattle.std.specs.Prelude.{◌≡◌, ℕ, ◌+◌, ◌-◌, ◌<◌, ◌≤◌, ◌^◌, max, Bool, true, false, List, [], ◌∷◌, ◌++◌, length, take, drop, fold, if◌then◌else◌, ⊤}
 use Rattle.leaf_history.specs.Calls.{Call}
 use Rattle.leaf_history.specs.Calls as call
-use Rattle.leaf_history.specs.Replies.{Reply}
+use Rattle.leaf_history.specs.Replies.{EntryReply}
 use Rattle.leaf_history.specs.Replies as reply
-use Rattle.leaf_model.specs.declared.rows.Row.{Row}
+use Rattle.row_model.specs.declared.rows.Row.{Row}
 use Rattle.leaf_model.specs.declared.queries.Query.{Query}
 use Rattle.leaf_model.specs.declared.writes.Write.{Write}
 use Rattle.leaf_model.specs.declared.writes.Write.TheVariants as write
@@ -15,7 +15,7 @@ use Rattle.leaf_model.specs.Groups.{groups}
 pub record Entry : Type 0 where
   pub caller : ℕ
   pub call : Call
-  pub reply : Reply
+  pub reply : EntryReply
   pub clock : ℕ  -- of a steward's entry, the clock of the leaf's berth at the call; no rule looks at it
 
 -- The state of a table. W is its accepted writes: first those that were handed in with `before`, then `writes`. A table
@@ -28,6 +28,7 @@ pub record HistoryState : Type 0 where
   pub taken : ℕ  -- how many writes the steward has taken
   pub flushed : ℕ  -- how many the disk is known to hold
   pub handed : Bool  -- drained, and not opened since
+  pub spare : ℕ  -- columns that it may have beyond one for each row and each cell of its writes; no rule looks at it
 
 -- the length of W
 abbrev pub write_count : HistoryState → ℕ
@@ -38,16 +39,25 @@ abbrev pub untaken : HistoryState → List Write
 untaken s = drop (s.taken - s.handed_in) s.writes
 
 -- what the table holds
-abbrev pub held : HistoryState → Contents
-held s = content_from s.before s.writes
+abbrev pub contents_held : HistoryState → Contents
+contents_held s = content_from s.before s.writes
 
--- a shut table of these writes; the disk is known to hold the first n of them
-abbrev pub base_of : List Write → ℕ → HistoryState
-base_of writes flushed = record { before = nothing; handed_in = 0; writes = writes; live = false; taken = length writes; flushed = flushed; handed = false }
+-- a shut table of these writes, with so many spare columns; the disk is known to hold the first n writes
+abbrev pub base_of : List Write → ℕ → ℕ → HistoryState
+base_of writes flushed spare = record {
+  before = nothing;
+  handed_in = 0;
+  writes = writes;
+  live = false;
+  taken = length writes;
+  flushed = flushed;
+  handed = false;
+  spare = spare;
+}
 
 -- a table without a known base begins shut and with no writes
 abbrev pub no_base : HistoryState
-no_base = base_of [] 0
+no_base = base_of [] 0 0
 
 -- one more accepted write
 abbrev pub written : HistoryState → Write → HistoryState
@@ -61,7 +71,7 @@ first_writes s n = take (n - s.handed_in) s.writes
 -- other has what is handed in
 abbrev pub opened : Bool → HistoryState → ℕ → Contents → HistoryState
 opened true s n contents = record s { writes = first_writes s n; live = true; taken = n; flushed = n; handed = false }
-opened false s n contents = record { before = contents; handed_in = n; writes = []; live = true; taken = n; flushed = n; handed = false }
+opened false s n contents = record { before = contents; handed_in = n; writes = []; live = true; taken = n; flushed = n; handed = false; spare = s.spare }
 
 module _ (founded : Bool) (s : HistoryState) where
   -- the state after a call that was accepted
@@ -76,7 +86,7 @@ module _ (founded : Bool) (s : HistoryState) where
   changed call.Done = record s { handed = true }
   changed (call.Open n contents) = opened founded s n contents
 
-abbrev pub is_refusal : Reply → Bool
+abbrev pub is_refusal : EntryReply → Bool
 is_refusal reply.Shut = true
 is_refusal reply.Full = true
 is_refusal reply.NoMemory = true
@@ -92,29 +102,29 @@ after founded s entries = fold (after_entry founded) s entries
 
 module _ (s : HistoryState) where
   -- the replies that an add may have: a table is full where it would pass 2^40 rows
-  abbrev pub AddReply : List Row → Reply → Type 0
+  abbrev pub AddReply : List Row → EntryReply → Type 0
   AddReply rows reply.Shut = s.live ≡ false
   AddReply rows reply.NoMemory = s.live ≡ true
-  AddReply rows reply.Full = (s.live ≡ true) × (2 ^ 40 < length (held s).rows + kept_count (held s) rows)
-  AddReply rows (reply.Added kept late) = (s.live ≡ true) × (length (held s).rows + kept_count (held s) rows ≤ 2 ^ 40) × (kept ≡ kept_count (held s) rows) × (late ≡ late_count (held s) rows)
+  AddReply rows reply.Full = (s.live ≡ true) × (2 ^ 40 < length (contents_held s).rows + kept_count (contents_held s) rows)
+  AddReply rows (reply.Added kept late) = (s.live ≡ true) × (length (contents_held s).rows + kept_count (contents_held s) rows ≤ 2 ^ 40) × (kept ≡ kept_count (contents_held s) rows) × (late ≡ late_count (contents_held s) rows)
   AddReply rows _ = ⊥
 
   -- the replies that an expiry or a keep may have
-  abbrev pub RemoveReply : Write → Reply → Type 0
+  abbrev pub RemoveReply : Write → EntryReply → Type 0
   RemoveReply w reply.Shut = s.live ≡ false
   RemoveReply w reply.NoMemory = s.live ≡ true
-  RemoveReply w (reply.Removed n) = (s.live ≡ true) × (n ≡ removed_count (held s) w)
+  RemoveReply w (reply.Removed n) = (s.live ≡ true) × (n ≡ removed_count (contents_held s) w)
   RemoveReply w _ = ⊥
 
   -- the replies that a query may have
-  abbrev pub AskReply : Query → Reply → Type 0
+  abbrev pub AskReply : Query → EntryReply → Type 0
   AskReply q reply.Shut = s.live ≡ false
   AskReply q reply.NoMemory = s.live ≡ true
-  AskReply q (reply.Groups gs) = (s.live ≡ true) × (gs ≡ groups q (held s).rows)
+  AskReply q (reply.Groups gs) = (s.live ≡ true) × (gs ≡ groups q (contents_held s).rows)
   AskReply q _ = ⊥
 
   -- the reply tells the length of W
-  abbrev pub CountReply : Reply → Type 0
+  abbrev pub CountReply : EntryReply → Type 0
   CountReply (reply.Counted n) = n ≡ write_count s
   CountReply _ = ⊥
 
@@ -132,7 +142,7 @@ OpenAllowed false s n contents = ⊤
 
 module _ (founded : Bool) (s : HistoryState) (caller : ℕ) where
   -- the entries that may come next: who may call, and the replies that agree with the state
-  abbrev pub Allowed : Call → Reply → Type 0
+  abbrev pub Allowed : Call → EntryReply → Type 0
   Allowed (call.Add rows) r = (0 < caller) × AddReply s rows r
   Allowed (call.Expire horizon) r = (0 < caller) × RemoveReply s (write.Expire horizon) r
   Allowed (call.Keep n) r = (0 < caller) × RemoveReply s (write.Keep n) r

@@ -7,7 +7,7 @@ ghost use Rattle.leaf_history.specs.Laws.{CountsStay, FrontsAreLegal, HistoriesG
 /// legal. A history leads to one state. Entries of callers leave what the steward knows.
 pub fn histories_go_on()
     ensures fronts { FrontsAreLegal }
-    ensures on { HistoriesGoOn }
+    ensures goes_on { HistoriesGoOn }
     ensures state { OneState }
     ensures shut { ShutStaysShut }
     ensures others { OthersKeep }

@@ -11,7 +11,7 @@ use Rattle.drain_copy.specs.declared.step.Next.{Next}
 use Rattle.drain_copy.specs.declared.step.Next.TheVariants as next
 use Rattle.drain_copy.specs.declared.step.DrainStep.{DrainStep}
 use Rattle.drain_copy.specs.declared.step.DrainStep.TheVariants.{Finished}
-use Rattle.drain_copy.specs.Draining.{DrainState, Draining, DrainsFrom, StandsAt, AllClosed, IsStep, IsStepFrom, left, left_from}
+use Rattle.drain_copy.specs.Draining.{DrainState, Draining, DrainsFrom, RegionStandsAt, AllClosed, IsStep, IsStepFrom, left, left_from}
 use Rattle.leaf_words.specs.declared.ways.Way.TheVariants.{Memory}
 use Rattle.leaf_opening.specs.Starts.{IsWayLeft}
 use Rattle.crash_moments.specs.Watched.{Watched, was_opened}
@@ -99,7 +99,7 @@ last_after d later is = last_to d.next d.heap later.next later.heap is.step
 
 -- behind the last the region is the image
 pub last_region : (d later : DrainState) (region : List ℕ) → IsStep d Finished later → Draining later region → later.image ≡ d.image → region ≡ d.image
-last_region d later region is stands image = (subst (λ (n : Next). StandsAt n later.image later.heap region) (last_after d later is) stands).0 ∙ image
+last_region d later region is stands image = (subst (λ (n : Next). RegionStandsAt n later.image later.heap region) (last_after d later is) stands).0 ∙ image
 
 -- ---- what is left
 

@@ -10,7 +10,7 @@ use Rattle.leaf_history.specs.History.{HistoryState}
 use Rattle.crash_moments.specs.Left.{NamedStates}
 use Rattle.crash_moments.specs.Watched.{Watched}
 use Rattle.crash_moments.proofs.Alike.{region_alike}
-use Rattle.crash_states.specs.Standing.{IsKept, Rests, tables_of}
+use Rattle.crash_states.specs.Standing.{IsKept, Rests, states_of_tables}
 use Rattle.crash_starting.specs.Laws.{AreUnseen}
 use Rattle.crash_starting.proofs.ReadyTables.{IsNew, all_watched, are_new, tables_same}
 
@@ -18,7 +18,7 @@ use Rattle.crash_starting.proofs.ReadyTables.{IsNew, all_watched, are_new, table
 pub begun_rests : (base : NamedStates) (ws : List Watched) (least : List ℕ → List Write) (next : Option LogRecord) (m : Meaning) → Rests [] base least next m → AreUnseen base ws → Rests ws base least next m
 begun_rests base ws least next m rests new =
     let unseen : AllByRecursion (IsNew base) ws = are_new base ws new in
-    let same : (name : List ℕ) → tables_of base ws m name ≡ base name = tables_same base ws m unseen in
+    let same : (name : List ℕ) → states_of_tables base ws m name ≡ base name = tables_same base ws m unseen in
     record {
       watched = record { each = all_watched m.clock base ws rests.sound unseen; apart = new.apart };
       stands = rests.stands;
@@ -27,7 +27,7 @@ begun_rests base ws least next m rests new =
       sound = rests.sound;
       empty = rests.empty;
       region = λ p left.
-          region_alike reads (tables_of base [] m) (tables_of base ws m) (record { region = m.held.region; disk = p.disk }) (λ name. ap (λ (s : HistoryState). s.writes) (sym (same name))) (rests.region p left);
+          region_alike reads (states_of_tables base [] m) (states_of_tables base ws m) (record { region = m.held.region; disk = p.disk }) (λ name. sym (same name)) (rests.region p left);
     }
 
 -- no table is founded with any base

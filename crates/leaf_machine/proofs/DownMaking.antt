@@ -7,7 +7,7 @@ use Rattle.std.proofs.lemmas.Slice.Eq.{bytes_eq-Decides}
 use Rattle.leaf_model.specs.declared.writes.Write.{Write}
 use Rattle.row_records.specs.Records.{LogRecord}
 use Rattle.berth_face.specs.Berth.{Meaning}
-use Rattle.leaf_model.specs.Names.{AreDistinct}
+use Rattle.row_model.specs.Names.{AreDistinct}
 use Rattle.crash_moments.specs.Left.{NamedStates}
 use Rattle.leaf_table.specs.Turns.{Shared, start_of}
 use Rattle.leaf_table.specs.Calls.{SeatView, base_seen, name_of, seen_of}

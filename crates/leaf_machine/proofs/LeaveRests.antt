@@ -11,14 +11,15 @@ use Rattle.region_layout.specs.Region.{reads}
 use Rattle.disk_backup.specs.Logs.{writes_of}
 use Rattle.disk_backup.specs.Settling.{HasLog, with_writes}
 use Rattle.leaf_history.specs.History.{base_of}
-use Rattle.disk_backup.specs.SoundLogs.{HasSoundLog, IsShort}
+use Rattle.disk_backup.specs.SoundLogs.{HasSoundLog, HasFewRows}
 use Rattle.crash_moments.specs.Left.{NamedStates, RegionLeft, closed, other_version, image}
 use Rattle.crash_moments.specs.Watched.{Watched, IsFoundation, IsWatched, now_of, others_then, was_opened}
-use Rattle.crash_moments.proofs.Alike.{region_alike}
-use Rattle.crash_states.specs.Standing.{IsKept, RegionRests, Rests, tables_of}
+use Rattle.crash_moments.proofs.Alike.{log_alike}
+use Rattle.crash_states.specs.Standing.{IsKept, RegionRests, Rests, states_of_tables}
 use Rattle.crash_states.proofs.Names.{IsOwn, IsForeign, find_name, each_at, others_at}
 use Rattle.crash_states.proofs.States.{front_short, kept_most, now_sound, with_owed, without_owed}
 use Rattle.crash_states.proofs.Disks.{same_log}
+use Rattle.crash_states.proofs.Spare.{few_left, least_spare, spare_fewer, spare_left, spared}
 use Rattle.crash_states.specs.Beginning.{BeginsAgain}
 use Rattle.leaf_machine.proofs.CopyWatching.{nothing_sound}
 
@@ -29,15 +30,21 @@ others_sound false others name sound = sound
 
 module _ (ws : List Watched) (others : NamedStates) (least : List ℕ → List Write) (next : Option LogRecord) (m : Meaning) (rests : Rests ws others least next m) where
   abbrev tables : NamedStates
-  tables = tables_of others ws m
+  tables = states_of_tables others ws m
 
   abbrev most : List ℕ → List Write
   most = with_writes next least
 
   -- ---- the base
 
+  region_now : RegionLeft reads tables m.held
+  region_now = rests.region m.held rests.stands.reads
+
+  abbrev spare : List ℕ → ℕ
+  spare name = spare_left tables most m.held region_now name
+
   abbrev base : NamedStates
-  base name = base_of (most name) (length (least name))
+  base name = base_of (most name) (length (least name)) (spare name)
 
   table_sound : (name : List ℕ) → IsFoundation (tables name)
   table_sound name = by (find_name ws name)
@@ -48,7 +55,7 @@ module _ (ws : List Watched) (others : NamedStates) (least : List ℕ → List W
       by (inr foreign) =
           subst IsFoundation (sym (foreign.stands now_of (others_at others m.clock ws))) (others_sound (was_opened m.clock ws) others name (rests.sound name))
 
-  most_short : (name : List ℕ) → IsShort (most name)
+  most_short : (name : List ℕ) → HasFewRows (most name)
   most_short name =
       front_short (most name) (tables name) (kept_most (least name) (most name) (tables name) (rests.each name) (with_owed next least name).no_less) (table_sound name).short
 
@@ -80,16 +87,20 @@ module _ (ws : List Watched) (others : NamedStates) (least : List ℕ → List W
             sym ((rests.each name).longest ∙ take_all (length (most name)) (tables name).writes few)
         by (inr log) = of_log most log
 
-  base_region : RegionRests (tables_of base [] m) m
+  base_region : RegionRests (states_of_tables base [] m) m
   base_region p left = by (rests.region p left)
     where
       beside : Pair
       beside = record { region = m.held.region; disk = p.disk }
 
-      by : RegionLeft reads tables beside → RegionLeft reads (tables_of base [] m) beside
+      by : RegionLeft reads tables beside → RegionLeft reads (states_of_tables base [] m) beside
       by (closed shut) = closed shut
       by (other_version version head other) = other_version version head other
-      by (image version images end reads_it is are had) = region_alike reads tables (tables_of base [] m) beside (whole_most p left end had) (image version images end reads_it is are had)
+      by (image version images end reads_it is are had) =
+          image version images end reads_it is
+          (spared (λ n. (tables n).spare) spare (λ n. (tables n).writes) most images (whole_most p left end had)
+          (few_left tables most m.held region_now images end (record { version = version; reads_it = reads_it; is = is })) are)
+          (log_alike (λ n. (tables n).writes) most end p.disk (whole_most p left end had) had)
 
   -- ---- the leaf
 
@@ -114,5 +125,6 @@ module _ (ws : List Watched) (others : NamedStates) (least : List ℕ → List W
       ),
     );
     tight = λ name. refl;
-    front = λ name. record { front = (rests.each name).longest; flushed = (rests.each name).flushed };
+    least = λ name. least_spare tables most m.held region_now name (base name) refl refl;
+    front = λ name. record { front = (rests.each name).longest; flushed = (rests.each name).flushed; spare = spare_fewer tables most m.held region_now name (λ end had. whole_most m.held rests.stands.reads end had name) };
   }

@@ -12,7 +12,7 @@ use Rattle.disk_backup.specs.State.{LogState}
 use Rattle.crash_moments.specs.Left.{NamedStates}
 use Rattle.crash_moments.specs.Watched.{Watched, IsFoundation, IsWatched, by_name, now_of, others_then, was_opened}
 use Rattle.crash_moments.proofs.Telling.{opened_more}
-use Rattle.crash_states.specs.Standing.{Runs, tables_of}
+use Rattle.crash_states.specs.Standing.{Runs, states_of_tables}
 use Rattle.crash_states.specs.Entries.{Enters, ShutsAll, stewards}
 use Rattle.crash_serving.specs.Laws.{IsKilled}
 use Rattle.crash_serving.proofs.Running.{kills}
@@ -47,16 +47,16 @@ shuts_one clock w legal true is = inr (
 )
 shuts_one clock w legal false is = inl (is, ap (λ (es : List Entry). record { name = w.name; base = w.base; seen = es }) (append-nil w.seen))
 
--- it has the same writes, and the same of them are flushed
+-- it has the same writes, the same of them are flushed, and it has as many spare columns
 abbrev IsAlike : HistoryState → HistoryState → Type 0
-IsAlike s t = (t.writes ≡ s.writes) × (t.flushed ≡ s.flushed)
+IsAlike s t = (t.writes ≡ s.writes) × (t.flushed ≡ s.flushed) × (t.spare ≡ s.spare)
 
 one_alike : (clock : ℕ) (w : Watched) → IsAlike (now_of w) (now_of (shut_one clock w))
 one_alike clock w = subst (IsAlike (now_of w)) (sym (after-append true w.base w.seen (shutting clock (now_of w) (now_of w).live))) (by (now_of w).live)
   where
     by : (live : Bool) → IsAlike (now_of w) (after true (now_of w) (shutting clock (now_of w) live))
-    by true = (refl, refl)
-    by false = (refl, refl)
+    by true = (refl, refl, refl)
+    by false = (refl, refl, refl)
 
 -- ---- all tables
 
@@ -69,7 +69,7 @@ shuts_each clock [] each = tt
 shuts_each clock (w ∷ ws) each = (shuts_one clock w each.0.legal (now_of w).live refl, shuts_each clock ws each.1)
 
 each_alike : (clock : ℕ) (others : NamedStates) (ws : List Watched) (name : List ℕ) → IsAlike (by_name now_of others ws name) (by_name now_of others (shut_each clock ws) name)
-each_alike clock others [] name = (refl, refl)
+each_alike clock others [] name = (refl, refl, refl)
 each_alike clock others (w ∷ ws) name = by (bytes_eq name w.name) (each_alike clock others ws name)
   where
     by : (here : Bool) → IsAlike (by_name now_of others ws name) (by_name now_of others (shut_each clock ws) name)
@@ -83,6 +83,7 @@ front_alike : (s t b : HistoryState) → IsAlike s t → IsFrontOf t b → IsFro
 front_alike s t b alike is = record {
   front = is.front ∙ ap (λ (ws : List Write). take (length b.writes) ws) alike.0;
   flushed = omega (arith, is.flushed, alike.1);
+  spare = omega (arith, is.spare, alike.2);
 }
 
 module _ (ws : List Watched) (others : NamedStates) (owner : ℕ) (log : LogState) (writes : List ℕ → List Write) (m : Meaning) (runs : Runs ws owner log writes m) where
@@ -93,20 +94,21 @@ module _ (ws : List Watched) (others : NamedStates) (owner : ℕ) (log : LogStat
   killed = kills ws ws' owner log writes m runs (shuts_each m.clock ws runs.watched.each)
 
   -- the leaf has opened a table, before and behind
-  tables_alike : (name : List ℕ) → IsAlike (tables_of others ws m name) (tables_of others ws' m name)
+  tables_alike : (name : List ℕ) → IsAlike (states_of_tables others ws m name) (states_of_tables others ws' m name)
   tables_alike name =
       let opened : was_opened m.clock ws' ≡ true = opened_more m.clock m.clock m.clock m.clock ws ws' (le_refl m.clock) killed.more runs.opened in
-      subst (λ (before : Bool). IsAlike (by_name now_of (others_then before others) ws name) (tables_of others ws' m name)) (sym runs.opened)
+      subst (λ (before : Bool). IsAlike (by_name now_of (others_then before others) ws name) (states_of_tables others ws' m name)) (sym runs.opened)
       (subst (λ (behind : Bool). IsAlike (by_name now_of (others_then true others) ws name) (by_name now_of (others_then behind others) ws' name)) (sym opened)
       (each_alike m.clock (others_then true others) ws name))
 
-  pub runs_begin : IsTrue m.tells → ((name : List ℕ) → IsFoundation (others name)) → BeginsAgain (tables_of others ws m) m
+  pub runs_begin : IsTrue m.tells → ((name : List ℕ) → IsFoundation (others name)) → BeginsAgain (states_of_tables others ws m) m
   runs_begin tells sound =
-      let begun : BeginsAgain (tables_of others ws' m) m = rests_begin ws' others writes log.owed m (killed.rests others sound) tells in
+      let begun : BeginsAgain (states_of_tables others ws' m) m = rests_begin ws' others writes log.owed m (killed.rests others sound) tells in
       record {
         base = begun.base;
         is = begun.is;
         begins = begun.begins;
         tight = begun.tight;
-        front = λ name. front_alike (tables_of others ws m name) (tables_of others ws' m name) (begun.base name) (tables_alike name) (begun.front name);
+        least = begun.least;
+        front = λ name. front_alike (states_of_tables others ws m name) (states_of_tables others ws' m name) (begun.base name) (tables_alike name) (begun.front name);
       }

@@ -12,7 +12,7 @@ use Rattle.table_state.specs.Tables.{IsParts, Table, added_count, least_columns}
 use Rattle.table_state.proofs.Columns.{blocks_long, columns_of}
 use Rattle.region_layout.specs.declared.drained.DrainTable.{DrainTable}
 use Rattle.region_layout.specs.Drained.{all_columns, columns_in}
-use Rattle.leaf_history.specs.History.{held}
+use Rattle.leaf_history.specs.History.{contents_held}
 use Rattle.leaf_table.specs.Turns.{Shared, is_founded}
 use Rattle.leaf_table.specs.Calls.{SeatView, base_seen, state_seen}
 use Rattle.leaf_machine.specs.States.{IsContent, columns_added, columns_seen}
@@ -40,7 +40,7 @@ seen_held (t ∷ ts) [] closed count are = omega arith
 seen_held (t ∷ ts) (v ∷ vs) [] count are = absurd (omega (arith, count))
 seen_held (t ∷ ts) (v ∷ vs) (c ∷ closed) count are =
     let here : IsContent (state_seen (base_seen t) v) c = are 0 t v c refl refl refl in
-    let rows : least_columns c.contents.rows ≡ least_columns (held (state_seen (base_seen t) v)).rows = ap (λ (x : Contents). least_columns x.rows) here.contents in
+    let rows : least_columns c.contents.rows ≡ least_columns (contents_held (state_seen (base_seen t) v)).rows = ap (λ (x : Contents). least_columns x.rows) here.contents in
     omega (arith, rows, seen_held ts vs closed (omega (arith, count)) (λ place s w d at was is. are (suc place) s w d at was is))
 
 -- the drain of tables that are these
@@ -65,14 +65,14 @@ columns_long (b ∷ blocks) =
 -- the drain of tables that are founded, of which each comes to few columns
 pub drain_few : (ts : List Shared) (vs : List SeatView) (tables : List DrainTable) → length tables ≡ length ts → length vs ≡ length ts → AllByRecursion (λ (t : Shared). is_founded (base_seen t) ≡ true) ts
     → ((place : ℕ) (t : Shared) (v : SeatView) → slice_get ts place ≡ Some t → slice_get vs place ≡ Some v → is_founded (base_seen t) ≡ true
-    → (n : ℕ) → slice_get (drained_columns tables) place ≡ Some n → n ≤ added_count (state_seen (base_seen t) v).writes)
+    → (n : ℕ) → slice_get (drained_columns tables) place ≡ Some n → n ≤ (state_seen (base_seen t) v).spare + added_count (state_seen (base_seen t) v).writes)
     → length (all_columns tables) ≤ columns_added ts vs
 drain_few [] vs [] count seats founded few = omega arith
 drain_few [] vs (d ∷ tables) count seats founded few = absurd (omega (arith, count))
 drain_few (t ∷ ts) [] tables count seats founded few = absurd (omega (arith, seats))
 drain_few (t ∷ ts) (v ∷ vs) [] count seats founded few = absurd (omega (arith, count))
 drain_few (t ∷ ts) (v ∷ vs) (d ∷ tables) count seats founded few =
-    let here : columns_count d.parts.blocks ≤ added_count (state_seen (base_seen t) v).writes = few 0 t v refl refl founded.0 (columns_count d.parts.blocks) refl in
+    let here : columns_count d.parts.blocks ≤ (state_seen (base_seen t) v).spare + added_count (state_seen (base_seen t) v).writes = few 0 t v refl refl founded.0 (columns_count d.parts.blocks) refl in
     let long : length (columns_in d.parts) ≡ columns_count d.parts.blocks = columns_long d.parts.blocks in
     let rest = drain_few ts vs tables (omega (arith, count)) (omega (arith, seats)) founded.1 (λ place s w at was is n found. few (suc place) s w at was is n found) in
     omega (arith, here, long, rest, length-append (columns_in d.parts) (all_columns tables))

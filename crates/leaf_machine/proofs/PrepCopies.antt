@@ -1,5 +1,5 @@
 -- All tables are treated, and the copy of them is planned.
-use Rattle.std.proofs.Common.{◌≡◌, ℕ, zero, suc, ◌<◌, ◌≤◌, Bool, true, false, List, [], ◌∷◌, length, map, Some, None, refl, sym, ap, subst, ◌∙◌, arith}
+use Rattle.std.proofs.Common.{◌≡◌, ℕ, zero, suc, ◌+◌, ◌<◌, ◌≤◌, Bool, true, false, List, [], ◌∷◌, length, map, Some, None, refl, sym, ap, subst, ◌∙◌, arith}
 use Rattle.std.specs.Prelude.{◌≢◌, ◌-◌, if◌then◌else◌, slice_get, take, Err}
 use Rattle.std.specs.List.{AllByRecursion}
 use Rattle.std.proofs.lemmas.List.{length-map, take_all}
@@ -9,11 +9,11 @@ use Rattle.leaf_model.specs.Content.{Contents, content_from}
 use Rattle.berth_face.specs.Berth.{Meaning}
 use Rattle.leaf_history.specs.History.{HistoryState, write_count}
 use Rattle.row_blocks.specs.Held.{columns_count}
-use Rattle.table_state.specs.Tables.{IsParts, Table, added_count, contents_of}
+use Rattle.table_state.specs.Tables.{IsParts, Table, added_count, contents_of_parts}
 use Rattle.region_layout.specs.declared.drained.DrainTable.{DrainTable}
 use Rattle.region_layout.specs.Drained.{all_columns, has_no_room, images_of as drained_images}
 use Rattle.region_layout.specs.Region.{IsAdoptable, image_of_parts}
-use Rattle.region_layout.specs.Images.{TableImage, images_of}
+use Rattle.region_layout.specs.Images.{TableImage, images_by_name}
 use Rattle.region_layout.specs.Names.{IsName}
 use Rattle.drain_copy.specs.declared.step.Next.TheVariants as next
 use Rattle.drain_copy.specs.Draining.{DrainState}
@@ -35,7 +35,7 @@ use Rattle.leaf_steward.proofs.WatchPlaces.{watch_all}
 use Rattle.leaf_steward.proofs.Watching.{now_seen, watch_at, watch_length, watch_names}
 use Rattle.leaf_machine.specs.declared.preparing.PrepareFault.{PrepareFault}
 use Rattle.leaf_machine.specs.declared.preparing.PrepareFault.TheVariants.{DiskFault, NoRoom, NoMemory}
-use Rattle.leaf_machine.specs.States.{Serving, Shutting, GoesOnCopying, GoesOn, IsShutAndTaken, IsCopying, IsShutting, columns_added, treated}
+use Rattle.leaf_machine.specs.States.{Serving, Shutting, GoesOnCopying, ServingGoesOn, IsShutAndTaken, IsCopying, IsShutting, columns_added, treated}
 use Rattle.leaf_machine.specs.Shut.{AreFewShut, AreTablesOf, drained_columns, drained_table}
 use Rattle.leaf_machine.specs.Prepares.{AllTreated, IsCopyOf, IsTreatingStep}
 use Rattle.leaf_machine.specs.PrepParts.{IsAllTreated, IsNextTreated}
@@ -48,15 +48,15 @@ all_map P f (x ∷ xs) all = (all.0, all_map P f xs all.1)
 
 -- a table of a drain as a leaf holds it, with its blocks
 abbrev pub full_table : DrainTable → Table
-full_table t = record { contents = contents_of t.parts; writes = t.parts.writes; pending = None; store = record { blocks = t.parts.blocks; skip = t.parts.skip; tail = [] } }
+full_table t = record { contents = contents_of_parts t.parts; writes = t.parts.writes; pending = None; store = record { blocks = t.parts.blocks; skip = t.parts.skip; tail = [] } }
 
 -- the images of their parts are those of what they hold
-images_map : (tables : List DrainTable) → drained_images tables ≡ images_of (map (λ (t : DrainTable). t.name) tables) (map full_table tables)
+images_map : (tables : List DrainTable) → drained_images tables ≡ images_by_name (map (λ (t : DrainTable). t.name) tables) (map full_table tables)
 images_map [] = refl
 images_map (t ∷ tables) = ap (λ (l : List TableImage). image_of_parts t.name t.parts ∷ l) (images_map tables)
 
-pub images_are : (names : List (List ℕ)) (closed : List Table) (tables : List DrainTable) → AreTablesOf names closed tables → drained_images tables ≡ images_of names (map full_table tables)
-images_are names closed tables are = images_map tables ∙ ap (λ (own : List (List ℕ)). images_of own (map full_table tables)) are.names_are
+pub images_are : (names : List (List ℕ)) (closed : List Table) (tables : List DrainTable) → AreTablesOf names closed tables → drained_images tables ≡ images_by_name names (map full_table tables)
+images_are names closed tables are = images_map tables ∙ ap (λ (own : List (List ℕ)). images_by_name own (map full_table tables)) are.names_are
 
 -- their names are names of tables
 pub names_are : (names : List (List ℕ)) (closed : List Table) (tables : List DrainTable) → AreTablesOf names closed tables → AllByRecursion IsName names → AllByRecursion (λ (t : DrainTable). IsName t.name) tables
@@ -89,7 +89,7 @@ all_names x names sits whole first =
 pub all_treated : (x : Shutting) → IsAllTreated x → AllTreated x
 all_treated x whole = ap (λ (b : Bool). if b then length x.closed - 1 else length x.closed) whole.shut ∙ whole.all
 
-pub goes_none : (x : Serving) (m : Meaning) → GoesOn x x m m
+pub goes_none : (x : Serving) (m : Meaning) → ServingGoesOn x x m m
 goes_none x m writes runs = record {
   later = writes;
   runs = runs;
@@ -102,7 +102,7 @@ begins : next.Begin ≢ next.Nothing
 begins = λ same. cc
 
 -- a table that was handed in nothing
-content_is : (s : HistoryState) (t : DrainTable) → IsFoundation s → contents_of t.parts ≡ content_from s.before s.writes → t.parts.writes ≡ write_count s → columns_count t.parts.blocks ≤ added_count s.writes
+content_is : (s : HistoryState) (t : DrainTable) → IsFoundation s → contents_of_parts t.parts ≡ content_from s.before s.writes → t.parts.writes ≡ write_count s → columns_count t.parts.blocks ≤ s.spare + added_count s.writes
     → IsContentOf s (full_table t)
 content_is s t sound contents writes few = record {
   contents = contents ∙ ap (λ (c : Contents). content_from c s.writes) sound.before;
@@ -132,7 +132,7 @@ module _ (x : Shutting) (m : Meaning) (is : IsShutting x m) (sits : AreSeated x.
   record IsTakenAt (place : ℕ) (w : Watched) : Type 0 where
     pub closed : IsShutAndTaken (now_of w)
     pub contents : (d : DrainTable) → slice_get tables place ≡ Some d
-        → (contents_of d.parts ≡ content_from (now_of w).before (now_of w).writes) × (d.parts.writes ≡ write_count (now_of w)) × (columns_count d.parts.blocks ≤ added_count (now_of w).writes)
+        → (contents_of_parts d.parts ≡ content_from (now_of w).before (now_of w).writes) × (d.parts.writes ≡ write_count (now_of w)) × (columns_count d.parts.blocks ≤ (now_of w).spare + added_count (now_of w).writes)
 
   taken_at : AreFounded x.serving.seated → (place : ℕ) (w : Watched) → slice_get ws place ≡ Some w → IsTakenAt place w
   taken_at founded place w found =
@@ -145,9 +145,9 @@ module _ (x : Shutting) (m : Meaning) (is : IsShutting x m) (sits : AreSeated x.
             let bare : slice_get x.closed place ≡ Some (drained_table d) =
             subst (λ (l : List Table). slice_get l place ≡ Some (drained_table d)) are.closed_are (made_at drained_table tables place d at) in
             let had = is.contents place a.0 a.1 a.2 a.3 (drained_table d) bare in
-            let most : columns_count d.parts.blocks ≤ added_count (state_seen (base_seen a.0) a.1).writes =
+            let most : columns_count d.parts.blocks ≤ (state_seen (base_seen a.0) a.1).spare + added_count (state_seen (base_seen a.0) a.1).writes =
             few place a.0 a.1 a.2 a.3 base (columns_count d.parts.blocks) (made_at (λ (t : DrainTable). columns_count t.parts.blocks) tables place d at) in
-            subst (λ (s : HistoryState). (contents_of d.parts ≡ content_from s.before s.writes) × (d.parts.writes ≡ write_count s) × (columns_count d.parts.blocks ≤ added_count s.writes)) same
+            subst (λ (s : HistoryState). (contents_of_parts d.parts ≡ content_from s.before s.writes) × (d.parts.writes ≡ write_count s) × (columns_count d.parts.blocks ≤ s.spare + added_count s.writes)) same
             (had.contents, had.writes, most);
       }
 
@@ -166,9 +166,9 @@ module _ (x : Shutting) (m : Meaning) (is : IsShutting x m) (sits : AreSeated x.
       sound : (place : ℕ) (w : Watched) → slice_get ws place ≡ Some w → IsFoundation (now_of w)
       sound place w found = now_sound m.clock w (each_at (IsWatched m.clock) ws runs.watched.each place w found)
 
-  full_image : IsAdoptable drain.image (images_of (map (λ (w : Watched). w.name) ws) full) x.serving.owing.log.end
+  full_image : IsAdoptable drain.image (images_by_name (map (λ (w : Watched). w.name) ws) full) x.serving.owing.log.end
   full_image =
-      subst (λ (names : List (List ℕ)). IsAdoptable drain.image (images_of names full) x.serving.owing.log.end) (sym (watch_names x.serving.seated sits))
+      subst (λ (names : List (List ℕ)). IsAdoptable drain.image (images_by_name names full) x.serving.owing.log.end) (sym (watch_names x.serving.seated sits))
       (subst (λ (images : List TableImage). IsAdoptable drain.image images x.serving.owing.log.end) (images_are x.serving.seated.names x.closed tables are) image)
 
   copies : AreFounded x.serving.seated → (writes : List ℕ → List Write) → Runs ws x.serving.owing.owner x.serving.owing.log writes m → Copies ws drain writes m

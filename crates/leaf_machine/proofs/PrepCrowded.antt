@@ -24,7 +24,7 @@ use Rattle.leaf_machine.specs.declared.preparing.PrepareFault.{PrepareFault}
 use Rattle.leaf_machine.specs.declared.preparing.PrepareFault.TheVariants.{NoRoom, NoMemory}
 use Rattle.leaf_machine.specs.States.{IsShutting, Shutting, bulk_added}
 use Rattle.leaf_machine.specs.Shut.{AreFewShut, AreTablesOf, drained_columns, drained_table}
-use Rattle.leaf_machine.specs.Prepares.{CrowdsStep, IsCrowded, told_of_plan}
+use Rattle.leaf_machine.specs.Prepares.{CrowdsStep, PreparingIsCrowded, told_of_plan}
 use Rattle.leaf_machine.proofs.PrepCopies.{made_at}
 
 -- ---- places of a leaf
@@ -32,14 +32,14 @@ use Rattle.leaf_machine.proofs.PrepCopies.{made_at}
 -- the columns of a drain, each for a row or a cell that was added
 bulk_columns : (ts : List Shared) (vs : List SeatView) (tables : List DrainTable) → length tables ≡ length ts → length vs ≡ length ts → AllByRecursion (λ (t : Shared). is_founded (base_seen t) ≡ true) ts
     → ((place : ℕ) (t : Shared) (v : SeatView) → slice_get ts place ≡ Some t → slice_get vs place ≡ Some v → is_founded (base_seen t) ≡ true
-    → (n : ℕ) → slice_get (drained_columns tables) place ≡ Some n → n ≤ added_count (state_seen (base_seen t) v).writes)
+    → (n : ℕ) → slice_get (drained_columns tables) place ≡ Some n → n ≤ (state_seen (base_seen t) v).spare + added_count (state_seen (base_seen t) v).writes)
     → tables_count tables ≤ bulk_added ts vs
 bulk_columns [] vs [] count seats founded few = omega arith
 bulk_columns [] vs (d ∷ tables) count seats founded few = absurd (omega (arith, count))
 bulk_columns (t ∷ ts) [] tables count seats founded few = absurd (omega (arith, seats))
 bulk_columns (t ∷ ts) (v ∷ vs) [] count seats founded few = absurd (omega (arith, count))
 bulk_columns (t ∷ ts) (v ∷ vs) (d ∷ tables) count seats founded few =
-    let here : columns_count d.parts.blocks ≤ added_count (state_seen (base_seen t) v).writes = few 0 t v refl refl founded.0 (columns_count d.parts.blocks) refl in
+    let here : columns_count d.parts.blocks ≤ (state_seen (base_seen t) v).spare + added_count (state_seen (base_seen t) v).writes = few 0 t v refl refl founded.0 (columns_count d.parts.blocks) refl in
     let rest = bulk_columns ts vs tables (omega (arith, count)) (omega (arith, seats)) founded.1 (λ place s w at was is n found. few (suc place) s w at was is n found) in
     omega (arith, here, rest)
 
@@ -88,7 +88,7 @@ module _ (x : Shutting) (m : Meaning) (is : IsShutting x m) (sits : AreSeated x.
       subst IsFoundation (now_seen t v base) (now_sound m.clock (watched t v) (each_at (IsWatched m.clock) (watched_by x.serving.seated) stands.1.1.watched.each place (watched t v) found)) in
       omega (arith, had.writes, sound.handed_in)
 
-  pub crowded : NeedRoom tables → IsCrowded x.serving.seated
+  pub crowded : NeedRoom tables → PreparingIsCrowded x.serving.seated
   crowded (inl many) founded =
       let bulk = bulk_columns x.serving.seated.tables x.serving.seated.seats tables count sits.count founded few in
       omega (arith, many, bulk)
@@ -103,6 +103,6 @@ module _ (x : Shutting) (m : Meaning) (is : IsShutting x m) (sits : AreSeated x.
 
 -- a plan that failed says so
 pub crowds : {B : Type 0} (x y : Shutting) (b : B) (tables : List DrainTable) (f : PlanFault) (g : PrepareFault) → g ≡ told_of_plan f → (f ≡ plan.NoRoom → NeedRoom tables)
-    → (NeedRoom tables → IsCrowded x.serving.seated) → CrowdsStep {B = B} x (Err ((y, b), g))
+    → (NeedRoom tables → PreparingIsCrowded x.serving.seated) → CrowdsStep {B = B} x (Err ((y, b), g))
 crowds {B = B} x y b tables plan.NoRoom g is needs large = subst (λ (k : PrepareFault). CrowdsStep {B = B} x (Err ((y, b), k))) (sym is) (large (needs refl))
 crowds {B = B} x y b tables plan.NoMemory g is needs large = subst (λ (k : PrepareFault). CrowdsStep {B = B} x (Err ((y, b), k))) (sym is) tt

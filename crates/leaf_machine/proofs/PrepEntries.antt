@@ -2,14 +2,14 @@
 use Rattle.std.proofs.Common.{◌≡◌, ℕ, ◌+◌, Bool, false, List, [], ◌∷◌, ◌++◌, refl, sym, ap, subst, ◌∙◌, arith}
 use Rattle.std.specs.Prelude.{max}
 use Rattle.std.proofs.lemmas.List.{map-append}
-use Rattle.turnstile.specs.Seats.{LearnsOthers, Others, Told}
+use Rattle.turnstile.specs.Seats.{LearnsOthers, Others, SeesAlso}
 use Rattle.leaf_history.specs.Calls as call
 use Rattle.leaf_history.specs.Replies as reply
-use Rattle.leaf_history.specs.History.{Entry, HistoryState, LegalFrom, after, held, write_count}
+use Rattle.leaf_history.specs.History.{Entry, HistoryState, LegalFrom, after, contents_held, write_count}
 use Rattle.leaf_history.specs.Laws.{CallersKeep}
-use Rattle.leaf_history.proofs.Histories.{LegalFrom-back, after-append, others_keep}
+use Rattle.leaf_history.proofs.Histories.{LegalFrom-back, after-append, after_spare, others_keep}
 use Rattle.table_state.specs.Tables.{Table}
-use Rattle.leaf_table.specs.Turns.{Shared, Turns, history, is_founded, start_of, told}
+use Rattle.leaf_table.specs.Turns.{Shared, TurnsTaken, history, is_founded, start_of, told}
 use Rattle.leaf_table.specs.Calls.{AreOthers, Made, SeatView, base_seen, seen_of, state_before, state_seen, SeesOpen, SeesShut}
 use Rattle.leaf_table.proofs.Knowing.{callers_of, known_after}
 use Rattle.leaf_steward.specs.Seated.{IsSeated, Spares}
@@ -25,6 +25,11 @@ flushed_to n s = record s { flushed = max s.flushed n }
 -- shut, and all of it taken
 abbrev shut_whole : HistoryState → HistoryState
 shut_whole s = record s { live = false; taken = write_count s }
+
+-- no entry changes how many spare columns it has
+pub same_spare : (t : Shared) (v w : SeatView) → (state_seen (base_seen t) w).spare ≡ (state_seen (base_seen t) v).spare
+same_spare t v w =
+    after_spare (is_founded (base_seen t)) (start_of (base_seen t)) (seen_of w) ∙ sym (after_spare (is_founded (base_seen t)) (start_of (base_seen t)) (seen_of v))
 
 -- ---- an entry that notes a table as flushed
 
@@ -76,7 +81,10 @@ module _ (t : Shared) (v w : SeatView) (clock n : ℕ) (made : Made (base_seen t
   pub shut_writes : (state_seen (base_seen t) w).writes ≡ before.writes
   shut_writes = ap (λ (s : HistoryState). s.writes) shut_knows
 
-  pub shut_content : (c : Table) → c.contents ≡ held before → c.writes ≡ n → IsContent (state_seen (base_seen t) w) c
+  pub shut_spare : (state_seen (base_seen t) w).spare ≡ before.spare
+  shut_spare = ap (λ (s : HistoryState). s.spare) shut_knows
+
+  pub shut_content : (c : Table) → c.contents ≡ contents_held before → c.writes ≡ n → IsContent (state_seen (base_seen t) w) c
   shut_content c contents writes = subst (λ (s : HistoryState). IsContent s c) (sym shut_knows) (record { contents = contents; writes = writes ∙ shut_counted })
 
   pub shut_spares : (k : ℕ) → Spares (k + 1) t v → Spares k t w
@@ -84,17 +92,17 @@ module _ (t : Shared) (v w : SeatView) (clock n : ℕ) (made : Made (base_seen t
 
 -- ---- a meeting
 
-others_history : (v : SeatView) (es : Turns) → Others v es → AreOthers v (history es)
+others_history : (v : SeatView) (es : TurnsTaken) → Others v es → AreOthers v (history es)
 others_history v [] others = tt
 others_history v (e ∷ es) others = (others.0, others_history v es others.1)
 
-module _ (t : Shared) (v u w : SeatView) (sits : IsSeated t v) (met : Told v u w) (learns : LearnsOthers v w) (legal : LegalFrom (is_founded (base_seen t)) (start_of (base_seen t)) (seen_of w)) where
+module _ (t : Shared) (v u w : SeatView) (sits : IsSeated t v) (met : SeesAlso v u w) (learns : LearnsOthers v w) (legal : LegalFrom (is_founded (base_seen t)) (start_of (base_seen t)) (seen_of w)) where
   -- callers' entries leave what the steward knew
   pub met_keeps : CallersKeep (state_seen (base_seen t) v) (state_seen (base_seen t) w)
   met_keeps =
       let f : Bool = is_founded (base_seen t) in
       let s : HistoryState = start_of (base_seen t) in
-      let more : Turns = met.longer.own.0 in
+      let more : TurnsTaken = met.longer.own.0 in
       let seen : w.seen ≡ v.seen ++ more = ap (λ (a : SeatView). a.seen) met.view ∙ sym met.longer.own.1 in
       let whole : seen_of w ≡ seen_of v ++ history more = ap history seen ∙ map-append told v.seen more in
       let known : state_seen (base_seen t) w ≡ after f (after f s (seen_of v)) (history more) = ap (after f s) whole ∙ after-append f s (seen_of v) (history more) in

@@ -1,17 +1,16 @@
--- Of shut tables that are founded: each comes to at most a column for each row and each cell that its writes add, entry
--- by entry.
+-- Of shut tables that are founded: each comes to at most a column for each row and each cell that its writes add, and
+-- the spare ones, entry by entry.
 use Rattle.std.proofs.Common.{◌≡◌, ℕ, zero, suc, ◌+◌, ◌<◌, ◌≤◌, true, List, [], ◌∷◌, ◌++◌, length, Option, Some, None, refl, sym, ap, subst, ◌∙◌, arith, le_trans}
 use Rattle.std.specs.Prelude.{slice_get, Result}
 use Rattle.std.proofs.lemmas.List.{length-append}
 use Rattle.std.proofs.lemmas.Option.{none-some, same_Some, slice_get_within}
-use Rattle.leaf_model.specs.declared.writes.Write.{Write}
 use Rattle.row_records.specs.Records.{LogRecord}
 use Rattle.berth_face.specs.Berth.{Meaning}
 use Rattle.leaf_history.specs.Calls as call
 use Rattle.leaf_history.specs.Replies as reply
 use Rattle.leaf_history.specs.History.{LegalFrom}
 use Rattle.table_state.specs.Tables.{Store, Table, Takes, added_count, bare, columns_most}
-use Rattle.turnstile.specs.Seats.{LearnsOthers, Told}
+use Rattle.turnstile.specs.Seats.{LearnsOthers, SeesAlso}
 use Rattle.leaf_table.specs.Turns.{HasFewColumns, Shared, is_founded, start_of}
 use Rattle.leaf_table.specs.Calls.{Made, SeatView, SeesShut, base_seen, seen_of, state_before, state_seen}
 use Rattle.leaf_steward.specs.declared.notes.Note.{Note}
@@ -21,14 +20,15 @@ use Rattle.leaf_steward.specs.Owing.{Owing, Brings, SettlesOwed}
 use Rattle.leaf_steward.specs.Owing as owing
 use Rattle.leaf_machine.specs.States.{Shutting, IsShutting}
 use Rattle.leaf_machine.specs.Shut.{AreFewShut, AreNoMore}
-use Rattle.leaf_machine.proofs.PrepEntries.{flushed_writes, met_writes, shut_writes}
+use Rattle.leaf_machine.proofs.PrepEntries.{flushed_writes, met_writes, same_spare, shut_spare, shut_writes}
 use Rattle.leaf_machine.proofs.PrepHolds.{Holds, holds_of}
 use Rattle.leaf_machine.proofs.PrepPlaces.{push_get, push_last, set_each}
 use Rattle.leaf_machine.proofs.PrepShuts.{holds_then, sits_then}
 
 -- what is said of the table in one place
 abbrev FewAt : List ℕ → ℕ → Shared → SeatView → Type 0
-FewAt columns place t v = is_founded (base_seen t) ≡ true → (n : ℕ) → slice_get columns place ≡ Some n → n ≤ added_count (state_seen (base_seen t) v).writes
+FewAt columns place t v = is_founded (base_seen t) ≡ true → (n : ℕ) → slice_get columns place ≡ Some n
+    → n ≤ (state_seen (base_seen t) v).spare + added_count (state_seen (base_seen t) v).writes
 
 -- ---- no table is shut
 
@@ -65,12 +65,12 @@ module _ (closed : List Table) (columns : List ℕ) (x : Seated) (holds : Holds 
   kept_few : (SeesShut t v → (state_seen (base_seen t) w).writes ≡ (state_seen (base_seen t) v).writes) → AreFewShut x columns → AreFewShut (with_seat x place w) columns
   kept_few same few =
       set_each (FewAt columns) (FewAt columns) x place t v w at was
-      (λ is founded n found. subst (λ (l : List Write). n ≤ added_count l) (sym (same (is_shut n found))) (is founded n found)) (λ i u s apart is. is) few
+      (λ is founded n found. let before = is founded n found in omega (arith, before, ap added_count (same (is_shut n found)), same_spare t v w)) (λ i u s apart is. is) few
 
   pub flushed_few : (clock n : ℕ) → Made (base_seen t) clock v (call.Flushed n) reply.Noted w → AreFewShut x columns → AreFewShut (with_seat x place w) columns
   flushed_few clock n made few = kept_few (λ shut. flushed_writes t v w clock n (sits.each place t v at was) made shut) few
 
-  pub met_few : (u : SeatView) → Told v u w → LearnsOthers v w → LegalFrom (is_founded (base_seen t)) (start_of (base_seen t)) (seen_of w) → AreFewShut x columns → AreFewShut (with_seat x place w) columns
+  pub met_few : (u : SeatView) → SeesAlso v u w → LearnsOthers v w → LegalFrom (is_founded (base_seen t)) (start_of (base_seen t)) (seen_of w) → AreFewShut x columns → AreFewShut (with_seat x place w) columns
   met_few u met learns legal few = kept_few (λ shut. met_writes t v u w (sits.each place t v at was) met learns legal shut) few
 
 -- ---- what is owed is settled, or is not
@@ -88,16 +88,15 @@ settled_few x m is sits columns count few clock before result y o after (owing.f
 
 module _ (columns : List ℕ) (x : Seated) (place : ℕ) (t : Shared) (v w : SeatView) (clock n : ℕ) (c : Table) (next : place ≡ length columns) (at : slice_get x.tables place ≡ Some t)
     (was : slice_get x.seats place ≡ Some v) (made : Made (base_seen t) clock v call.Shut (reply.Counted n) w)
-    (fits : HasFewColumns (is_founded (base_seen t)) (state_before (base_seen t) v made.between).writes c) where
+    (fits : HasFewColumns (is_founded (base_seen t)) (state_before (base_seen t) v made.between).spare (state_before (base_seen t) v made.between).writes c) where
   abbrev most : ℕ
   most = columns_most c.store
 
   here_few : FewAt (columns ++ most ∷ []) place t w
   here_few founded k found =
       let last : slice_get (columns ++ most ∷ []) (length columns) ≡ Some k = subst (λ (i : ℕ). slice_get (columns ++ most ∷ []) i ≡ Some k) next found in
-      let known : k ≤ added_count (state_before (base_seen t) v made.between).writes =
-      subst (λ (i : ℕ). i ≤ added_count (state_before (base_seen t) v made.between).writes) (push_last columns most k last) (fits founded) in
-      subst (λ (l : List Write). k ≤ added_count l) (sym (shut_writes t v w clock n made)) known
+      let known = fits founded in
+      omega (arith, known, push_last columns most k last, ap added_count (shut_writes t v w clock n made), shut_spare t v w clock n made)
 
   shut_few : AreFewShut x columns → AreFewShut (with_seat x place w) (columns ++ most ∷ [])
   shut_few few =

@@ -7,10 +7,10 @@ use Rattle.row_records.specs.Records.{LogRecord}
 use Rattle.berth_face.specs.Berth.{Meaning}
 use Rattle.leaf_history.specs.Calls as call
 use Rattle.leaf_history.specs.Replies as reply
-use Rattle.leaf_history.specs.History.{LegalFrom, HistoryState, held, untaken}
+use Rattle.leaf_history.specs.History.{LegalFrom, HistoryState, contents_held, untaken}
 use Rattle.leaf_model.specs.declared.writes.Write.{Write}
 use Rattle.table_state.specs.Tables.{Table}
-use Rattle.turnstile.specs.Seats.{LearnsOthers, Told}
+use Rattle.turnstile.specs.Seats.{LearnsOthers, SeesAlso}
 use Rattle.leaf_table.specs.Turns.{Shared, is_founded, record_for, start_of}
 use Rattle.leaf_table.specs.Calls.{Made, SeatView, base_seen, name_of, seen_of, state_before, state_seen, SeesOpen}
 use Rattle.leaf_steward.specs.Seated.{Seated, AreSeated, AtEach, AtPlace, IsSeated, Spares, with_seat}
@@ -64,7 +64,7 @@ module _ (closed : List Table) (x : Seated) (holds : Holds closed x) (sits : Are
 
 module _ (closed : List Table) (x : Seated) (holds : Holds closed x) (place : ℕ) (t : Shared) (v w : SeatView) (clock n : ℕ) (c : Table)
     (next : place ≡ length closed) (at : slice_get x.tables place ≡ Some t) (was : slice_get x.seats place ≡ Some v) (made : Made (base_seen t) clock v call.Shut (reply.Counted n) w)
-    (contents : c.contents ≡ held (state_before (base_seen t) v made.between)) (writes : c.writes ≡ n) where
+    (contents : c.contents ≡ contents_held (state_before (base_seen t) v made.between)) (writes : c.writes ≡ n) where
   size : length (closed ++ c ∷ []) ≡ length closed + 1
   size = length-append closed (c ∷ [])
 
@@ -119,7 +119,7 @@ shut_named x place t v w o s at was is =
 -- ---- a meeting
 
 pub met_holds : (closed : List Table) (x : Seated) → Holds closed x → AreSeated x → (place : ℕ) (t : Shared) (v u w : SeatView) → slice_get x.tables place ≡ Some t → slice_get x.seats place ≡ Some v
-    → Told v u w → LearnsOthers v w → LegalFrom (is_founded (base_seen t)) (start_of (base_seen t)) (seen_of w) → Holds closed (with_seat x place w)
+    → SeesAlso v u w → LearnsOthers v w → LegalFrom (is_founded (base_seen t)) (start_of (base_seen t)) (seen_of w) → Holds closed (with_seat x place w)
 met_holds closed x holds sits place t v u w at was met learns legal = record {
   few = holds.few;
   opened = set_each (λ i a s. length closed ≤ i → SeesOpen a s) (λ i a s. length closed ≤ i → SeesOpen a s) x place t v w at was

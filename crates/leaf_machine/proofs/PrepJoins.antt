@@ -14,7 +14,7 @@ use Rattle.leaf_steward.specs.Seated.{Seated, AreFounded, watched_by}
 use Rattle.leaf_steward.specs.Making.{Makes, NotesOn, OneEntry}
 use Rattle.leaf_steward.proofs.WatchMakes.{makes_tables}
 use Rattle.leaf_steward.specs.Owing.{RunsTo}
-use Rattle.leaf_machine.specs.States.{Serving, GoesOn, GoesOnServing, UpStands}
+use Rattle.leaf_machine.specs.States.{Serving, ServingGoesOn, GoesOnServing, UpStands}
 use Rattle.leaf_machine.specs.PrepParts.{IsPartOfStep}
 
 -- ---- entries, one after another
@@ -59,7 +59,7 @@ tables_on a b x y old new on = makes_tables a b x on.0 y on.2
 -- ---- what stands
 
 -- a leaf that goes on stands
-pub stands_on : (x y : Serving) (m m' : Meaning) → UpStands x m → (IsTrue m.tells → AreFounded x.seated → GoesOn x y m m') → y.seated.tables ≡ x.seated.tables → m'.tells ≡ m.tells → UpStands y m'
+pub stands_on : (x y : Serving) (m m' : Meaning) → UpStands x m → (IsTrue m.tells → AreFounded x.seated → ServingGoesOn x y m m') → y.seated.tables ≡ x.seated.tables → m'.tells ≡ m.tells → UpStands y m'
 stands_on x y m m' stands goes same tells founded =
     let was = stands (founded_on y.seated x.seated (sym same) founded) in
     let on : GoesOnServing x y m m' = goes was.0 (founded_on y.seated x.seated (sym same) founded) was.1.0 was.1.1 in
@@ -68,7 +68,7 @@ stands_on x y m m' stands goes same tells founded =
 -- as the log's own steps tell it
 pub goes_to : (x y : Serving) (m m' : Meaning)
     → ((writes : List ℕ → List Write) → IsTrue m.tells → AreFounded x.seated → Runs (watched_by x.seated) x.owing.owner x.owing.log writes m → RunsTo x.seated y.seated y.owing m m')
-    → IsTrue m.tells → AreFounded x.seated → GoesOn x y m m'
+    → IsTrue m.tells → AreFounded x.seated → ServingGoesOn x y m m'
 goes_to x y m m' runs tells founded writes was =
     let on : RunsTo x.seated y.seated y.owing m m' = runs writes tells founded was in
     record { later = on.later; runs = on.runs; told = on.told }
@@ -79,7 +79,7 @@ module _ (x y z : Serving) (old mid new : List Note) (m m' m'' : Meaning) (first
   tells_still : IsTrue m.tells → IsTrue m'.tells
   tells_still tells = first.time.tells ∙ tells
 
-  both_go : IsTrue m.tells → AreFounded x.seated → GoesOn x z m m''
+  both_go : IsTrue m.tells → AreFounded x.seated → ServingGoesOn x z m m''
   both_go tells founded writes runs =
       let one : GoesOnServing x y m m' = first.crash tells founded writes runs in
       let two : GoesOnServing y z m' m'' = second.crash (tells_still tells) (founded_on x.seated y.seated (tables_on m.clock m'.clock x.seated y.seated old mid first.made) founded) one.later one.runs in

@@ -7,7 +7,7 @@ use Rattle.berth_face.specs.Berth.{Meaning}
 use Rattle.disk_backup.specs.State.{LogState}
 use Rattle.leaf_history.specs.History.{LegalFrom}
 use Rattle.table_state.specs.Tables.{Table}
-use Rattle.turnstile.specs.Seats.{LearnsOthers, Told}
+use Rattle.turnstile.specs.Seats.{LearnsOthers, SeesAlso}
 use Rattle.leaf_table.specs.Turns.{Shared, is_founded, start_of}
 use Rattle.leaf_table.specs.Calls.{SeatView, base_seen, name_of, seen_of, state_seen}
 use Rattle.crash_moments.specs.Watched.{Watched}
@@ -23,7 +23,7 @@ use Rattle.leaf_machine.proofs.PrepHolds.{Holds, holds_of, met_holds}
 use Rattle.leaf_machine.proofs.PrepPlaces.{place_set}
 
 module _ (x : Seated) (sits : AreSeated x) (place : ℕ) (t : Shared) (v u w : SeatView) (at : slice_get x.tables place ≡ Some t) (was : slice_get x.seats place ≡ Some v)
-    (met : Told v u w) (learns : LearnsOthers v w) (legal : LegalFrom (is_founded (base_seen t)) (start_of (base_seen t)) (seen_of w)) where
+    (met : SeesAlso v u w) (learns : LearnsOthers v w) (legal : LegalFrom (is_founded (base_seen t)) (start_of (base_seen t)) (seen_of w)) where
   pub met_goes : (owner : ℕ) (log : LogState) (writes : List ℕ → List Write) (m : Meaning) → AreFounded x → Runs (watched_by x) owner log writes m → Runs (watched_by (with_seat x place w)) owner log writes m
   met_goes owner log writes m founded runs =
       let base : is_founded (base_seen t) ≡ true = watch_all (λ (s : Shared). is_founded (base_seen s) ≡ true) x.tables place t founded at in

@@ -9,7 +9,7 @@ use Rattle.row_records.specs.Records.{LogRecord}
 use Rattle.berth_face.specs.Berth.{Meaning, Passes}
 use Rattle.leaf_history.specs.Calls as call
 use Rattle.leaf_history.specs.Replies as reply
-use Rattle.leaf_history.specs.History.{HistoryState, after, held, untaken}
+use Rattle.leaf_history.specs.History.{HistoryState, after, contents_held, untaken}
 use Rattle.table_state.specs.Tables.{Table, Takes, bare}
 use Rattle.leaf_table.specs.Turns.{Shared, is_founded, start_of}
 use Rattle.leaf_table.specs.Turns as turns
@@ -30,10 +30,10 @@ use Rattle.leaf_steward.proofs.WatchMakes.{makes_seated, makes_tables}
 use Rattle.leaf_steward.proofs.WatchPlaces.{watch_all}
 use Rattle.leaf_steward.proofs.Watching.{made_enters, makes_more, watch_get, watch_set}
 use Rattle.leaf_steward.specs.Owing.{Owing, Brings, HasJustTaken, RunsTo, done, failed}
-use Rattle.leaf_machine.specs.States.{Shutting, GoesOn, IsShutting, UpStands}
+use Rattle.leaf_machine.specs.States.{Shutting, ServingGoesOn, IsShutting, UpStands}
 use Rattle.leaf_machine.specs.Flushes.{OwedNotes}
-use Rattle.leaf_machine.specs.Prepares.{Halts, half}
-use Rattle.leaf_machine.specs.PrepParts.{IsPartOfStep, Shuts, ShutsNext}
+use Rattle.leaf_machine.specs.Prepares.{PreparingHalts, half}
+use Rattle.leaf_machine.specs.PrepParts.{IsPartOfStep, PreparingShuts, ShutsNext}
 use Rattle.leaf_machine.proofs.PrepHolds.{Holds, flushed_holds, holds_of, shut_count, shut_holds, shut_named, shut_room}
 use Rattle.leaf_machine.proofs.PrepJoins.{founded_on, makes_one, makes_two, stands_on, tables_on}
 use Rattle.leaf_machine.proofs.PrepSettles.{quiet_is}
@@ -71,7 +71,7 @@ module _ (x : Shutting) (m : Meaning) (is : IsShutting x m) (sits : AreSeated x.
   pub tables_then : y.tables ≡ x.serving.seated.tables
   tables_then = makes_tables m.clock m.clock x.serving.seated (closing place ∷ []) y makes
 
-  contents : t'.contents ≡ held (state_before (base_seen shut.table) shut.before shut.made.between)
+  contents : t'.contents ≡ contents_held (state_before (base_seen shut.table) shut.before shut.made.between)
   contents = ap (λ (c : Table). c.contents) takes.1 ∙ shut.contents
 
   pub holds_then : Holds closed y
@@ -138,7 +138,7 @@ module _ (x : Shutting) (m : Meaning) (is : IsShutting x m) (sits : AreSeated x.
 
   shut_goes : (z : Seated) (o : Owing) (m' : Meaning)
       → ((taken : List ℕ → List Write) → IsTrue m.tells → AreFounded y → HasJustTaken y x.serving.owing place pending taken m → RunsTo y z o m m')
-      → IsTrue m.tells → AreFounded x.serving.seated → GoesOn x.serving (record { seated = z; owing = o }) m m'
+      → IsTrue m.tells → AreFounded x.serving.seated → ServingGoesOn x.serving (record { seated = z; owing = o }) m m'
   shut_goes z o m' brings tells founded writes runs =
       let on : RunsTo y z o m m' = brings writes tells (founded_on x.serving.seated y tables_then founded) (has_taken founded writes runs) in
       record { later = on.later; runs = on.runs; told = λ others. told_both founded others z m' (on.told others) }
@@ -222,11 +222,11 @@ module _ (x : Shutting) (m : Meaning) (is : IsShutting x m) (sits : AreSeated x.
     abbrev there : Shutting
     there = record { serving = record { seated = z; owing = o }; closed = closed; waits = true }
 
-    next_ok : {A B : Type 0} (made : List Note) (r : Result A B) → IsOk r → Shuts x there made → ShutsNext x there made r
+    next_ok : {A B : Type 0} (made : List Note) (r : Result A B) → IsOk r → PreparingShuts x there made → ShutsNext x there made r
     next_ok made (Ok v) good shuts = shuts
     next_ok made (Err e) good shuts = absurd (false≢true good)
 
-    next_err : {A B : Type 0} (made : List Note) (r : Result A B) → IsErr r → Halts x there made → ShutsNext x there made r
+    next_err : {A B : Type 0} (made : List Note) (r : Result A B) → IsErr r → PreparingHalts x there made → ShutsNext x there made r
     next_err made (Ok v) bad halts = absurd (false≢true bad)
     next_err made (Err e) bad halts = halts
 

@@ -12,8 +12,8 @@ use Rattle.leaf_machine.specs.declared.preparing.PrepareFault.{PrepareFault}
 use Rattle.leaf_machine.specs.declared.preparing.PrepareFault.TheVariants.{DiskFault, NoRoom, NoMemory}
 use Rattle.leaf_machine.specs.States.{Serving, Shutting, treated}
 use Rattle.leaf_machine.specs.Flushes.{OwedNotes}
-use Rattle.leaf_machine.specs.Prepares.{Halts, behind, half, stuck, whole}
-use Rattle.leaf_machine.specs.PrepParts.{IsNextTreated, IsPartOfStep, Settles, Shuts, ShutsNext}
+use Rattle.leaf_machine.specs.Prepares.{PreparingHalts, behind, half, stuck, whole}
+use Rattle.leaf_machine.specs.PrepParts.{IsNextTreated, IsPartOfStep, PreparingSettles, PreparingShuts, ShutsNext}
 use Rattle.leaf_machine.proofs.PrepSettles.{none_owed}
 
 -- nothing was owed, and so nothing was noted of it
@@ -46,11 +46,11 @@ module _ {B : Type 0} (x y : Shutting × B) where
       (subst (λ (b : B). IsPartOfStep was x.0.serving old new m (meaning b)) (sym (seal_berth r done failed)) part)
 
 -- the next table was shut
-pub shut_ok : {T E : Type 0} (x y : Shutting) (made : List Note) (r : Result T E) → IsOk r → ShutsNext x y made r → Shuts x y made
+pub shut_ok : {T E : Type 0} (x y : Shutting) (made : List Note) (r : Result T E) → IsOk r → ShutsNext x y made r → PreparingShuts x y made
 shut_ok x y made (Ok v) good next = next
 shut_ok x y made (Err e) good next = absurd (false≢true good)
 
-module _ (x mid : Shutting) (first : List Note) (settles : Settles x mid first) where
+module _ (x mid : Shutting) (first : List Note) (settles : PreparingSettles x mid first) where
   -- ---- the next table
 
   module _ (new made : List Note) (open_ : x.waits ≡ false) (all : new ≡ first ++ made) where
@@ -61,7 +61,7 @@ module _ (x mid : Shutting) (first : List Note) (settles : Settles x mid first) 
     pushed : (y : Shutting) (content : Table) → y.closed ≡ mid.closed ++ content ∷ [] → y.closed ≡ x.closed ++ content ∷ []
     pushed y content is = is ∙ ap (λ (l : List Table). l ++ content ∷ []) settles.closed
 
-    halts_behind : (y : Shutting) → Halts mid y made → Halts x y new
+    halts_behind : (y : Shutting) → PreparingHalts mid y made → PreparingHalts x y new
     halts_behind y (half f closing n content was owed is closed shut some owner count) =
         let none : f ≡ [] = noted_none mid.serving.owing.log.owed mid.serving.owing f settles.owed owed in
         half first closing n content open_ settles.noted
@@ -69,11 +69,11 @@ module _ (x mid : Shutting) (first : List Note) (settles : Settles x mid first) 
         (pushed y content closed) shut some (owner ∙ ap (λ (l : List Table). length l) settles.closed) count
     halts_behind y (stuck none some seated owed owner count closed shut) = none_owed mid.serving.owing.log.owed settles.owed some
 
-    pub failed_behind : {T E : Type 0} (y : Shutting) (r : Result T E) → IsErr r → ShutsNext mid y made r → Halts x y new
+    pub failed_behind : {T E : Type 0} (y : Shutting) (r : Result T E) → IsErr r → ShutsNext mid y made r → PreparingHalts x y new
     failed_behind y (Ok v) bad next = absurd (false≢true bad)
     failed_behind y (Err e) bad next = halts_behind y next
 
-    module _ {B : Type 0} (y z : Shutting × B) (shuts : Shuts mid y.0 made) (more : length x.closed < length x.serving.seated.tables) where
+    module _ {B : Type 0} (y z : Shutting × B) (shuts : PreparingShuts mid y.0 made) (more : length x.closed < length x.serving.seated.tables) where
       both : new ≡ first ++ (record { table = length x.closed; number = shuts.closing; what = what.Closed shuts.count } ∷ record { table = length x.closed; number = shuts.flushing; what = what.Flushed shuts.count } ∷ [])
       both = further (λ k. record { table = k; number = shuts.closing; what = what.Closed shuts.count } ∷ record { table = k; number = shuts.flushing; what = what.Flushed shuts.count } ∷ []) shuts.noted
 

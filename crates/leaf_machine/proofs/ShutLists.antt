@@ -1,7 +1,7 @@
 -- How many columns the tables come to that are shut, while the last of them is sealed.
 use Rattle.std.proofs.Common.{◌≡◌, ℕ, ◌+◌, ◌≤◌, List, [], ◌∷◌, ◌++◌, Option, Some, None, sym, ap, ap₂, ◌∙◌, subst, arith, le_refl, append-nil}
 use Rattle.std.proofs.lemmas.List.{map-append}
-use Rattle.leaf_model.specs.declared.rows.Row.{Row}
+use Rattle.row_model.specs.declared.rows.Row.{Row}
 use Rattle.row_blocks.specs.Blocks.{Block}
 use Rattle.row_blocks.specs.Held.{columns_count, rows_and_cells}
 use Rattle.table_state.specs.declared.parts.Parts.{Parts}

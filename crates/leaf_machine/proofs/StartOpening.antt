@@ -1,5 +1,5 @@
 -- What a start finds may be opened, and opened the leaf runs.
-use Rattle.std.proofs.Common.{◌≡◌, ◌∙◌, ℕ, ◌-◌, ◌<◌, ◌≤◌, ◌^◌, Bool, true, false, List, [], ◌∷◌, length, map, take, Option, Some, None, Ok, refl, sym, ap, subst, arith, inl, inr}
+use Rattle.std.proofs.Common.{◌≡◌, ◌∙◌, ℕ, ◌+◌, ◌-◌, ◌<◌, ◌≤◌, ◌^◌, Bool, true, false, List, [], ◌∷◌, length, map, take, Option, Some, None, Ok, refl, sym, ap, subst, arith, inl, inr}
 use Rattle.std.specs.Prelude.{slice_get, IsTrue}
 use Rattle.std.specs.List.{AllByRecursion}
 use Rattle.std.proofs.lemmas.Bool.{false≢true}
@@ -17,7 +17,7 @@ use Rattle.leaf_opening.specs.declared.opening.Opened.{Opened}
 use Rattle.leaf_words.specs.declared.ways.Way.{Way}
 use Rattle.leaf_words.specs.declared.ways.Way.TheVariants.{Disk, Memory}
 use Rattle.leaf_opening.specs.OpenedLeaf.{OpenedLeaf}
-use Rattle.leaf_opening.specs.Starts.{Started, AreFresh, IsCome, OpensFrom, KeepsDisks, IsDurable, opened_leaf}
+use Rattle.leaf_opening.specs.Starts.{StartEnded, AreFresh, IsCome, OpensFrom, KeepsDisks, IsDurable, opened_leaf}
 use Rattle.leaf_table.specs.Turns.{HasFewColumns, Shared, is_founded, MayHandIn}
 use Rattle.leaf_table.specs.Calls.{SeatView, base_seen, name_of, state_seen}
 use Rattle.crash_moments.specs.Left.{NamedStates}
@@ -29,7 +29,7 @@ use Rattle.crash_states.specs.Entries.{OpensAll}
 use Rattle.crash_states.proofs.Lefts.{runs_told}
 use Rattle.crash_states.proofs.Names.{each_at}
 use Rattle.crash_states.proofs.States.{now_sound}
-use Rattle.crash_starting.specs.Laws.{OpeningMade, Finds, HasContent, Opens, names_of}
+use Rattle.crash_starting.specs.Laws.{OpeningMade, FindsOpenable, HasContent, Opens, names_of}
 use Rattle.crash_starting.proofs.Starting.{opening_told, found, openable, opens}
 use Rattle.leaf_steward.specs.declared.notes.Note.{Note}
 use Rattle.leaf_steward.specs.Seated.{Seated, AreSeated, AreFounded, watched, watched_by}
@@ -42,14 +42,14 @@ use Rattle.leaf_machine.specs.States.{DownStands}
 -- what opening the tables did, where the berth tells its contents
 pub record StartOpened (x : Seated) (a b : Meaning) (o : Opened) : Type 0 where
   pub made : OpeningMade a b (Ok o)
-  pub started : Started x.names a b (opened_leaf x.names o) o.way
+  pub started : StartEnded x.names a b (opened_leaf x.names o) o.way
   pub durable : IsDurable b o
 
 pub start_opened : (x : Seated) (a b : Meaning) (o : Opened) (names : List (List ℕ)) → names ≡ x.names → Passes a b → StandsNow b → Throughout (OpensFrom a) a b → KeepsDisks a b (Ok o)
-    → BeginsScan (length a.held.disk) a.held.disk b.held.disk → Started names a b (opened_leaf names o) o.way → IsDurable b o → StartOpened x a b o
+    → BeginsScan (length a.held.disk) a.held.disk b.held.disk → StartEnded names a b (opened_leaf names o) o.way → IsDurable b o → StartOpened x a b o
 start_opened x a b o names same passes stands moments disks held started durable = record {
   made = record { passes = passes; stands = stands; moments = moments; disks = disks; held = held };
-  started = subst (λ (own : List (List ℕ)). Started own a b (opened_leaf own o) o.way) same started;
+  started = subst (λ (own : List (List ℕ)). StartEnded own a b (opened_leaf own o) o.way) same started;
   durable = durable;
 }
 
@@ -68,13 +68,13 @@ some_watched x seated = omega (arith, watch_length x seated, table_count x seate
 -- ---- one table
 
 -- a table that is handed in: of a founded one the history says what may be opened, and of another nothing is asked
-hand_in : (founded : Bool) (s : HistoryState) (table : Table) → table.pending ≡ None → table.writes < 2 ^ 63 → HasFewColumns founded (history.first_writes s table.writes) table
+hand_in : (founded : Bool) (s : HistoryState) (table : Table) → table.pending ≡ None → table.writes < 2 ^ 63 → HasFewColumns founded s.spare (history.first_writes s table.writes) table
     → OpenAllowed founded s table.writes table.contents → MayHandIn founded s table.writes table
 hand_in founded s table fresh small few may = record { pending = fresh; writes = refl; small = small; columns = few; allowed = may }
 
 -- of which nothing is told of how its rows stand
-bare_few : (founded : Bool) (writes : List Write) (table : Table) → table.store ≡ no_store → HasFewColumns founded writes table
-bare_few founded writes table none is = subst (λ (s : Store). columns_most s ≤ added_count writes) (sym none) (omega arith)
+bare_few : (founded : Bool) (spare : ℕ) (writes : List Write) (table : Table) → table.store ≡ no_store → HasFewColumns founded spare writes table
+bare_few founded spare writes table none is = subst (λ (s : Store). columns_most s ≤ spare + added_count writes) (sym none) (omega arith)
 
 -- the first of its writes are those of its log
 first_is : (s : HistoryState) (writes : List Write) (n : ℕ) → s.handed_in ≡ 0 → writes ≡ take (length writes) s.writes → n ≡ length writes → history.first_writes s n ≡ writes
@@ -114,13 +114,13 @@ module _ (x : Seated) (seated : AreSeated x) (a b : Meaning) (o : Opened) where
   ws = watched_by x
 
   pub finds : (others : NamedStates) (least : List ℕ → List Write) (next : Option LogRecord) → Rests ws others least next a → StartOpened x a b o
-      → (writes : List ℕ → List Write) × Finds ws o.log o.tables.each o.tables.columns writes b
+      → (writes : List ℕ → List Write) × FindsOpenable ws o.log o.tables.each o.tables.columns writes b
   finds others least next rests opened =
-      let started : Started (names_of ws) a b (opened_leaf (names_of ws) o) o.way = subst (λ (names : List (List ℕ)). Started names a b (opened_leaf names o) o.way) (sym (watch_names x seated)) opened.started in
+      let started : StartEnded (names_of ws) a b (opened_leaf (names_of ws) o) o.way = subst (λ (names : List (List ℕ)). StartEnded names a b (opened_leaf names o) o.way) (sym (watch_names x seated)) opened.started in
       found ws others least next a b o rests opened.made started opened.durable
 
   -- what is found may be handed in, at each place
-  founded_hand : AreFounded x → (writes : List ℕ → List Write) → Finds ws o.log o.tables.each o.tables.columns writes b
+  founded_hand : AreFounded x → (writes : List ℕ → List Write) → FindsOpenable ws o.log o.tables.each o.tables.columns writes b
       → AreFresh o.tables.each → AllByRecursion (λ (t : Table). t.writes < 2 ^ 63) o.tables.each → AllByRecursion IsBare o.tables.each
       → (place : ℕ) (t : Shared) (v : SeatView) (table : Table) → slice_get x.tables place ≡ Some t → slice_get x.seats place ≡ Some v → slice_get o.tables.each place ≡ Some table
       → MayHandIn (is_founded (base_seen t)) (state_seen (base_seen t) v) table.writes table
@@ -130,7 +130,7 @@ module _ (x : Seated) (seated : AreSeated x) (a b : Meaning) (o : Opened) where
       hand_in (is_founded (base_seen t)) (state_seen (base_seen t) v) table
       (watch_all (λ (u : Table). u.pending ≡ None) o.tables.each place table fresh at)
       (watch_all (λ (u : Table). u.writes < 2 ^ 63) o.tables.each place table room at)
-      (bare_few (is_founded (base_seen t)) (history.first_writes (state_seen (base_seen t) v) table.writes) table (watch_all IsBare o.tables.each place table bare at))
+      (bare_few (is_founded (base_seen t)) (state_seen (base_seen t) v).spare (history.first_writes (state_seen (base_seen t) v) table.writes) table (watch_all IsBare o.tables.each place table bare at))
       (may_hold t v (writes (name_of t)) table is_base (has.contents place (watched t v) table there at) (openable ws o.log writes b place (watched t v) has.may there))
 
   other_hand : AllByRecursion (λ (t : Shared). is_founded (base_seen t) ≡ false) x.tables → AreFresh o.tables.each → AllByRecursion (λ (t : Table). t.writes < 2 ^ 63) o.tables.each
@@ -153,10 +153,10 @@ module _ (x : Seated) (seated : AreSeated x) (a b : Meaning) (o : Opened) where
       founded_hand founded has.0 has.1 fresh room (come_bare x.names a.held.region b.held.disk (opened_leaf x.names o) o.way (opened stood.0).started.come)
   may_hand (inr none) stands opened fresh room = other_hand none fresh room
 
-  -- and each comes to at most a column for each row and each cell that its first writes add
-  founded_few : AreFounded x → (writes : List ℕ → List Write) → Finds ws o.log o.tables.each o.tables.columns writes b
+  -- and each comes to at most a column for each row and each cell that its first writes add, and the spare ones
+  founded_few : AreFounded x → (writes : List ℕ → List Write) → FindsOpenable ws o.log o.tables.each o.tables.columns writes b
       → (place : ℕ) (t : Shared) (v : SeatView) (table : Table) (n : ℕ) → slice_get x.tables place ≡ Some t → slice_get x.seats place ≡ Some v → slice_get o.tables.each place ≡ Some table
-      → slice_get o.tables.columns place ≡ Some n → n ≤ added_count (history.first_writes (state_seen (base_seen t) v) table.writes)
+      → slice_get o.tables.columns place ≡ Some n → n ≤ (state_seen (base_seen t) v).spare + added_count (history.first_writes (state_seen (base_seen t) v) table.writes)
   founded_few founded writes has place t v table n here sat at counted =
       let w : Watched = watched t v in
       let there : slice_get ws place ≡ Some w = watch_get x place t v here sat in
@@ -166,11 +166,12 @@ module _ (x : Seated) (seated : AreSeated x) (a b : Meaning) (o : Opened) where
       first_is (now_of w) (writes (name_of t)) table.writes sound.handed_in (has.may.each place w there).front (has.contents place w table there at).count in
       let seen : history.first_writes (state_seen (base_seen t) v) table.writes ≡ writes (name_of t) =
       subst (λ (s : HistoryState). history.first_writes s table.writes ≡ writes (name_of t)) (now_seen t v is_base) first in
-      subst (λ (l : List Write). n ≤ added_count l) (sym seen) (has.few place w n there counted)
+      let found = has.few place w n there counted in
+      omega (arith, found, ap added_count seen, ap (λ (s : HistoryState). s.spare) (now_seen t v is_base))
 
   pub may_few : AreAlike x → DownStands x a → (IsTrue a.tells → StartOpened x a b o)
       → (place : ℕ) (t : Shared) (v : SeatView) (table : Table) (n : ℕ) → slice_get x.tables place ≡ Some t → slice_get x.seats place ≡ Some v → slice_get o.tables.each place ≡ Some table
-      → slice_get o.tables.columns place ≡ Some n → is_founded (base_seen t) ≡ true → n ≤ added_count (history.first_writes (state_seen (base_seen t) v) table.writes)
+      → slice_get o.tables.columns place ≡ Some n → is_founded (base_seen t) ≡ true → n ≤ (state_seen (base_seen t) v).spare + added_count (history.first_writes (state_seen (base_seen t) v) table.writes)
   may_few (inl founded) stands opened place t v table n here sat at counted is_base =
       let stood = stands founded in
       let has = finds stood.1.0 stood.1.1 stood.1.2 stood.1.3 (opened stood.0) in
@@ -180,7 +181,7 @@ module _ (x : Seated) (seated : AreSeated x) (a b : Meaning) (o : Opened) where
 
   -- and then it runs
   module _ (y : Seated) (notes : List Note) (count : length o.tables.each ≡ length x.tables) (makes : Makes b.clock b.clock x notes y) (each : OpenedNotes 0 o.tables.each notes) where
-    opens_found : AreFounded x → (owner : ℕ) (writes : List ℕ → List Write) → Finds ws o.log o.tables.each o.tables.columns writes b → Opens ws (watched_by y) owner o.log writes b
+    opens_found : AreFounded x → (owner : ℕ) (writes : List ℕ → List Write) → FindsOpenable ws o.log o.tables.each o.tables.columns writes b → Opens ws (watched_by y) owner o.log writes b
     opens_found founded owner writes has =
         let all : OpensAll b.clock writes ws (watched_by y) =
         makes_opens b.clock x o.tables.each writes notes y seated founded makes each count (λ place w t there at. (has.contents place w t there at).count) has.may.each in

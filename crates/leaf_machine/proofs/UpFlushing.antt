@@ -20,7 +20,7 @@ use Rattle.leaf_steward.proofs.WatchPlaces.{watch_same}
 use Rattle.leaf_steward.specs.Owing.{Owing, Brings, HasJustTaken, RunsTo, SettlesOwed, flushed_note}
 use Rattle.leaf_machine.specs.declared.up.FlushReply.{FlushReply}
 use Rattle.leaf_machine.specs.declared.up.FlushReply.TheVariants as reply
-use Rattle.leaf_machine.specs.States.{Serving, IsUp, UpStands, GoesOn, GoesOnServing}
+use Rattle.leaf_machine.specs.States.{Serving, IsUp, UpStands, ServingGoesOn, GoesOnServing}
 use Rattle.leaf_machine.specs.Flushes.{Flushes, FreshBehind, OwedNotes}
 use Rattle.leaf_machine.specs.UpFlush.{FlushGoes}
 use Rattle.leaf_machine.proofs.UpSeats.{Serves, count_taken, named_taken, serves_flushed, serves_taken, spares_taken, takes_entry}
@@ -48,7 +48,7 @@ Settling x y m m' = (writes : List ℕ → List Write) → IsTrue m.tells → Ar
 pub record Goes (x y : Serving) (notes : List Note) (m m' : Meaning) : Type 0 where
   pub serves : Serves y.seated
   pub made : Makes m.clock m'.clock x.seated notes y.seated
-  pub crash : IsTrue m.tells → AreFounded x.seated → GoesOn x y m m'
+  pub crash : IsTrue m.tells → AreFounded x.seated → ServingGoesOn x y m m'
   pub region : IsTrue m.tells → m'.held.region ≡ m.held.region
   pub time : Passes m m'
   pub reads : m'.disk_reads ≡ m.disk_reads
@@ -205,7 +205,7 @@ module _ {T E : Type 0} (table number n : ℕ) (pending : Option LogRecord) (x y
   passes : Passes a c
   passes = passes_on a b c goes.time outside.time
 
-  crash_on : IsTrue a.tells → AreFounded x.seated → GoesOn x z a c
+  crash_on : IsTrue a.tells → AreFounded x.seated → ServingGoesOn x z a c
   crash_on tells founded writes runs_now =
       let one : GoesOnServing x y a b = goes.crash tells founded writes runs_now in
       let founded_now : AreFounded y.seated = founded_as x.seated y.seated (same_tables table x y first a b up seated goes) founded in

@@ -5,12 +5,12 @@ use Rattle.leaf_model.specs.declared.writes.Write.{Write}
 use Rattle.row_records.specs.Records.{LogRecord}
 use Rattle.berth_face.specs.Berth.{Meaning}
 use Rattle.disk_backup.specs.State.{LogState}
-use Rattle.turnstile.specs.Seats.{LearnsOthers, Others, Told}
+use Rattle.turnstile.specs.Seats.{LearnsOthers, Others, SeesAlso}
 use Rattle.leaf_history.specs.History.{Entry, HistoryState, LegalFrom, after}
 use Rattle.leaf_history.specs.Laws.{CallersKeep}
 use Rattle.leaf_history.proofs.Histories.{LegalFrom-back, after-append, others_keep}
 use Rattle.crash_moments.specs.Left.{NamedStates}
-use Rattle.leaf_table.specs.Turns.{Shared, Turns, told, history, is_founded, start_of}
+use Rattle.leaf_table.specs.Turns.{Shared, TurnsTaken, told, history, is_founded, start_of}
 use Rattle.leaf_table.specs.Calls.{SeatView, AreOthers, base_seen, name_of, seen_of, state_seen}
 use Rattle.leaf_table.proofs.Knowing.{callers_of}
 use Rattle.crash_moments.specs.Watched.{Watched}
@@ -25,11 +25,11 @@ use Rattle.leaf_machine.proofs.UpSeats.{Serves}
 
 -- ---- one seat
 
-history_on : (xs ys : Turns) → history (xs ++ ys) ≡ history xs ++ history ys
+history_on : (xs ys : TurnsTaken) → history (xs ++ ys) ≡ history xs ++ history ys
 history_on [] ys = refl
 history_on (x ∷ xs) ys = ap (λ (es : List Entry). told x ∷ es) (history_on xs ys)
 
-others_told : (v : SeatView) (es : Turns) → Others v es → AreOthers v (history es)
+others_told : (v : SeatView) (es : TurnsTaken) → Others v es → AreOthers v (history es)
 others_told v [] o = tt
 others_told v (e ∷ es) o = (o.0, others_told v es o.1)
 
@@ -37,11 +37,11 @@ abbrev IsLegalAt : Shared → SeatView → Type 0
 IsLegalAt t w = LegalFrom (is_founded (base_seen t)) (start_of (base_seen t)) (seen_of w)
 
 -- callers left what the steward knew
-pub met_keeps : (t : Shared) (v u w : SeatView) → IsSeated t v → Told v u w → LearnsOthers v w → IsLegalAt t w → CallersKeep (state_seen (base_seen t) v) (state_seen (base_seen t) w)
+pub met_keeps : (t : Shared) (v u w : SeatView) → IsSeated t v → SeesAlso v u w → LearnsOthers v w → IsLegalAt t w → CallersKeep (state_seen (base_seen t) v) (state_seen (base_seen t) w)
 met_keeps t v u w seated met others legal =
     let f : Bool = is_founded (base_seen t) in
     let s : HistoryState = start_of (base_seen t) in
-    let more : Turns = met.longer.own.0 in
+    let more : TurnsTaken = met.longer.own.0 in
     let seen : w.seen ≡ v.seen ++ more = ap (λ (x : SeatView). x.seen) met.view ∙ sym met.longer.own.1 in
     let all : seen_of w ≡ seen_of v ++ history more = ap history seen ∙ history_on v.seen more in
     let whole : LegalFrom f s (seen_of v ++ history more) = subst (λ (es : List Entry). LegalFrom f s es) all legal in
@@ -61,7 +61,7 @@ pub record Meets (x y : Seated) (place : ℕ) : Type 0 where
   pub at : slice_get x.tables place ≡ Some table
   pub was : slice_get x.seats place ≡ Some before
   pub now : y ≡ with_seat x place after
-  pub told : Told before caller after
+  pub told : SeesAlso before caller after
   pub others : LearnsOthers before after
   pub legal : IsLegalAt table after
 
@@ -72,7 +72,7 @@ module _ {A : Type 0} where
   some_at (x ∷ xs) (suc i) within = some_at xs i (omega (arith, within))
 
 pub meets_in : (x y : Seated) (place : ℕ) (u : SeatView) → AreSeated x → place < length x.tables
-    → AtPlace (λ t v. (w : SeatView) × (y ≡ with_seat x place w) × Told v u w × LearnsOthers v w × LegalFrom (is_founded (base_seen t)) (start_of (base_seen t)) (seen_of w)) x place → Meets x y place
+    → AtPlace (λ t v. (w : SeatView) × (y ≡ with_seat x place w) × SeesAlso v u w × LearnsOthers v w × LegalFrom (is_founded (base_seen t)) (start_of (base_seen t)) (seen_of w)) x place → Meets x y place
 meets_in x y place u seated within met =
     let table = some_at x.tables place within in
     let seat = some_at x.seats place (omega (arith, within, seated.count)) in

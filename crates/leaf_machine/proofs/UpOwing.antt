@@ -9,7 +9,7 @@ use Rattle.leaf_table.specs.Turns.{Shared, is_founded}
 use Rattle.std.specs.List.{AllByRecursion}
 use Rattle.crash_states.specs.Standing.{Runs}
 use Rattle.leaf_steward.specs.Seated.{Seated, AtPlace, AreFounded, Spares, watched_by}
-use Rattle.leaf_machine.specs.States.{Serving, IsUp, UpStands, GoesOn}
+use Rattle.leaf_machine.specs.States.{Serving, IsUp, UpStands, ServingGoesOn}
 use Rattle.leaf_machine.proofs.UpSeats.{Serves}
 
 -- the record that is owed is of a table in that place, which knows that so many writes were taken and has room for four
@@ -46,7 +46,7 @@ founded_as x y same founded = subst (λ ts. AllByRecursion (λ (t : Shared). is_
 
 -- what runs on still stands
 pub stands_on : (x y : Serving) (m m' : Meaning) → y.seated.tables ≡ x.seated.tables → m'.tells ≡ m.tells → UpStands x m
-    → (IsTrue m.tells → AreFounded x.seated → GoesOn x y m m') → UpStands y m'
+    → (IsTrue m.tells → AreFounded x.seated → ServingGoesOn x y m m') → UpStands y m'
 stands_on x y m m' same tells stands goes = λ founded.
     let before : AreFounded x.seated = founded_as y.seated x.seated (sym same) founded in
     let told : IsTrue m.tells × ((writes : List ℕ → List Write) × Runs (watched_by x.seated) x.owing.owner x.owing.log writes m) = stands before in

@@ -5,7 +5,7 @@ use Rattle.leaf_model.specs.declared.writes.Write.{Write}
 use Rattle.row_records.specs.Records.{LogRecord}
 use Rattle.leaf_history.specs.Calls.{Call}
 use Rattle.leaf_history.specs.Calls as call
-use Rattle.leaf_history.specs.Replies.{Reply}
+use Rattle.leaf_history.specs.Replies.{EntryReply}
 use Rattle.leaf_history.specs.Replies as reply
 use Rattle.leaf_history.specs.History.{untaken}
 use Rattle.leaf_table.specs.Turns.{Shared, record_for}
@@ -26,7 +26,7 @@ pub steward_may : (t : Shared) (v : SeatView) → IsSeated t v → 1 ≤ v.room 
 steward_may t v seated room = (seated.id, omega (arith, seated.share, room))
 
 -- it takes at most one of the room
-pub room_after : (t : Shared) (clock n : ℕ) (v w : SeatView) (c : Call) (r : Reply) → Made (base_seen t) clock v c r w → suc n ≤ v.room → n ≤ w.room
+pub room_after : (t : Shared) (clock n : ℕ) (v w : SeatView) (c : Call) (r : EntryReply) → Made (base_seen t) clock v c r w → suc n ≤ v.room → n ≤ w.room
 room_after t clock n v w c r made room = omega (arith, made.room.1, room)
 
 -- what holds of the new seat holds in its place

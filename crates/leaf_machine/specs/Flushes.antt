@@ -20,9 +20,9 @@ OwedNotes (Some r) o notes = (number : ℕ) × (notes ≡ flushed_note o number 
 abbrev pub FreshBehind : Seated → List Note → ℕ → Type 0
 FreshBehind x notes place = (from to : ℕ) × (y : Seated) × Makes from to x notes y × AtPlace (λ t v. IsFresh v) y place
 
--- A flush of a table. done: what was owed is settled; then the table is taken, and noted as flushed with the same
+-- A flush of a table. done: the owed record is settled; then the table is taken, and noted as flushed with the same
 -- number of writes. half: the disk fails after the take, and the record is owed. worn: the seat is worn, and the table
--- is not taken. stuck: the disk fails at what was owed.
+-- is not taken. stuck: the disk fails while the owed record is settled.
 pub data Flushes (table : ℕ) (old new : Serving) (notes : List Note) (reply : FlushReply) : Type 0 where
   done : (first : List Note) (taking flushing n : ℕ)
       → OwedNotes old.owing.log.owed old.owing first

@@ -9,24 +9,24 @@ use Rattle.leaf_steward.specs.Seated.{AreFounded}
 use Rattle.leaf_steward.specs.Making.{NotesOn}
 use Rattle.leaf_machine.specs.declared.preparing.PrepareFault.{PrepareFault}
 use Rattle.leaf_machine.specs.declared.preparing.PrepareFault.TheVariants.{DiskFault, NoRoom, NoMemory}
-use Rattle.leaf_machine.specs.States.{Serving, Shutting, GoesOn}
+use Rattle.leaf_machine.specs.States.{Serving, Shutting, ServingGoesOn}
 use Rattle.leaf_machine.specs.Flushes.{OwedNotes}
-use Rattle.leaf_machine.specs.Prepares.{Treats, Halts, Starves}
+use Rattle.leaf_machine.specs.Prepares.{PreparingTreats, PreparingHalts, PreparingStarves}
 
 -- a part of a step: its entries are appended to the notes, and the leaf runs on over its berth
 pub record IsPartOfStep (x y : Serving) (before after : List Note) (m m' : Meaning) : Type 0 where
   pub made : NotesOn m.clock m'.clock x.seated before after y.seated
-  pub crash : IsTrue m.tells → AreFounded x.seated → GoesOn x y m m'
+  pub crash : IsTrue m.tells → AreFounded x.seated → ServingGoesOn x y m m'
   pub region : IsTrue m.tells → m'.held.region ≡ m.held.region
   pub time : Passes m m'
   pub reads : m'.disk_reads ≡ m.disk_reads
 
 -- Ok: one more table is treated; Err: the disk fails, or memory runs out
 abbrev pub IsNextTreated : {T : Type 0} → Shutting → Shutting → List Note → Result T PrepareFault → Type 0
-IsNextTreated x y notes (Ok done) = Treats x y notes
-IsNextTreated x y notes (Err DiskFault) = Halts x y notes
+IsNextTreated x y notes (Ok done) = PreparingTreats x y notes
+IsNextTreated x y notes (Err DiskFault) = PreparingHalts x y notes
 IsNextTreated x y notes (Err NoRoom) = ⊥
-IsNextTreated x y notes (Err NoMemory) = Starves x y notes
+IsNextTreated x y notes (Err NoMemory) = PreparingStarves x y notes
 
 -- DiskFault is answered only if the count of the disk's faults rose
 abbrev pub RoseNext : {T : Type 0} → ℕ → ℕ → Result T PrepareFault → Type 0
@@ -42,14 +42,14 @@ pub record IsAllTreated (x : Shutting) : Type 0 where
   pub none : x.serving.owing.log.owed ≡ None
 
 -- the owed record is settled and noted
-pub record Settles (old new : Shutting) (notes : List Note) : Type 0 where
+pub record PreparingSettles (old new : Shutting) (notes : List Note) : Type 0 where
   pub noted : OwedNotes old.serving.owing.log.owed old.serving.owing notes
   pub closed : new.closed ≡ old.closed
   pub shut : new.waits ≡ old.waits
   pub owed : new.serving.owing.log.owed ≡ None
 
 -- the next table is shut, and noted as closed and as flushed; all of it is in the log, and its tail is not sealed
-pub record Shuts (old new : Shutting) (notes : List Note) : Type 0 where
+pub record PreparingShuts (old new : Shutting) (notes : List Note) : Type 0 where
   pub closing : ℕ
   pub flushing : ℕ
   pub count : ℕ
@@ -61,5 +61,5 @@ pub record Shuts (old new : Shutting) (notes : List Note) : Type 0 where
 
 -- Ok: the next table is shut; Err: the disk failed
 abbrev pub ShutsNext : {T E : Type 0} → Shutting → Shutting → List Note → Result T E → Type 0
-ShutsNext x y notes (Ok done) = Shuts x y notes
-ShutsNext x y notes (Err fault) = Halts x y notes
+ShutsNext x y notes (Ok done) = PreparingShuts x y notes
+ShutsNext x y notes (Err fault) = PreparingHalts x y notes

@@ -9,7 +9,7 @@ use Rattle.leaf_opening.specs.declared.ways.OpenFault.{OpenFault}
 use Rattle.leaf_opening.specs.declared.ways.OpenFault.TheVariants as found
 use Rattle.leaf_opening.specs.OpenedLeaf.{OpenedLeaf}
 use Rattle.leaf_opening.specs.Answers.{GoesToLog, IsAnswer}
-use Rattle.leaf_opening.specs.Starts.{Started, IsOpeningRefusal}
+use Rattle.leaf_opening.specs.Starts.{StartEnded, IsOpeningRefusal}
 use Rattle.leaf_table.specs.Calls.{SeatView, IsFresh}
 use Rattle.crash_moments.specs.Left.{NamedStates}
 use Rattle.crash_states.specs.Standing.{Runs, Rests}
@@ -64,7 +64,7 @@ IsStart x berth notes (Err ((y, b), fault)) = AtEach (λ place t v. IsFresh v) x
 -- what was found, over a berth that tells its contents
 pub record CameUp (names : List (List ℕ)) (old new : Meaning) (notes : List Note) (up : Serving) (way : Way) : Type 0 where
   pub served : OpenedLeaf
-  pub started : Started names old new served way
+  pub started : StartEnded names old new served way
   pub log : up.owing.log ≡ served.log
   pub noted : OpenedNotes 0 served.tables notes
 

@@ -3,7 +3,7 @@ use Rattle.std.specs.Prelude.{◌≡◌, ◌≢◌, ◌⊎◌, ℕ, suc, ◌+◌
 use Rattle.leaf_model.specs.declared.writes.Write.{Write}
 use Rattle.row_records.specs.Records.{LogRecord}
 use Rattle.berth_face.specs.Berth.{Meaning}
-use Rattle.leaf_history.specs.History.{HistoryState, held, write_count}
+use Rattle.leaf_history.specs.History.{HistoryState, contents_held, write_count}
 use Rattle.table_state.specs.Tables.{Table, added_count, least_columns}
 use Rattle.drain_copy.specs.declared.step.Next.TheVariants.{Nothing}
 use Rattle.drain_copy.specs.Draining.{DrainState}
@@ -43,19 +43,19 @@ treated x = if x.waits then length x.closed - 1 else length x.closed
 abbrev pub columns_seen : List Shared → List SeatView → ℕ
 columns_seen [] vs = 0
 columns_seen (t ∷ ts) [] = 0
-columns_seen (t ∷ ts) (v ∷ vs) = least_columns (held (state_seen (base_seen t) v)).rows + columns_seen ts vs
+columns_seen (t ∷ ts) (v ∷ vs) = least_columns (contents_held (state_seen (base_seen t) v)).rows + columns_seen ts vs
 
--- the number of rows and cells that the writes of all tables add
+-- the number of rows and cells that the writes of all tables add, and of spare columns
 abbrev pub columns_added : List Shared → List SeatView → ℕ
 columns_added [] vs = 0
 columns_added (t ∷ ts) [] = 0
-columns_added (t ∷ ts) (v ∷ vs) = added_count (state_seen (base_seen t) v).writes + columns_added ts vs
+columns_added (t ∷ ts) (v ∷ vs) = (state_seen (base_seen t) v).spare + added_count (state_seen (base_seen t) v).writes + columns_added ts vs
 
 -- the same, and the number of these writes
 abbrev pub bulk_added : List Shared → List SeatView → ℕ
 bulk_added [] vs = 0
 bulk_added (t ∷ ts) [] = 0
-bulk_added (t ∷ ts) (v ∷ vs) = length (state_seen (base_seen t) v).writes + added_count (state_seen (base_seen t) v).writes + bulk_added ts vs
+bulk_added (t ∷ ts) (v ∷ vs) = length (state_seen (base_seen t) v).writes + (state_seen (base_seen t) v).spare + added_count (state_seen (base_seen t) v).writes + bulk_added ts vs
 
 -- ---- what region and disk hold of founded tables
 
@@ -89,7 +89,7 @@ pub record IsUp (x : Serving) (m : Meaning) : Type 0 where
 
 -- the content of a table when it was shut
 pub record IsContent (s : HistoryState) (t : Table) : Type 0 where
-  pub contents : t.contents ≡ held s
+  pub contents : t.contents ≡ contents_held s
   pub writes : t.writes ≡ write_count s
 
 -- the table is shut, and all its writes were taken
@@ -134,8 +134,8 @@ pub record GoesOnServing (x y : Serving) (m m' : Meaning) : Type 0 where
   pub runs : Runs (watched_by y.seated) y.owing.owner y.owing.log later m'
   pub told : (others : NamedStates) → SeatsTold others x.seated y.seated m m'
 
-abbrev pub GoesOn : Serving → Serving → Meaning → Meaning → Type 0
-GoesOn x y m m' = (writes : List ℕ → List Write) → Runs (watched_by x.seated) x.owing.owner x.owing.log writes m → GoesOnServing x y m m'
+abbrev pub ServingGoesOn : Serving → Serving → Meaning → Meaning → Type 0
+ServingGoesOn x y m m' = (writes : List ℕ → List Write) → Runs (watched_by x.seated) x.owing.owner x.owing.log writes m → GoesOnServing x y m m'
 
 -- the leaf is at rest, whatever the base of names that it does not have, and at each moment all that a crash may leave
 -- belongs to its tables

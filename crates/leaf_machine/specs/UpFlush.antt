@@ -7,7 +7,7 @@ use Rattle.leaf_steward.specs.Seated.{AreFounded}
 use Rattle.leaf_steward.specs.Making.{Makes}
 use Rattle.leaf_machine.specs.declared.up.FlushReply.{FlushReply}
 use Rattle.leaf_machine.specs.declared.up.FlushReply.TheVariants.{DiskFault}
-use Rattle.leaf_machine.specs.States.{Serving, IsUp, GoesOn}
+use Rattle.leaf_machine.specs.States.{Serving, IsUp, ServingGoesOn}
 use Rattle.leaf_machine.specs.Flushes.{Flushes}
 
 -- the leaf before and after a flush, and its berth
@@ -15,7 +15,7 @@ pub record FlushGoes (table : ℕ) (x y : Serving) (notes : List Note) (reply : 
   pub flushes : Flushes table x y notes reply
   pub up : IsUp y m'
   pub made : Makes m.clock m'.clock x.seated notes y.seated
-  pub crash : IsTrue m.tells → AreFounded x.seated → GoesOn x y m m'
+  pub crash : IsTrue m.tells → AreFounded x.seated → ServingGoesOn x y m m'
   pub region : IsTrue m.tells → m'.held.region ≡ m.held.region
   pub time : Passes m m'
   pub cause : reply ≡ DiskFault → Rose m.disk_faults m'.disk_faults

@@ -38,7 +38,8 @@ impl<'t, B: Berth> Model for Copying<'t, B> {
 
     ghost view = { λ leaf. (record { seated = leaf.seats; drain = leaf.drain }, leaf.berth) };
 
-    ghost invariant = { λ leaf. state.IsCopying (record { seated = leaf.seats; drain = leaf.drain }) (B.meaning leaf.berth) };
+    ghost invariant = { λ leaf. state.IsCopying (record { seated = leaf.seats; drain = leaf.drain })
+        (B.meaning leaf.berth) };
 }
 
 /// After a step of the copy: a leaf that copies on, or a leaf at rest that handed all tables over.
@@ -58,23 +59,31 @@ impl<'t, B: Berth> Copying<'t, B> {
         notes: &mut Notes,
     ) -> Result<Copied<'t, B>, (Down<'t, B>, RegionFault)>
         ensures step { IsCopyStep self.entry.0 notes.new result }
-        ensures made { Makes (B.meaning self.entry.1).clock (B.meaning (berth_of_copy result)).clock self.entry.0.seated notes.new (seats_of_copy result) }
+        ensures made { Makes (B.meaning self.entry.1).clock (B.meaning (berth_of_copy result)).clock self.entry.0.seated
+            notes.new (seats_of_copy result) }
         // At each moment since the call began, all that a crash may leave belongs to the tables as they stood then.
-        ensures crash { IsTrue (B.meaning self.entry.1).tells → AreFounded self.entry.0.seated → CopyGoesOn B.meaning self.entry.0 (B.meaning self.entry.1) result }
+        ensures crash { IsTrue (B.meaning self.entry.1).tells → AreFounded self.entry.0.seated
+            → CopyGoesOn B.meaning self.entry.0 (B.meaning self.entry.1) result }
         // What the region holds once the copy is over.
-        ensures region { IsTrue (B.meaning self.entry.1).tells → AreFounded self.entry.0.seated → (writes : List ℕ → List Write)
-            → Copies (watched_by self.entry.0.seated) self.entry.0.drain writes (B.meaning self.entry.1) → LeavesRegion B.meaning self.entry.0 result }
+        ensures region { IsTrue (B.meaning self.entry.1).tells → AreFounded self.entry.0.seated
+            → (writes : List ℕ → List Write)
+            → Copies (watched_by self.entry.0.seated) self.entry.0.drain writes (B.meaning self.entry.1)
+            → LeavesRegion B.meaning self.entry.0 result }
         // The columns that are still held and the region together are never longer than the image; while a column is
         // written, by at most the longest column.
-        ensures room { IsTrue (B.meaning self.entry.1).tells → AreFounded self.entry.0.seated → IsInImage B.meaning self.entry.0 result }
-        ensures inside { IsTrue (B.meaning self.entry.1).tells → AreFounded self.entry.0.seated → self.entry.0.drain.next ≢ next.Begin
+        ensures room { IsTrue (B.meaning self.entry.1).tells → AreFounded self.entry.0.seated
+            → IsInImage B.meaning self.entry.0 result }
+        ensures inside { IsTrue (B.meaning self.entry.1).tells → AreFounded self.entry.0.seated
+            → self.entry.0.drain.next ≢ next.Begin
             → Meanwhile (IsInRoom self.entry.0.drain) (B.meaning self.entry.1) (B.meaning (berth_of_copy result)) }
         // At each moment of the first step the region is a prefix of what it was, which is being cut, or has at most 16
         // bytes.
         ensures begun { IsTrue (B.meaning self.entry.1).tells → self.entry.0.drain.next ≡ next.Begin
-            → Meanwhile (IsCutOrBegun (B.meaning self.entry.1).held.region) (B.meaning self.entry.1) (B.meaning (berth_of_copy result)) }
+            → Meanwhile (IsCutOrBegun (B.meaning self.entry.1).held.region) (B.meaning self.entry.1)
+            (B.meaning (berth_of_copy result)) }
         ensures time { Passes (B.meaning self.entry.1) (B.meaning (berth_of_copy result)) }
-        ensures cause { HasCause (B.meaning self.entry.1).region_faults (B.meaning (berth_of_copy result)).region_faults result }
+        ensures cause { HasCause (B.meaning self.entry.1).region_faults (B.meaning (berth_of_copy result)).region_faults
+            result }
         ensures reads { (B.meaning (berth_of_copy result)).disk_reads ≡ (B.meaning self.entry.1).disk_reads }
     {
         notes.clear();
@@ -100,10 +109,11 @@ impl<'t, B: Berth> Copying<'t, B> {
         }
     }
 
-    /// Gives the copy up. The region that is left is closed. No entry is made: each table is shut.
+    /// Gives the copy up, and leaves a closed region. Makes no entry: each table is already shut.
     pub fn kill(self) -> Down<'t, B>
         ensures leaf { result ≡ (self.entry.0.seated, self.entry.1) }
-        ensures crash { (writes : List ℕ → List Write) → AreFounded self.entry.0.seated → Copies (watched_by self.entry.0.seated) self.entry.0.drain writes (B.meaning self.entry.1)
+        ensures crash { (writes : List ℕ → List Write) → AreFounded self.entry.0.seated
+            → Copies (watched_by self.entry.0.seated) self.entry.0.drain writes (B.meaning self.entry.1)
             → RestsOn self.entry.0.seated result.0 (B.meaning self.entry.1) (B.meaning result.1) }
     {
         Down {

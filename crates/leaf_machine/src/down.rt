@@ -4,7 +4,7 @@ ghost use Rattle.leaf_model.specs.declared.writes.Write.{Write};
 ghost use Rattle.row_records.specs.Records.{LogRecord};
 ghost use Rattle.leaf_history.specs.History.{LegalFrom};
 ghost use Rattle.region_layout.specs.Names.{AreNames};
-ghost use Rattle.turnstile.specs.Seats.{IsSeatOf, LearnsOthers, Told};
+ghost use Rattle.turnstile.specs.Seats.{IsSeatOf, LearnsOthers, SeesAlso};
 ghost use Rattle.leaf_table.specs.Turns.{is_founded, start_of};
 ghost use Rattle.leaf_table.specs.Calls.{base_seen, name_of, seen_of};
 ghost use Rattle.crash_moments.specs.Left.{NamedStates};
@@ -50,13 +50,18 @@ impl<'t, B: Berth> Down<'t, B> {
         requires named { AreNames names }
         requires names { map name_of tables.now ≡ names }
         requires count { length stewards.items ≡ length tables.now }
-        requires unused { AtEach (λ place t v. IsUnused t v) (record { names = names; tables = tables.now; seats = stewards.items }) }
+        requires unused { AtEach (λ place t v. IsUnused t v)
+            (record { names = names; tables = tables.now; seats = stewards.items }) }
         requires alike { AreAlike (record { names = names; tables = tables.now; seats = stewards.items }) }
         requires ready { AreFounded (record { names = names; tables = tables.now; seats = stewards.items })
-            → (base : NamedStates) × MayBegin base (B.meaning berth) × AtEach (λ place t v. start_of (base_seen t) ≡ base (name_of t)) (record { names = names; tables = tables.now; seats = stewards.items }) }
+            → (base : NamedStates) × MayBegin base (B.meaning berth)
+            × AtEach (λ place t v. start_of (base_seen t) ≡ base (name_of t))
+            (record { names = names; tables = tables.now; seats = stewards.items }) }
         ensures leaf { result ≡ (record { names = names; tables = tables.now; seats = stewards.items }, berth) }
-        ensures rests { (base : NamedStates) → AreFounded result.0 → MayBegin base (B.meaning berth) → AtEach (λ place t v. start_of (base_seen t) ≡ base (name_of t)) result.0
-            → (least : List ℕ → List Write) × (next : Option LogRecord) × Rests (watched_by result.0) base least next (B.meaning result.1) }
+        ensures rests { (base : NamedStates) → AreFounded result.0 → MayBegin base (B.meaning berth)
+            → AtEach (λ place t v. start_of (base_seen t) ≡ base (name_of t)) result.0
+            → (least : List ℕ → List Write) × (next : Option LogRecord)
+            × Rests (watched_by result.0) base least next (B.meaning result.1) }
     {
         let seats = Seats::new(names, tables, stewards);
         seats.sits();
@@ -67,13 +72,18 @@ impl<'t, B: Berth> Down<'t, B> {
     /// and takes no memory.
     pub fn meet(&mut self, table: u32, seat: &mut Seat) -> Result<(), AllocError>
         requires table { table < length self.old.0.tables }
-        requires seat { AtPlace (λ t v. IsSeatOf seat.old t.site × LegalFrom (is_founded (base_seen t)) (start_of (base_seen t)) (seen_of seat.old)) self.old.0 table }
-        ensures learns { AtPlace (λ t v. (w : _) × (self.new ≡ (with_seat self.old.0 table w, self.old.1)) × Told v seat.old w × LearnsOthers v w
+        requires seat { AtPlace (λ t v. IsSeatOf seat.old t.site
+            × LegalFrom (is_founded (base_seen t)) (start_of (base_seen t)) (seen_of seat.old)) self.old.0 table }
+        ensures learns { AtPlace (λ t v. (w : _) × (self.new ≡ (with_seat self.old.0 table w, self.old.1))
+            × SeesAlso v seat.old w × LearnsOthers v w
             × LegalFrom (is_founded (base_seen t)) (start_of (base_seen t)) (seen_of w)) self.old.0 table }
-        ensures seat { AtPlace (λ t v. IsSeatOf seat.new t.site × Told seat.old v seat.new × LearnsOthers seat.old seat.new
+        ensures seat { AtPlace (λ t v. IsSeatOf seat.new t.site × SeesAlso seat.old v seat.new
+            × LearnsOthers seat.old seat.new
             × LegalFrom (is_founded (base_seen t)) (start_of (base_seen t)) (seen_of seat.new)) self.old.0 table }
-        ensures rests { (others : NamedStates) (least : List ℕ → List Write) (next : Option LogRecord) → AreFounded self.old.0
-            → Rests (watched_by self.old.0) others least next (B.meaning self.old.1) → Rests (watched_by self.new.0) others least next (B.meaning self.new.1) }
+        ensures rests { (others : NamedStates) (least : List ℕ → List Write) (next : Option LogRecord)
+            → AreFounded self.old.0
+            → Rests (watched_by self.old.0) others least next (B.meaning self.old.1)
+            → Rests (watched_by self.new.0) others least next (B.meaning self.new.1) }
         ensures done { IsOk result }
     {
         self.seats.sits();

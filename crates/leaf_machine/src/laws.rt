@@ -20,8 +20,9 @@ pub fn leaves_begin<B: Berth>(berth: &B)
     ensures { LeavesBegin (B.meaning berth.now) }
 {}
 
-/// No-op; states that a leaf may begin over a berth that was opened on a region and a disk which belong to some tables;
-/// each pair that a crash may leave does. Its base is what the log has.
+/// No-op; states that a leaf may begin over a berth that was opened on a region and a disk which belong to some tables,
+/// as each pair that a crash may leave does. Its base is what the log has.
 pub fn begins_where_opened<B: Berth>(berth: &B)
-    ensures { (tables : NamedStates) (p : Pair) → Left reads tables p → OpenedOn p.region p.disk (B.meaning berth.now) → BeginsOnLog tables p.disk (B.meaning berth.now) }
+    ensures { (tables : NamedStates) (p : Pair) → Left reads tables p → OpenedOn p.region p.disk (B.meaning berth.now)
+        → BeginsOnLog tables p.disk (B.meaning berth.now) }
 {}

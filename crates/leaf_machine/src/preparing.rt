@@ -4,7 +4,7 @@ ghost use Rattle.leaf_model.specs.declared.writes.Write.{Write};
 ghost use Rattle.berth_face.specs.Berth.{Passes};
 ghost use Rattle.berth_face.specs.Causes.{HasCause};
 ghost use Rattle.leaf_history.specs.History.{LegalFrom};
-ghost use Rattle.turnstile.specs.Seats.{IsSeatOf, LearnsOthers, Told};
+ghost use Rattle.turnstile.specs.Seats.{IsSeatOf, LearnsOthers, SeesAlso};
 ghost use Rattle.leaf_table.specs.Turns.{is_founded, start_of};
 ghost use Rattle.leaf_table.specs.Calls.{base_seen, seen_of, state_seen};
 ghost use Rattle.crash_states.specs.Standing.{Runs};
@@ -13,8 +13,8 @@ ghost use Rattle.leaf_steward.specs.Seated.{AreFounded, AreSeated, AtEach, AtPla
 ghost use Rattle.leaf_steward.specs.Making.{EachNoted, IsClosedNote, Makes};
 ghost use Rattle.leaf_machine.specs.States.{IsShutAndTaken, RestsOn, treated};
 ghost use Rattle.leaf_machine.specs.declared.preparing.PrepareFault.TheVariants as prepare_fault;
-ghost use Rattle.leaf_machine.specs.Prepares.{CrowdsStep, Halts, IsTreatingStep, RoseStep, StepGoesOn, berth_of_step, seats_of_step, told_of_plan};
-ghost use Rattle.leaf_machine.specs.PrepParts.{IsAllTreated, IsNextTreated, IsPartOfStep, RoseNext, Settles, ShutsNext};
+ghost use Rattle.leaf_machine.specs.Prepares.{CrowdsStep, PreparingHalts, IsTreatingStep, RoseStep, StepGoesOn, berth_of_step, seats_of_step, told_of_plan};
+ghost use Rattle.leaf_machine.specs.PrepParts.{IsAllTreated, IsNextTreated, IsPartOfStep, RoseNext, PreparingSettles, ShutsNext};
 
 use crate::copying::Copying;
 use crate::down::Down;
@@ -77,11 +77,27 @@ impl<'t, B: Berth> Model for Preparing<'t, B> {
 
     ghost Value = { Shutting × B };
 
-    ghost view = { λ leaf. (record { serving = record { seated = leaf.seats; owing = leaf.log }; closed = leaf.tables.closed; waits = leaf.tables.waits }, leaf.berth) };
+    ghost view = { λ leaf. (
+      record {
+        serving = record { seated = leaf.seats; owing = leaf.log };
+        closed = leaf.tables.closed;
+        waits = leaf.tables.waits;
+      },
+      leaf.berth,
+    ) };
 
     ghost invariant = { λ leaf.
-        IsShutting (record { serving = record { seated = leaf.seats; owing = leaf.log }; closed = leaf.tables.closed; waits = leaf.tables.waits }) (B.meaning leaf.berth)
-        × (leaf.tables.names ≡ take (treated (record { serving = record { seated = leaf.seats; owing = leaf.log }; closed = leaf.tables.closed; waits = leaf.tables.waits })) leaf.seats.names)
+        IsShutting (record {
+          serving = record { seated = leaf.seats; owing = leaf.log };
+          closed = leaf.tables.closed;
+          waits = leaf.tables.waits;
+        }) (B.meaning leaf.berth)
+        × (leaf.tables.names ≡ take
+        (treated (record {
+          serving = record { seated = leaf.seats; owing = leaf.log };
+          closed = leaf.tables.closed;
+          waits = leaf.tables.waits;
+        })) leaf.seats.names)
         × (length leaf.tables.columns ≡ length leaf.tables.closed) × AreFewShut leaf.seats leaf.tables.columns };
 }
 
@@ -103,7 +119,9 @@ impl<'t, B: Berth> Preparing<'t, B> {
     /// and takes no memory.
     pub fn meet(&mut self, table: u32, seat: &mut Seat) -> Result<(), AllocError>
         requires table { table < length self.old.0.serving.seated.tables }
-        requires seat { AtPlace (λ t v. IsSeatOf seat.old t.site × LegalFrom (is_founded (base_seen t)) (start_of (base_seen t)) (seen_of seat.old)) self.old.0.serving.seated table }
+        requires seat { AtPlace (λ t v. IsSeatOf seat.old t.site
+            × LegalFrom (is_founded (base_seen t)) (start_of (base_seen t)) (seen_of seat.old))
+            self.old.0.serving.seated table }
         ensures learns { AtPlace (λ t v. (w : _) × (self.new ≡ (
           record {
             serving = record { seated = with_seat self.old.0.serving.seated table w; owing = self.old.0.serving.owing };
@@ -111,12 +129,18 @@ impl<'t, B: Berth> Preparing<'t, B> {
             waits = self.old.0.waits;
           },
           self.old.1,
-        )) × Told v seat.old w × LearnsOthers v w × LegalFrom (is_founded (base_seen t)) (start_of (base_seen t)) (seen_of w)) self.old.0.serving.seated table }
-        ensures seat { AtPlace (λ t v. IsSeatOf seat.new t.site × Told seat.old v seat.new × LearnsOthers seat.old seat.new
-            × LegalFrom (is_founded (base_seen t)) (start_of (base_seen t)) (seen_of seat.new)) self.old.0.serving.seated table }
+        )) × SeesAlso v seat.old w × LearnsOthers v w
+            × LegalFrom (is_founded (base_seen t)) (start_of (base_seen t)) (seen_of w)) self.old.0.serving.seated
+            table }
+        ensures seat { AtPlace (λ t v. IsSeatOf seat.new t.site × SeesAlso seat.old v seat.new
+            × LearnsOthers seat.old seat.new
+            × LegalFrom (is_founded (base_seen t)) (start_of (base_seen t)) (seen_of seat.new))
+            self.old.0.serving.seated table }
         ensures runs { (writes : List ℕ → List Write) → AreFounded self.old.0.serving.seated
-            → Runs (watched_by self.old.0.serving.seated) self.old.0.serving.owing.owner self.old.0.serving.owing.log writes (B.meaning self.old.1)
-            → Runs (watched_by self.new.0.serving.seated) self.new.0.serving.owing.owner self.new.0.serving.owing.log writes (B.meaning self.new.1) }
+            → Runs (watched_by self.old.0.serving.seated) self.old.0.serving.owing.owner self.old.0.serving.owing.log
+            writes (B.meaning self.old.1)
+            → Runs (watched_by self.new.0.serving.seated) self.new.0.serving.owing.owner self.new.0.serving.owing.log
+            writes (B.meaning self.new.1) }
         ensures done { IsOk result }
     {
         self.seats.sits();
@@ -134,12 +158,16 @@ impl<'t, B: Berth> Preparing<'t, B> {
         notes: &mut Notes,
     ) -> Result<Prepared<'t, B>, (Preparing<'t, B>, PrepareFault)>
         ensures step { IsTreatingStep self.entry.0 notes.new result }
-        ensures made { Makes (B.meaning self.entry.1).clock (B.meaning (berth_of_step result)).clock self.entry.0.serving.seated notes.new (seats_of_step result) }
+        ensures made { Makes (B.meaning self.entry.1).clock (B.meaning (berth_of_step result)).clock
+            self.entry.0.serving.seated notes.new (seats_of_step result) }
         // At each moment since the call began, all that a crash may leave belongs to the tables as they stood then.
-        ensures crash { IsTrue (B.meaning self.entry.1).tells → AreFounded self.entry.0.serving.seated → StepGoesOn B.meaning self.entry.0 (B.meaning self.entry.1) result }
-        ensures region { IsTrue (B.meaning self.entry.1).tells → (B.meaning (berth_of_step result)).held.region ≡ (B.meaning self.entry.1).held.region }
+        ensures crash { IsTrue (B.meaning self.entry.1).tells → AreFounded self.entry.0.serving.seated
+            → StepGoesOn B.meaning self.entry.0 (B.meaning self.entry.1) result }
+        ensures region { IsTrue (B.meaning self.entry.1).tells → (B.meaning (berth_of_step result)).held.region
+            ≡ (B.meaning self.entry.1).held.region }
         ensures time { Passes (B.meaning self.entry.1) (B.meaning (berth_of_step result)) }
-        ensures cause { RoseStep (B.meaning self.entry.1).disk_faults (B.meaning (berth_of_step result)).disk_faults result }
+        ensures cause { RoseStep (B.meaning self.entry.1).disk_faults (B.meaning (berth_of_step result)).disk_faults
+            result }
         ensures crowds { CrowdsStep self.entry.0 result }
         ensures reads { (B.meaning (berth_of_step result)).disk_reads ≡ (B.meaning self.entry.1).disk_reads }
     {
@@ -163,10 +191,13 @@ impl<'t, B: Berth> Preparing<'t, B> {
         notes: &mut Notes,
     ) -> Down<'t, B>
         ensures berth { result.1 ≡ self.entry.1 }
-        ensures made { Makes (B.meaning self.entry.1).clock (B.meaning self.entry.1).clock self.entry.0.serving.seated notes.new result.0 }
-        ensures each { (count : ℕ) × (length self.entry.0.closed + count ≡ length self.entry.0.serving.seated.tables) × EachNoted IsClosedNote (length self.entry.0.closed) count notes.new }
+        ensures made { Makes (B.meaning self.entry.1).clock (B.meaning self.entry.1).clock self.entry.0.serving.seated
+            notes.new result.0 }
+        ensures each { (count : ℕ) × (length self.entry.0.closed + count ≡ length self.entry.0.serving.seated.tables)
+            × EachNoted IsClosedNote (length self.entry.0.closed) count notes.new }
         ensures crash { (writes : List ℕ → List Write) → AreFounded self.entry.0.serving.seated
-            → Runs (watched_by self.entry.0.serving.seated) self.entry.0.serving.owing.owner self.entry.0.serving.owing.log writes (B.meaning self.entry.1)
+            → Runs (watched_by self.entry.0.serving.seated) self.entry.0.serving.owing.owner
+            self.entry.0.serving.owing.log writes (B.meaning self.entry.1)
             → RestsOn self.entry.0.serving.seated result.0 (B.meaning self.entry.1) (B.meaning result.1) }
     {
         notes.clear();
@@ -211,7 +242,8 @@ impl<'t, B: Berth> Preparing<'t, B> {
     fn copied(self, alloc: Global) -> Result<Prepared<'t, B>, (Preparing<'t, B>, PrepareFault)>
         requires all { IsAllTreated self.0 }
         ensures step { IsTreatingStep self.entry.0 [] result }
-        ensures crash { AreFounded self.entry.0.serving.seated → StepGoesOn B.meaning self.entry.0 (B.meaning self.entry.1) result }
+        ensures crash { AreFounded self.entry.0.serving.seated
+            → StepGoesOn B.meaning self.entry.0 (B.meaning self.entry.1) result }
         ensures berth { berth_of_step result ≡ self.entry.1 }
         ensures seats { seats_of_step result ≡ self.entry.0.serving.seated }
         ensures cause { RoseStep (B.meaning self.entry.1).disk_faults (B.meaning self.entry.1).disk_faults result }
@@ -253,7 +285,8 @@ impl<'t, B: Berth> Preparing<'t, B> {
         requires more { treated self.old.0 < length self.old.0.serving.seated.tables }
         requires none { notes.old ≡ [] }
         ensures next { IsNextTreated self.old.0 self.new.0 notes.new result }
-        ensures part { IsPartOfStep self.old.0.serving self.new.0.serving notes.old notes.new (B.meaning self.old.1) (B.meaning self.new.1) }
+        ensures part { IsPartOfStep self.old.0.serving self.new.0.serving notes.old notes.new (B.meaning self.old.1)
+            (B.meaning self.new.1) }
         ensures cause { RoseNext (B.meaning self.old.1).disk_faults (B.meaning self.new.1).disk_faults result }
     {
         if self.settle(rt, gate, notes).is_err() {
@@ -272,7 +305,8 @@ impl<'t, B: Berth> Preparing<'t, B> {
     fn seal_last(&mut self) -> Result<(), PrepareFault>
         requires shut { self.old.0.waits ≡ true }
         requires none { self.old.0.serving.owing.log.owed ≡ None }
-        ensures done { OnOk result (self.new ≡ (record { serving = self.old.0.serving; closed = self.old.0.closed; waits = false }, self.old.1)) }
+        ensures done { OnOk result (self.new
+            ≡ (record { serving = self.old.0.serving; closed = self.old.0.closed; waits = false }, self.old.1)) }
         ensures failed { OnErr result (self.new ≡ self.old) }
         ensures fault { IfErr result (λ e. e ≡ prepare_fault.NoMemory) }
     {
@@ -293,9 +327,10 @@ impl<'t, B: Berth> Preparing<'t, B> {
         notes: &mut Notes,
     ) -> Result<(), DiskFault>
         requires none { notes.old ≡ [] }
-        ensures settled { OnOk result (Settles self.old.0 self.new.0 notes.new) }
-        ensures halts { OnErr result (Halts self.old.0 self.new.0 notes.new) }
-        ensures part { IsPartOfStep self.old.0.serving self.new.0.serving notes.old notes.new (B.meaning self.old.1) (B.meaning self.new.1) }
+        ensures settled { OnOk result (PreparingSettles self.old.0 self.new.0 notes.new) }
+        ensures halts { OnErr result (PreparingHalts self.old.0 self.new.0 notes.new) }
+        ensures part { IsPartOfStep self.old.0.serving self.new.0.serving notes.old notes.new (B.meaning self.old.1)
+            (B.meaning self.new.1) }
         ensures cause { HasCause (B.meaning self.old.1).disk_faults (B.meaning self.new.1).disk_faults result }
     {
         self.seats.sits();
@@ -314,8 +349,10 @@ impl<'t, B: Berth> Preparing<'t, B> {
         requires rests { self.old.0.waits ≡ false }
         requires none { self.old.0.serving.owing.log.owed ≡ None }
         requires room { length notes.old ≤ 1 }
-        ensures next { (made : List Note) × (notes.new ≡ notes.old ++ made) × ShutsNext self.old.0 self.new.0 made result }
-        ensures part { IsPartOfStep self.old.0.serving self.new.0.serving notes.old notes.new (B.meaning self.old.1) (B.meaning self.new.1) }
+        ensures next { (made : List Note) × (notes.new ≡ notes.old ++ made)
+            × ShutsNext self.old.0 self.new.0 made result }
+        ensures part { IsPartOfStep self.old.0.serving self.new.0.serving notes.old notes.new (B.meaning self.old.1)
+            (B.meaning self.new.1) }
         ensures cause { HasCause (B.meaning self.old.1).disk_faults (B.meaning self.new.1).disk_faults result }
     {
         let place = self.first_open();

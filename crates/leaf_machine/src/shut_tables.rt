@@ -12,7 +12,7 @@ use std::alloc::{AllocError, Global};
 use std::marker::Model;
 use table_state::TableState;
 
-/// The tables that are sealed, and maybe one more whose tail is not. None has a pending record.
+/// The sealed tables, and maybe one more whose tail is not sealed. No table has a pending record.
 #[derive(Drop)]
 pub(crate) struct ShutTables {
     sealed: Vec<DrainTable>,
@@ -35,7 +35,8 @@ impl Model for ShutTables {
       waits = is_there t.last;
     } };
 
-    ghost invariant = { λ t. AllByRecursion (λ (d : DrainTable). IsParts d.parts) t.sealed.items × IfSome t.last (λ last. last.pending ≡ None) };
+    ghost invariant = { λ t. AllByRecursion (λ (d : DrainTable). IsParts d.parts) t.sealed.items
+        × IfSome t.last (λ last. last.pending ≡ None) };
 }
 
 impl ShutTables {
@@ -131,7 +132,8 @@ fn keep(sealed: &mut Vec<DrainTable>, name: Text, table: TableState)
     requires room { vec_len sealed.old < vec_capacity sealed.old }
     requires taken { table.pending ≡ None }
     requires tail { table.store.tail ≡ [] }
-    ensures { (kept : DrainTable) × (sealed.new.items ≡ sealed.old.items ++ kept ∷ []) × (kept.name ≡ name) × (table_of_parts kept.parts ≡ bare table)
+    ensures { (kept : DrainTable) × (sealed.new.items ≡ sealed.old.items ++ kept ∷ []) × (kept.name ≡ name)
+        × (table_of_parts kept.parts ≡ bare table)
         × (columns_count kept.parts.blocks ≡ columns_most table.store) × IsParts kept.parts }
 {
     let kept = DrainTable {

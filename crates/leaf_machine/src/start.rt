@@ -38,23 +38,36 @@ impl<'t, B: Berth> Down<'t, B> {
         notes: &mut Notes,
     ) -> Result<(Up<'t, B>, Way), (Down<'t, B>, StartFault)>
         ensures start { IsStart self.entry.0 self.entry.1 notes.new result }
-        ensures made { Makes (B.meaning self.entry.1).clock (B.meaning (berth_after result)).clock self.entry.0 notes.new (seats_after result) }
+        ensures made { Makes (B.meaning self.entry.1).clock (B.meaning (berth_after result)).clock self.entry.0
+            notes.new (seats_after result) }
         // If the berth tells its contents: whatever bytes these are, and in particular what a leaf left.
-        ensures came { IsTrue (B.meaning self.entry.1).tells → IfOk result (λ x. CameUp self.entry.0.names (B.meaning self.entry.1) (B.meaning x.0.1) notes.new x.0.0 x.1) }
-        ensures way { IsTrue (B.meaning self.entry.1).tells → IfOk result (λ x. IsWayOf (B.meaning self.entry.1).held.region x.1) }
-        ensures refused { IsTrue (B.meaning self.entry.1).tells → IfErr result (λ x. IsStartRefused self.entry.0.names (B.meaning self.entry.1) (B.meaning x.0.1) x.1) }
+        ensures came { IsTrue (B.meaning self.entry.1).tells
+            → IfOk result (λ x. CameUp self.entry.0.names (B.meaning self.entry.1) (B.meaning x.0.1) notes.new x.0.0
+            x.1) }
+        ensures way { IsTrue (B.meaning self.entry.1).tells
+            → IfOk result (λ x. IsWayOf (B.meaning self.entry.1).held.region x.1) }
+        ensures refused { IsTrue (B.meaning self.entry.1).tells
+            → IfErr result (λ x. IsStartRefused self.entry.0.names (B.meaning self.entry.1) (B.meaning x.0.1) x.1) }
         // The answer is the one that the bytes of region and disk decide.
-        ensures exact { IsTrue (B.meaning self.entry.1).tells → IsExactStart self.entry.0.names (B.meaning self.entry.1).held result }
+        ensures exact { IsTrue (B.meaning self.entry.1).tells
+            → IsExactStart self.entry.0.names (B.meaning self.entry.1).held result }
         // The disk reads as before; only of a disk of at most one byte the first byte may have been written.
-        ensures disk { IsTrue (B.meaning self.entry.1).tells → BeginsScan (length (B.meaning self.entry.1).held.disk) (B.meaning self.entry.1).held.disk (B.meaning (berth_after result)).held.disk }
+        ensures disk { IsTrue (B.meaning self.entry.1).tells
+            → BeginsScan (length (B.meaning self.entry.1).held.disk) (B.meaning self.entry.1).held.disk
+            (B.meaning (berth_after result)).held.disk }
         // At each moment since the call began, all that a crash may leave belongs to the tables as they stood then.
-        ensures crash { (others : NamedStates) (least : List ℕ → List Write) (next : Option LogRecord) → IsTrue (B.meaning self.entry.1).tells → AreFounded self.entry.0
-            → Rests (watched_by self.entry.0) others least next (B.meaning self.entry.1) → StartGoesOn B.meaning self.entry.0 (B.meaning self.entry.1) others least next result }
+        ensures crash { (others : NamedStates) (least : List ℕ → List Write) (next : Option LogRecord)
+            → IsTrue (B.meaning self.entry.1).tells → AreFounded self.entry.0
+            → Rests (watched_by self.entry.0) others least next (B.meaning self.entry.1)
+            → StartGoesOn B.meaning self.entry.0 (B.meaning self.entry.1) others least next result }
         // On each berth, whether it tells its contents or not.
         ensures time { Passes (B.meaning self.entry.1) (B.meaning (berth_after result)) }
-        ensures region_cause { IfErr result (λ x. x.1 ≡ fault.RegionFault → Rose (B.meaning self.entry.1).region_faults (B.meaning x.0.1).region_faults) }
-        ensures disk_cause { IfErr result (λ x. x.1 ≡ fault.DiskFault → Rose (B.meaning self.entry.1).disk_faults (B.meaning x.0.1).disk_faults) }
-        ensures reads { IfOk result (λ x. x.1 ≡ way.Memory → (B.meaning x.0.1).disk_reads ≡ (B.meaning self.entry.1).disk_reads) }
+        ensures region_cause { IfErr result (λ x. x.1 ≡ fault.RegionFault
+            → Rose (B.meaning self.entry.1).region_faults (B.meaning x.0.1).region_faults) }
+        ensures disk_cause { IfErr result (λ x. x.1 ≡ fault.DiskFault
+            → Rose (B.meaning self.entry.1).disk_faults (B.meaning x.0.1).disk_faults) }
+        ensures reads { IfOk result (λ x. x.1 ≡ way.Memory
+            → (B.meaning x.0.1).disk_reads ≡ (B.meaning self.entry.1).disk_reads) }
     {
         notes.clear();
         self.seats.sits();

@@ -4,14 +4,14 @@ ghost use Rattle.leaf_model.specs.declared.writes.Write.{Write};
 ghost use Rattle.berth_face.specs.Causes.{Rose};
 ghost use Rattle.berth_face.specs.Berth.{Passes};
 ghost use Rattle.leaf_history.specs.History.{LegalFrom};
-ghost use Rattle.turnstile.specs.Seats.{IsSeatOf, LearnsOthers, Told};
+ghost use Rattle.turnstile.specs.Seats.{IsSeatOf, LearnsOthers, SeesAlso};
 ghost use Rattle.leaf_table.specs.Turns.{is_founded, start_of};
 ghost use Rattle.leaf_table.specs.Calls.{base_seen, seen_of};
 ghost use Rattle.crash_states.specs.Standing.{Runs};
 ghost use Rattle.leaf_steward.specs.Seated.{AreFounded, AtPlace, watched_by, with_seat};
 ghost use Rattle.leaf_steward.specs.Making.{EachNoted, IsClosedNote, Makes};
 ghost use Rattle.leaf_machine.specs.declared.up.FlushReply.TheVariants as reply;
-ghost use Rattle.leaf_machine.specs.States.{GoesOn, IsUp, RestsOn};
+ghost use Rattle.leaf_machine.specs.States.{ServingGoesOn, IsUp, RestsOn};
 ghost use Rattle.leaf_machine.specs.Flushes.{Flushes};
 ghost use Rattle.leaf_machine.specs.UpFlush.{FlushGoes};
 ghost use Rattle.leaf_machine.specs.Prepares.{begins};
@@ -62,14 +62,24 @@ impl<'t, B: Berth> Up<'t, B> {
     /// and takes no memory.
     pub fn meet(&mut self, table: u32, seat: &mut Seat) -> Result<(), AllocError>
         requires table { table < length self.old.0.seated.tables }
-        requires seat { AtPlace (λ t v. IsSeatOf seat.old t.site × LegalFrom (is_founded (base_seen t)) (start_of (base_seen t)) (seen_of seat.old)) self.old.0.seated table }
-        ensures learns { AtPlace (λ t v. (w : _) × (self.new ≡ (record { seated = with_seat self.old.0.seated table w; owing = self.old.0.owing }, self.old.1)) × Told v seat.old w × LearnsOthers v w
+        requires seat { AtPlace (λ t v. IsSeatOf seat.old t.site
+            × LegalFrom (is_founded (base_seen t)) (start_of (base_seen t)) (seen_of seat.old)) self.old.0.seated
+            table }
+        ensures learns { AtPlace (λ t v. (w : _)
+            × (self.new ≡ (
+              record { seated = with_seat self.old.0.seated table w; owing = self.old.0.owing },
+              self.old.1,
+            )) × SeesAlso v seat.old w × LearnsOthers v w
             × LegalFrom (is_founded (base_seen t)) (start_of (base_seen t)) (seen_of w)) self.old.0.seated table }
-        ensures seat { AtPlace (λ t v. IsSeatOf seat.new t.site × Told seat.old v seat.new × LearnsOthers seat.old seat.new
-            × LegalFrom (is_founded (base_seen t)) (start_of (base_seen t)) (seen_of seat.new)) self.old.0.seated table }
+        ensures seat { AtPlace (λ t v. IsSeatOf seat.new t.site × SeesAlso seat.old v seat.new
+            × LearnsOthers seat.old seat.new
+            × LegalFrom (is_founded (base_seen t)) (start_of (base_seen t)) (seen_of seat.new)) self.old.0.seated
+            table }
         ensures runs { (writes : List ℕ → List Write) → AreFounded self.old.0.seated
-            → Runs (watched_by self.old.0.seated) self.old.0.owing.owner self.old.0.owing.log writes (B.meaning self.old.1)
-            → Runs (watched_by self.new.0.seated) self.new.0.owing.owner self.new.0.owing.log writes (B.meaning self.new.1) }
+            → Runs (watched_by self.old.0.seated) self.old.0.owing.owner self.old.0.owing.log writes
+            (B.meaning self.old.1)
+            → Runs (watched_by self.new.0.seated) self.new.0.owing.owner self.new.0.owing.log writes
+            (B.meaning self.new.1) }
         ensures done { IsOk result }
     {
         self.seats.sits();
@@ -88,12 +98,16 @@ impl<'t, B: Berth> Up<'t, B> {
     ) -> FlushReply
         requires table { table < length self.old.0.seated.tables }
         ensures flushes { Flushes table self.old.0 self.new.0 notes.new result }
-        ensures made { Makes (B.meaning self.old.1).clock (B.meaning self.new.1).clock self.old.0.seated notes.new self.new.0.seated }
+        ensures made { Makes (B.meaning self.old.1).clock (B.meaning self.new.1).clock self.old.0.seated notes.new
+            self.new.0.seated }
         // At each moment since the call began, all that a crash may leave belongs to the tables as they stood then.
-        ensures crash { IsTrue (B.meaning self.old.1).tells → AreFounded self.old.0.seated → GoesOn self.old.0 self.new.0 (B.meaning self.old.1) (B.meaning self.new.1) }
-        ensures region { IsTrue (B.meaning self.old.1).tells → (B.meaning self.new.1).held.region ≡ (B.meaning self.old.1).held.region }
+        ensures crash { IsTrue (B.meaning self.old.1).tells → AreFounded self.old.0.seated
+            → ServingGoesOn self.old.0 self.new.0 (B.meaning self.old.1) (B.meaning self.new.1) }
+        ensures region { IsTrue (B.meaning self.old.1).tells
+            → (B.meaning self.new.1).held.region ≡ (B.meaning self.old.1).held.region }
         ensures time { Passes (B.meaning self.old.1) (B.meaning self.new.1) }
-        ensures cause { result ≡ reply.DiskFault → Rose (B.meaning self.old.1).disk_faults (B.meaning self.new.1).disk_faults }
+        ensures cause { result ≡ reply.DiskFault
+            → Rose (B.meaning self.old.1).disk_faults (B.meaning self.new.1).disk_faults }
         ensures reads { (B.meaning self.new.1).disk_reads ≡ (B.meaning self.old.1).disk_reads }
     {
         flush_table(
@@ -127,9 +141,12 @@ impl<'t, B: Berth> Up<'t, B> {
         notes: &mut Notes,
     ) -> Down<'t, B>
         ensures berth { result.1 ≡ self.entry.1 }
-        ensures made { Makes (B.meaning self.entry.1).clock (B.meaning self.entry.1).clock self.entry.0.seated notes.new result.0 }
+        ensures made { Makes (B.meaning self.entry.1).clock (B.meaning self.entry.1).clock self.entry.0.seated notes.new
+            result.0 }
         ensures each { EachNoted IsClosedNote 0 (length self.entry.0.seated.tables) notes.new }
-        ensures crash { (writes : List ℕ → List Write) → AreFounded self.entry.0.seated → Runs (watched_by self.entry.0.seated) self.entry.0.owing.owner self.entry.0.owing.log writes (B.meaning self.entry.1)
+        ensures crash { (writes : List ℕ → List Write) → AreFounded self.entry.0.seated
+            → Runs (watched_by self.entry.0.seated) self.entry.0.owing.owner self.entry.0.owing.log writes
+            (B.meaning self.entry.1)
             → RestsOn self.entry.0.seated result.0 (B.meaning self.entry.1) (B.meaning result.1) }
     {
         notes.clear();
@@ -163,7 +180,8 @@ fn flush_table<R: Wait + Threads + Sync, B: Berth, G: Gate>(
 ) -> FlushReply
     requires table { table < length seats.old.tables }
     requires up { IsUp (record { seated = seats.old; owing = log.old }) (B.meaning berth.old) }
-    ensures { FlushGoes table (record { seated = seats.old; owing = log.old }) (record { seated = seats.new; owing = log.new }) notes.new result (B.meaning berth.old) (B.meaning berth.new) }
+    ensures { FlushGoes table (record { seated = seats.old; owing = log.old })
+        (record { seated = seats.new; owing = log.new }) notes.new result (B.meaning berth.old) (B.meaning berth.new) }
 {
     notes.clear();
     seats.sits();

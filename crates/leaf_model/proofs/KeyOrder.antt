@@ -9,7 +9,8 @@ use Rattle.std.proofs.lemmas.Cmp.{nat_cmp_total, int_cmp_total, nat_list_cmp_tot
 use Rattle.std.proofs.lemmas.Map.Lookups.{CmpEqualImpliesEq, exact_signed, exact_bytes}
 use Rattle.leaf_model.specs.declared.groups.Key.{Key}
 use Rattle.leaf_model.specs.declared.groups.Key.TheVariants as key
-use Rattle.leaf_model.specs.Groups.{key_cmp, keys_cmp, text_cmp, texts_cmp}
+use Rattle.leaf_model.specs.Groups.{key_cmp, keys_cmp}
+use Rattle.row_model.specs.Texts.{text_cmp, texts_cmp}
 
 -- a key as its kind, its integer, its text and its set
 abbrev kind_of : Key → ℕ

@@ -4,8 +4,8 @@ use Rattle.std.specs.Prelude.{IsSome}
 use Rattle.std.specs.Str.{IsUtf8, is_utf8}
 use Rattle.std.proofs.lemmas.Bool.{ltb-false}
 use Rattle.std.proofs.lemmas.Str.{IsUtf8-from_is_utf8}
-use Rattle.leaf_model.specs.declared.rows.Cell.{Cell}
-use Rattle.leaf_model.specs.declared.rows.Row.{Row}
+use Rattle.row_model.specs.declared.rows.Cell.{Cell}
+use Rattle.row_model.specs.declared.rows.Row.{Row}
 use Rattle.std.specs.Int.{w16}
 use Rattle.leaf_model.specs.Reading.{◌>>=◌, many_at, number_at, time_at, text_at, long_text_at, texts_at, row_at, rows_at, cell_at, cells_at, name_at, value_at, may_follow}
 use Rattle.leaf_model.specs.Fronts.{front_of, any_cell_at, any_cells_at}

@@ -1,7 +1,5 @@
 pub mod Distinct
-mod Ends
 pub mod KeyOrder
-pub mod SetLaws
 mod Samples
 pub mod Fields
 pub mod TextSets

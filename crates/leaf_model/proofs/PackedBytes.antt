@@ -2,8 +2,8 @@
 use Rattle.std.proofs.Common.{◌≡◌, ℕ, ℤ, Option, true, ◌+◌, ◌-◌, ◌<◌, ◌≤◌, List, [], ◌∷◌, ◌++◌, length, take, Some, refl, sym, ap, subst, ◌∙◌, length-append, arith}
 use Rattle.std.specs.Prelude.{IsSome, int_le}
 use Rattle.std.proofs.lemmas.List.{take_at}
-use Rattle.leaf_model.specs.declared.rows.Row.{Row}
-use Rattle.leaf_model.specs.Values.{IsRow}
+use Rattle.row_model.specs.declared.rows.Row.{Row}
+use Rattle.row_model.specs.Values.{IsRow}
 use Rattle.leaf_model.specs.Bytes.{rows_bytes, IsBytes}
 use Rattle.leaf_model.specs.Reading.{row_at, rows_at}
 use Rattle.leaf_model.specs.Packed.{packed_rows, AreFrom, IsPacked}

@@ -9,9 +9,9 @@ use Rattle.std.proofs.lemmas.List.{append-nil, take_at, drop_at, take-append-dro
 use Rattle.std.proofs.Math.Seq.{take-length}
 use Rattle.std.proofs.lemmas.List.Concat.{flat_map-cons}
 use Rattle.std.proofs.lemmas.List.Elements.{filter-append}
-use Rattle.leaf_model.specs.declared.rows.Row.{Row}
+use Rattle.row_model.specs.declared.rows.Row.{Row}
 use Rattle.leaf_model.specs.Content.{rows_from}
-use Rattle.leaf_model.specs.Values.{IsRow}
+use Rattle.row_model.specs.Values.{IsRow}
 use Rattle.leaf_model.specs.Bytes.{row_bytes, rows_bytes, IsBytes}
 use Rattle.leaf_model.specs.Reading.{row_at, rows_at}
 use Rattle.leaf_model.specs.Fronts.{front_of}

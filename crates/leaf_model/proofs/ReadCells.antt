@@ -10,11 +10,11 @@ use Rattle.std.specs.Int.{w16, w64, to_le_bytes, cast_signed, cast_unsigned}
 use Rattle.std.proofs.lemmas.List.Concat.{flat_map-cons}
 use Rattle.std.proofs.lemmas.Int.{of_z-to_z, to_z-of_z}
 use Rattle.std.proofs.lemmas.Slice.Eq.{bytes_eq-Decides}
-use Rattle.leaf_model.specs.declared.rows.Value.{Value}
-use Rattle.leaf_model.specs.declared.rows.Value.TheVariants.{Int, Text, Set}
-use Rattle.leaf_model.specs.declared.rows.Cell.{Cell}
-use Rattle.leaf_model.specs.Values.{time_name, IsSet, IsValue, IsCell}
-use Rattle.leaf_model.specs.Sets.{is_set}
+use Rattle.row_model.specs.declared.rows.Value.{Value}
+use Rattle.row_model.specs.declared.rows.Value.TheVariants.{Int, Text, Set}
+use Rattle.row_model.specs.declared.rows.Cell.{Cell}
+use Rattle.row_model.specs.Values.{time_name, IsSet, IsValue, IsCell}
+use Rattle.row_model.specs.Sets.{is_set}
 use Rattle.leaf_model.specs.Bytes.{name_bytes, text_bytes, value_bytes, cell_bytes, i64_bytes, u16_bytes, IsBytes}
 use Rattle.leaf_model.specs.Reading.{◌>>=◌, number_at, text_at, name_at, long_text_at, texts_at, set_at, value_at, may_follow, cell_at, cells_at}
 use Rattle.leaf_model.proofs.Fields.{IsBytes-rest, bind_some, held, some_is, Takes, Takes-then, wide16, wide64, number_takes, number_again, text_takes, text_again, name_takes, name_again, cast_fits, unsigned_below}

@@ -5,8 +5,8 @@ use Rattle.std.specs.List.Sorted.{IsStrictlySortedBy}
 use Rattle.std.specs.Int.{w16, to_le_bytes}
 use Rattle.std.proofs.lemmas.Bool.{ltb-false, le-ltb}
 use Rattle.std.proofs.lemmas.List.Concat.{flat_map-cons}
-use Rattle.leaf_model.specs.declared.rows.Row.{Row}
-use Rattle.leaf_model.specs.Values.{IsRow}
+use Rattle.row_model.specs.declared.rows.Row.{Row}
+use Rattle.row_model.specs.Values.{IsRow}
 use Rattle.leaf_model.specs.Bytes.{cell_bytes, row_bytes, rows_bytes, i64_bytes, IsBytes}
 use Rattle.leaf_model.specs.Reading.{◌>>=◌, number_at, time_at, cells_at, row_at, rows_at}
 use Rattle.leaf_model.proofs.Fields.{bind_some, passed, some_is, Takes, Takes-then, wide16, number_takes, number_again, time_takes, time_again}

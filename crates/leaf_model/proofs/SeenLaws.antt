@@ -1,13 +1,13 @@
 -- What is seen of rows: the cells of a row fill in what nothing was seen of.
 use Rattle.std.proofs.Common.{◌≡◌, ℕ, ℤ, zero, suc, ◌+◌, ◌-◌, ◌<◌, ◌≤◌, Bool, true, false, is_some, if◌then◌else◌, List, [], ◌∷◌, length, take, drop, ◌++◌, map, option_map, slice_index_or, slice_set, Option, Some, None, refl, sym, ap, subst, ◌∙◌, arith}
 use Rattle.std.specs.Str.{bytes_eq}
-use Rattle.leaf_model.specs.declared.rows.Value.{Value}
-use Rattle.leaf_model.specs.declared.rows.Cell.{Cell}
-use Rattle.leaf_model.specs.declared.rows.Row.{Row}
+use Rattle.row_model.specs.declared.rows.Value.{Value}
+use Rattle.row_model.specs.declared.rows.Cell.{Cell}
+use Rattle.row_model.specs.declared.rows.Row.{Row}
 use Rattle.leaf_model.specs.declared.looks.Sought.{Sought}
 use Rattle.leaf_model.specs.declared.looks.Sought.TheVariants as sought
 use Rattle.leaf_model.specs.Groups.{cell_value}
-use Rattle.leaf_model.specs.Looks.{begun, begun_one, filled, filled_from, filled_one, is_sought, sought_in}
+use Rattle.leaf_model.specs.Looks.{looks_begun, begun_one, filled, filled_from, filled_one, is_sought, sought_in}
 use Rattle.leaf_model.specs.Fronts.{any_cell_at, any_cells_at, front_of}
 use Rattle.leaf_model.specs.declared.lent_cells.LentValue.{LentValue}
 use Rattle.leaf_model.specs.Lent.{each_value, lent_value}
@@ -36,9 +36,9 @@ one_seen time (sought.Cell other) (c ∷ cs) = by (bytes_eq other.now c.name) (o
     by true e = refl
     by false e = e
 
-pub all_seen : (row : Row) (all : List Sought) → filled all (begun row.time all) row.cells ≡ map (sought_in row) all
+pub all_seen : (row : Row) (all : List Sought) → filled all (looks_begun row.time all) row.cells ≡ map (sought_in row) all
 all_seen row [] = refl
-all_seen row (s ∷ ss) = ap (λ (w : Option Value). w ∷ filled ss (begun row.time ss) row.cells) (one_seen row.time s row.cells) ∙ ap (λ (ws : List (Option Value)). sought_in row s ∷ ws) (all_seen row ss)
+all_seen row (s ∷ ss) = ap (λ (w : Option Value). w ∷ filled ss (looks_begun row.time ss) row.cells) (one_seen row.time s row.cells) ∙ ap (λ (ws : List (Option Value)). sought_in row s ∷ ws) (all_seen row ss)
 
 -- one cell more of those at the front of bytes
 pub next_cell : (count i : ℕ) (rest : List ℕ) (c : Cell) (after : List ℕ) → i < count → is_some (any_cells_at (count - i) rest) ≡ true → any_cell_at rest ≡ Some (c, after)

@@ -8,8 +8,8 @@ use Rattle.std.specs.declared.cmp.Ordering.{Ordering}
 use Rattle.std.specs.Cmp.Lexicographic.{slice_cmp}
 use Rattle.std.proofs.lemmas.Bool.{leb-true, le-leb}
 use Rattle.std.proofs.lemmas.Cmp.{nat_list_cmp_total}
-use Rattle.leaf_model.specs.Sets.{do_ascend, is_set}
-use Rattle.leaf_model.specs.Values.{IsSet, bytes_in}
+use Rattle.row_model.specs.Sets.{do_ascend, is_set}
+use Rattle.row_model.specs.Values.{IsSet, bytes_in}
 
 short_in : (ts : List (List ℕ)) → bytes_in ts ≤ 65535 → AllByRecursion (λ text. length text ≤ 65535) ts
 short_in [] h = tt

@@ -2,10 +2,10 @@
 use Rattle.std.specs.Prelude.{◌≡◌, ℕ, ◌<◌, List, ◌∷◌, ◌++◌, length, take, get_or, ℤ}
 use Rattle.std.specs.List.{flat_map}
 use Rattle.std.specs.Int.{w16, w32, w64, to_le_bytes, cast_unsigned}
-use Rattle.leaf_model.specs.declared.rows.Value.{Value}
-use Rattle.leaf_model.specs.declared.rows.Value.TheVariants.{Int, Text, Set}
-use Rattle.leaf_model.specs.declared.rows.Cell.{Cell}
-use Rattle.leaf_model.specs.declared.rows.Row.{Row}
+use Rattle.row_model.specs.declared.rows.Value.{Value}
+use Rattle.row_model.specs.declared.rows.Value.TheVariants.{Int, Text, Set}
+use Rattle.row_model.specs.declared.rows.Cell.{Cell}
+use Rattle.row_model.specs.declared.rows.Row.{Row}
 
 -- numbers, little endian
 abbrev pub u16_bytes : ℕ → List ℕ

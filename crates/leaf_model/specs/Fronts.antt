@@ -1,6 +1,6 @@
 -- A prefix of bytes that spells a list.
 use Rattle.std.specs.Prelude.{ℕ, List, [], Option, Some, None}
-use Rattle.leaf_model.specs.declared.rows.Cell.{Cell}
+use Rattle.row_model.specs.declared.rows.Cell.{Cell}
 use Rattle.leaf_model.specs.Reading.{◌>>=◌, many_at, name_at, value_at}
 
 -- the list that was read, without the bytes that follow; [] if none was read

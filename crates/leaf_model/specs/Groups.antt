@@ -4,12 +4,13 @@ use Rattle.std.specs.List.{list_all}
 use Rattle.std.specs.Int.{int_min, int_max}
 use Rattle.std.specs.declared.cmp.Ordering.{Ordering}
 use Rattle.std.specs.declared.cmp.Ordering.TheVariants.{Less, Equal, Greater}
-use Rattle.std.specs.Ordering.{is_eq, is_lt, is_le, is_gt, is_ge, nat_cmp, int_cmp}
+use Rattle.std.specs.Ordering.{is_eq, is_lt, is_le, is_gt, is_ge, int_cmp}
+use Rattle.std.specs.BTreeSet.{insert_key}
 use Rattle.std.specs.Cmp.Lexicographic.{slice_cmp}
-use Rattle.leaf_model.specs.declared.rows.Value.{Value}
-use Rattle.leaf_model.specs.declared.rows.Value.TheVariants as value
-use Rattle.leaf_model.specs.declared.rows.Cell.{Cell}
-use Rattle.leaf_model.specs.declared.rows.Row.{Row}
+use Rattle.row_model.specs.declared.rows.Value.{Value}
+use Rattle.row_model.specs.declared.rows.Value.TheVariants as value
+use Rattle.row_model.specs.declared.rows.Cell.{Cell}
+use Rattle.row_model.specs.declared.rows.Row.{Row}
 use Rattle.leaf_model.specs.declared.queries.Op.{Op}
 use Rattle.leaf_model.specs.declared.queries.Op.TheVariants.{Eq, Ne, Lt, Le, Gt, Ge, Has}
 use Rattle.leaf_model.specs.declared.queries.Cond.{Cond}
@@ -20,8 +21,9 @@ use Rattle.leaf_model.specs.declared.groups.Key.{Key}
 use Rattle.leaf_model.specs.declared.groups.Key.TheVariants as key
 use Rattle.leaf_model.specs.declared.groups.Fold.{Fold}
 use Rattle.leaf_model.specs.declared.groups.Group.{Group}
-use Rattle.leaf_model.specs.Values.{time_name}
-use Rattle.leaf_model.specs.Names.{is_among}
+use Rattle.row_model.specs.Values.{time_name}
+use Rattle.row_model.specs.Names.{is_among}
+use Rattle.row_model.specs.Texts.{text_cmp, texts_cmp}
 
 -- the value of the cell of that name
 abbrev pub cell_value : List ℕ → List Cell → Option Value
@@ -31,14 +33,6 @@ cell_value name (c ∷ cs) = if bytes_eq name c.name then Some c.value else cell
 -- the value of a row under a name: that of its cell, and under `time` its time
 abbrev pub value_of : List ℕ → Row → Option Value
 value_of name row = if bytes_eq name time_name then Some (value.Int row.time) else cell_value name row.cells
-
--- texts compare by their bytes
-abbrev pub text_cmp : List ℕ → List ℕ → Ordering
-text_cmp = slice_cmp nat_cmp
-
--- lists of texts compare lexicographically
-abbrev pub texts_cmp : List (List ℕ) → List (List ℕ) → Ordering
-texts_cmp = slice_cmp text_cmp
 
 -- whether an operator accepts the order of cell and constant; HAS accepts none
 abbrev pub op_accepts : Op → Ordering → Bool
@@ -67,19 +61,11 @@ abbrev pub cond_accepts : Cond → Option Value → Bool
 cond_accepts c None = false
 cond_accepts c (Some v) = compares c.op v c.value
 
--- the time is in the range, and each condition holds
-abbrev pub passes : Query → Row → Bool
-passes q row = int_le q.from row.time && (int_le row.time q.to && list_all (λ (c : Cond). cond_accepts c (value_of c.name row)) q.conds)
-
 abbrev pub key_of : Option Value → Key
 key_of None = key.Missing
 key_of (Some (value.Int n)) = key.Int n
 key_of (Some (value.Text t)) = key.Text t
 key_of (Some (value.Set members)) = key.Set members
-
--- the row's value under each name of GROUP BY
-abbrev pub keys_of : Query → Row → List Key
-keys_of q row = map (λ name. key_of (value_of name row)) q.keys
 
 -- missing, then integers ascending, then texts by their bytes, then sets as lists of texts
 abbrev pub key_cmp : Key → Key → Ordering
@@ -98,21 +84,6 @@ key_cmp (key.Set a) b = Greater
 abbrev pub keys_cmp : List Key → List Key → Ordering
 keys_cmp = slice_cmp key_cmp
 
--- an ascending list of distinct key lists with k in its place, given how k compares with the first one, j
-abbrev pub with_keys_at : Ordering → List Key → List Key → List (List Key) → List (List Key) → List (List Key)
-with_keys_at Less k j js further = k ∷ j ∷ js
-with_keys_at Equal k j js further = j ∷ js
-with_keys_at Greater k j js further = j ∷ further
-
-abbrev pub with_keys : List Key → List (List Key) → List (List Key)
-with_keys k [] = k ∷ []
-with_keys k (j ∷ js) = let further = with_keys k js in with_keys_at (keys_cmp k j) k j js further
-
--- the key lists of the rows, ascending, each once
-abbrev pub distinct_keys : Query → List Row → List (List Key)
-distinct_keys q [] = []
-distinct_keys q (row ∷ rows) = with_keys (keys_of q row) (distinct_keys q rows)
-
 -- the integer that a value is, if it is one
 abbrev pub as_int : Value → Option ℤ
 as_int (value.Int n) = Some n
@@ -121,9 +92,6 @@ as_int other = None
 -- the integers that the rows have under a name
 abbrev pub ints_of : List ℕ → List Row → List ℤ
 ints_of name rows = filter_map (λ row. option_and_then as_int (value_of name row)) rows
-
-abbrev pub int_sum : List ℤ → ℤ
-int_sum ns = fold ◌+ℤ◌ (pos 0) ns
 
 abbrev pub least : List ℤ → Option ℤ
 least [] = None
@@ -135,7 +103,7 @@ greatest (n ∷ ns) = Some (fold int_max n ns)
 
 -- the number, sum, least and greatest of integers
 abbrev pub fold_of : List ℤ → Fold
-fold_of ns = record { seen = length ns; sum = int_sum ns; min = least ns; max = greatest ns }
+fold_of ns = record { seen = length ns; sum = fold ◌+ℤ◌ (pos 0) ns; min = least ns; max = greatest ns }
 
 -- the integers that an aggregate folds; COUNT folds none
 abbrev pub agg_ints : Agg → List Row → List ℤ
@@ -145,16 +113,30 @@ agg_ints (Min name) rows = ints_of name rows
 agg_ints (Max name) rows = ints_of name rows
 agg_ints (Avg name) rows = ints_of name rows
 
--- the rows with the keys ks
-abbrev pub rows_with : Query → List Key → List Row → List Row
-rows_with q ks rows = filter (λ row. is_eq (keys_cmp (keys_of q row) ks)) rows
+module _ (q : Query) where
+  -- the row's value under each name of GROUP BY
+  abbrev pub keys_of : Row → List Key
+  keys_of row = map (λ name. key_of (value_of name row)) q.keys
 
--- a group: its keys, the number of its rows, and a fold for each aggregate
-abbrev pub group_of : Query → List Key → List Row → Group
-group_of q ks rows = record { keys = ks; count = length rows; folds = map (λ agg. fold_of (agg_ints agg rows)) q.aggs }
+  -- the time is in the range, and each condition holds
+  abbrev pub passes : Row → Bool
+  passes row = int_le q.from row.time && (int_le row.time q.to && list_all (λ (c : Cond). cond_accepts c (value_of c.name row)) q.conds)
 
--- the groups of the rows that pass, ascending by key
-abbrev pub groups : Query → List Row → List Group
-groups q rows =
-    let passing = filter (passes q) rows in
-    map (λ ks. group_of q ks (rows_with q ks passing)) (distinct_keys q passing)
+  -- the key lists of the rows, ascending, each once
+  abbrev pub distinct_keys : List Row → List (List Key)
+  distinct_keys [] = []
+  distinct_keys (row ∷ rows) = insert_key keys_cmp (distinct_keys rows) (keys_of row)
+
+  -- the rows with the keys ks
+  abbrev pub rows_with : List Key → List Row → List Row
+  rows_with ks rows = filter (λ row. is_eq (keys_cmp (keys_of row) ks)) rows
+
+  -- a group: its keys, the number of its rows, and a fold for each aggregate
+  abbrev pub group_of : List Key → List Row → Group
+  group_of ks rows = record { keys = ks; count = length rows; folds = map (λ agg. fold_of (agg_ints agg rows)) q.aggs }
+
+  -- the groups of the rows that pass, ascending by key
+  abbrev pub groups : List Row → List Group
+  groups rows =
+      let passing = filter passes rows in
+      map (λ ks. group_of ks (rows_with ks passing)) (distinct_keys passing)

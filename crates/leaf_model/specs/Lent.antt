@@ -1,10 +1,10 @@
 -- What borrowed rows, cells and values mean.
 use Rattle.std.specs.Prelude.{ℕ, List, [], ◌∷◌, map, Option, Some, None, option_map}
 use Rattle.std.specs.Borrow.{Bor}
-use Rattle.leaf_model.specs.declared.rows.Value.{Value}
-use Rattle.leaf_model.specs.declared.rows.Value.TheVariants as values
-use Rattle.leaf_model.specs.declared.rows.Cell.{Cell}
-use Rattle.leaf_model.specs.declared.rows.Row.{Row}
+use Rattle.row_model.specs.declared.rows.Value.{Value}
+use Rattle.row_model.specs.declared.rows.Value.TheVariants as values
+use Rattle.row_model.specs.declared.rows.Cell.{Cell}
+use Rattle.row_model.specs.declared.rows.Row.{Row}
 use Rattle.leaf_model.specs.declared.fronts.SpelledTexts.{SpelledTexts}
 use Rattle.leaf_model.specs.declared.lent_texts.LentTexts.{LentTexts}
 use Rattle.leaf_model.specs.declared.lent_texts.LentTexts.TheVariants as texts
@@ -93,9 +93,9 @@ abbrev pub cells_parted : Option (LentCell × LentCells) → List Cell
 cells_parted None = []
 cells_parted (Some parts) = lent_cell parts.0 ∷ lent_cells parts.1
 
-abbrev pub rows_before : Option (LentRow × SpelledRows) → List Row
-rows_before None = []
-rows_before (Some parts) = lent_row parts.0 ∷ spelled_rows parts.1
+abbrev pub lent_rows_before : Option (LentRow × SpelledRows) → List Row
+lent_rows_before None = []
+lent_rows_before (Some parts) = lent_row parts.0 ∷ spelled_rows parts.1
 
 abbrev pub rows_parted : Option (LentRow × LentRows) → List Row
 rows_parted None = []

@@ -1,8 +1,6 @@
-pub mod Values
-pub mod Sets
+pub mod Writes
 pub mod Content
 pub mod Groups
-pub mod Names
 pub mod Bytes
 pub mod Reading
 pub mod Fronts

@@ -1,9 +1,9 @@
 -- Values that are looked up in rows.
 use Rattle.std.specs.Prelude.{ℕ, List, [], ◌∷◌, ◌++◌, take, drop, map, ℤ, Bool, false, Option, Some, None, if◌then◌else◌, bytes_eq}
-use Rattle.leaf_model.specs.declared.rows.Value.{Value}
-use Rattle.leaf_model.specs.declared.rows.Value.TheVariants as values
-use Rattle.leaf_model.specs.declared.rows.Cell.{Cell}
-use Rattle.leaf_model.specs.declared.rows.Row.{Row}
+use Rattle.row_model.specs.declared.rows.Value.{Value}
+use Rattle.row_model.specs.declared.rows.Value.TheVariants as values
+use Rattle.row_model.specs.declared.rows.Cell.{Cell}
+use Rattle.row_model.specs.declared.rows.Row.{Row}
 use Rattle.leaf_model.specs.declared.looks.Sought.{Sought}
 use Rattle.leaf_model.specs.declared.looks.Sought.TheVariants as sought
 use Rattle.leaf_model.specs.declared.lent_cells.LentValue.{LentValue}
@@ -20,8 +20,8 @@ abbrev pub begun_one : ℤ → Sought → Option Value
 begun_one time sought.Time = Some (values.Int time)
 begun_one time (sought.Cell name) = None
 
-abbrev pub begun : ℤ → List Sought → List (Option Value)
-begun time all = map (begun_one time) all
+abbrev pub looks_begun : ℤ → List Sought → List (Option Value)
+looks_begun time all = map (begun_one time) all
 
 -- whether a cell of that name is what is looked for
 abbrev pub is_sought : Sought → List ℕ → Bool

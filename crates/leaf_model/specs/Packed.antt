@@ -1,9 +1,9 @@
 -- Rows packed as bytes.
 use Rattle.std.specs.Prelude.{◌≡◌, ℕ, ℤ, List, [], Some, length}
 use Rattle.std.specs.List.{AllByRecursion}
-use Rattle.leaf_model.specs.declared.rows.Row.{Row}
+use Rattle.row_model.specs.declared.rows.Row.{Row}
 use Rattle.leaf_model.specs.Content.{rows_from}
-use Rattle.leaf_model.specs.Values.{IsRow}
+use Rattle.row_model.specs.Values.{IsRow}
 use Rattle.leaf_model.specs.Bytes.{rows_bytes}
 use Rattle.leaf_model.specs.Reading.{rows_at}
 use Rattle.leaf_model.specs.Fronts.{front_of}

@@ -3,7 +3,7 @@ ghost use Rattle.std.specs.Prelude.{◌≡◌, ◌≤◌, length, IfOk};
 ghost use Rattle.std.specs.List.{AllByRecursion};
 ghost use Rattle.leaf_model.specs.Bytes.{rows_bytes};
 ghost use Rattle.leaf_model.specs.Lent.{lent_rows};
-ghost use Rattle.leaf_model.specs.Values.{IsRow};
+ghost use Rattle.row_model.specs.Values.{IsRow};
 
 use crate::lent_rows::LentRows;
 use crate::packed_rows::PackedRows;
@@ -18,7 +18,7 @@ pub struct Rows {
 
 impl Model for Rows {
     ghost use Rattle.std.specs.Prelude.{List, ◌≤◌, length};
-    ghost use Rattle.leaf_model.specs.declared.rows.Row.{Row};
+    ghost use Rattle.row_model.specs.declared.rows.Row.{Row};
 
     ghost Value = { List Row };
 

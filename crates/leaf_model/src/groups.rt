@@ -2,7 +2,7 @@
 ghost use Rattle.std.specs.Prelude.{◌≡◌};
 ghost use Rattle.leaf_model.specs.Groups.{key_cmp, keys_cmp};
 
-use crate::text::{Text, Texts};
+use row_model::{Text, Texts};
 use std::cmp::Ordering;
 use std::marker::Model;
 

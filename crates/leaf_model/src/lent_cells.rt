@@ -6,9 +6,8 @@ ghost use Rattle.leaf_model.specs.Lent.{cells_before, cells_parted, lent_cell, l
 
 use crate::fronts::{SpelledCells, SpelledTexts};
 use crate::lent_texts::LentTexts;
-use crate::rows::{Cell, Cells, Value};
 use crate::spelled::{behind_texts, long_text_in, name_in, u16_in, u64_in};
-use crate::text::Text;
+use row_model::{Cell, Cells, Text, Value};
 use std::alloc::{AllocError, Global};
 
 /// A borrowed value.

@@ -2,12 +2,12 @@
 ghost use Rattle.std.specs.Prelude.{◌≡◌, ◌≤◌, ℕ, List, [], drop, length, take, IfOk, IsSome, Some};
 ghost use Rattle.leaf_model.specs.Reading.{row_at, rows_at};
 ghost use Rattle.leaf_model.specs.Fronts.{front_of};
-ghost use Rattle.leaf_model.specs.Lent.{lent_row, lent_rows, rows_before, rows_parted, spelled_rows};
+ghost use Rattle.leaf_model.specs.Lent.{lent_row, lent_rows, lent_rows_before, rows_parted, spelled_rows};
 
 use crate::fronts::{SpelledCells, SpelledRows};
 use crate::lent_cells::{LentCells, behind_cells};
-use crate::rows::Row;
 use crate::spelled::{time_in, u16_in};
+use row_model::Row;
 use std::alloc::{AllocError, Global};
 
 /// A borrowed row.
@@ -78,7 +78,7 @@ impl<'a> SpelledRows<'a> {
     }
 
     fn split_first(&self) -> Option<(LentRow<'a>, SpelledRows<'a>)>
-        ensures { rows_before result ≡ spelled_rows self.now }
+        ensures { lent_rows_before result ≡ spelled_rows self.now }
     {
         if self.count == 0 {
             return None;

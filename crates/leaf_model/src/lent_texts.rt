@@ -1,17 +1,16 @@
 // Borrowed texts, either as values or as bytes.
 ghost use Rattle.std.specs.Prelude.{◌≡◌, length, nat_le, IfOk, IsSome};
-ghost use Rattle.leaf_model.specs.Sets.{do_ascend, is_set};
-ghost use Rattle.leaf_model.specs.Values.{bytes_in};
-ghost use Rattle.leaf_model.specs.Groups.{texts_cmp};
-ghost use Rattle.leaf_model.specs.Names.{is_among};
+ghost use Rattle.row_model.specs.Sets.{do_ascend, is_set};
+ghost use Rattle.row_model.specs.Values.{bytes_in};
+ghost use Rattle.row_model.specs.Texts.{texts_cmp};
+ghost use Rattle.row_model.specs.Names.{is_among};
 ghost use Rattle.leaf_model.specs.Reading.{texts_at};
 ghost use Rattle.leaf_model.specs.Fronts.{front_of};
 ghost use Rattle.leaf_model.specs.Lent.{lent_texts, spelled_texts, texts_before, texts_parted};
 
 use crate::fronts::SpelledTexts;
-use crate::limits::{MAX_MEMBERS, MAX_TEXT};
 use crate::spelled::long_text_in;
-use crate::text::{Text, Texts};
+use row_model::{MAX_MEMBERS, MAX_TEXT, Text, Texts};
 use std::alloc::{AllocError, Global};
 use std::cmp::Ordering;
 

@@ -2,22 +2,22 @@
 ghost use Rattle.std.specs.Prelude.{◌≡◌, ◌≤◌, ◌<◌, ◌∷◌, ℕ, List, Option, length, map, option_map, slice_index_or, true, IsSome, IfSome, Some};
 ghost use Rattle.std.specs.Str.{bytes_eq};
 ghost use Rattle.std.specs.Vec.{vec_len};
-ghost use Rattle.leaf_model.specs.declared.rows.Cell.{Cell};
-ghost use Rattle.leaf_model.specs.declared.rows.Row.{Row};
-ghost use Rattle.leaf_model.specs.declared.rows.Value.{Value};
+ghost use Rattle.row_model.specs.declared.rows.Cell.{Cell};
+ghost use Rattle.row_model.specs.declared.rows.Row.{Row};
+ghost use Rattle.row_model.specs.declared.rows.Value.{Value};
 ghost use Rattle.leaf_model.specs.declared.lent_cells.LentValue.{LentValue};
 ghost use Rattle.leaf_model.specs.declared.looks.Sought.{Sought};
 ghost use Rattle.leaf_model.specs.Fronts.{any_cell_at, any_cells_at, front_of};
 ghost use Rattle.leaf_model.specs.Groups.{value_of};
-ghost use Rattle.leaf_model.specs.Lent.{each_value, lent_cell, lent_cells, lent_row, lent_rows, lent_value, rows_before, rows_parted, spelled_rows};
-ghost use Rattle.leaf_model.specs.Looks.{begun, begun_one, filled, filled_from, filled_one, is_sought, sought_in};
+ghost use Rattle.leaf_model.specs.Lent.{each_value, lent_cell, lent_cells, lent_row, lent_rows, lent_value, lent_rows_before, rows_parted, spelled_rows};
+ghost use Rattle.leaf_model.specs.Looks.{looks_begun, begun_one, filled, filled_from, filled_one, is_sought, sought_in};
 ghost use Rattle.leaf_model.specs.Reading.{row_at, value_at};
 
 use crate::fronts::{SpelledCells, SpelledRows};
 use crate::lent_cells::{LentCell, LentCells, LentValue, set_in, value_in};
 use crate::lent_rows::{LentRow, LentRows};
 use crate::spelled::{long_text_in, name_in, time_in, u16_in, u64_in};
-use crate::text::Text;
+use row_model::Text;
 
 /// What is looked for in a row: its time, or the value of a name.
 #[derive(Clone, Copy)]
@@ -210,7 +210,7 @@ fn look_cell<'b>(
     rest
 }
 
-/// What is known of one place before any cell was looked at: the time, or nothing.
+/// The value of one place before any cell is looked at: the row's time, or None.
 #[inline(always)]
 fn begin_one(sought: Sought, time: i64, seen: &mut Option<LentValue>)
     ensures { option_map lent_value seen.new ≡ begun_one time sought.entry }
@@ -221,11 +221,11 @@ fn begin_one(sought: Sought, time: i64, seen: &mut Option<LentValue>)
     }
 }
 
-/// Overwrites `seen` with what is known before any cell was looked at.
+/// Sets `seen` to the values before any cell is looked at.
 fn begin(sought: &[Sought], time: i64, seen: &mut Vec<Option<LentValue>>)
     requires { vec_len seen.old ≡ length sought.now }
     ensures same { vec_len seen.new ≡ length sought.now }
-    ensures begun { each_value seen.new.items ≡ begun time sought.now }
+    ensures begun { each_value seen.new.items ≡ looks_begun time sought.now }
 {
     let mut i: usize = 0;
     while i < sought.len() {
@@ -300,7 +300,7 @@ impl<'a> SpelledRows<'a> {
         seen: &mut Vec<Option<LentValue<'a>>>,
     ) -> Option<(LentRow<'a>, SpelledRows<'a>)>
         requires { vec_len seen.old ≡ length sought.now }
-        ensures parted { rows_before result ≡ spelled_rows self.now }
+        ensures parted { lent_rows_before result ≡ spelled_rows self.now }
         ensures same { vec_len seen.new ≡ length sought.now }
         ensures seen { IfSome result (λ parts.
             each_value seen.new.items ≡ map (sought_in (lent_row parts.0)) sought.now) }

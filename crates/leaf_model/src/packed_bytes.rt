@@ -1,6 +1,6 @@
 // Packed rows and their bytes: appends a row, appends other packed rows, reads rows from bytes.
 ghost use Rattle.std.specs.Prelude.{◌≡◌, ◌+◌, ◌≤◌, ◌++◌, ◌∷◌, [], length, IfOk, OnErr, OnOk, Some};
-ghost use Rattle.leaf_model.specs.Values.{IsRow};
+ghost use Rattle.row_model.specs.Values.{IsRow};
 ghost use Rattle.leaf_model.specs.Bytes.{rows_bytes};
 ghost use Rattle.leaf_model.specs.Reading.{rows_at};
 ghost use Rattle.leaf_model.specs.Lent.{lent_row};

@@ -1,9 +1,9 @@
 // Rows packed as bytes, one row after another.
 ghost use Rattle.std.specs.Prelude.{◌≡◌, ◌+◌, ◌≤◌, ◌++◌, ℕ, List, [], drop, length, take, IfOk, IfSome, IsSome, IsTrue, OnErr, OnOk};
 ghost use Rattle.std.specs.List.{AllByRecursion};
-ghost use Rattle.leaf_model.specs.declared.rows.Row.{Row};
+ghost use Rattle.row_model.specs.declared.rows.Row.{Row};
 ghost use Rattle.leaf_model.specs.Content.{rows_from};
-ghost use Rattle.leaf_model.specs.Values.{IsRow};
+ghost use Rattle.row_model.specs.Values.{IsRow};
 ghost use Rattle.leaf_model.specs.Bytes.{row_bytes, rows_bytes, BeginsWith};
 ghost use Rattle.leaf_model.specs.Reading.{row_at, rows_at};
 ghost use Rattle.leaf_model.specs.Lent.{lent_rows, spelled_rows};
@@ -26,7 +26,7 @@ pub struct PackedRows {
 
 impl Model for PackedRows {
     ghost use Rattle.std.specs.Prelude.{List};
-    ghost use Rattle.leaf_model.specs.declared.rows.Row.{Row};
+    ghost use Rattle.row_model.specs.declared.rows.Row.{Row};
     ghost use Rattle.leaf_model.specs.Packed.{packed_rows, ArePacked};
 
     ghost Value = { List Row };
@@ -304,7 +304,7 @@ fn put_each(out: &mut Vec<u8>, rows: &LentRows, horizon: i64) -> Result<usize, A
     done
 }
 
-/// The same, but after Err the bytes only begin with what was there.
+/// The same, but Err may leave part of the rows after the old bytes.
 fn lay_from(out: &mut Vec<u8>, rows: &LentRows, horizon: i64) -> Result<usize, AllocError>
     requires { AllByRecursion IsRow (lent_rows rows.now) }
     ensures put { OnOk result (out.new.items ≡ out.old.items ++ rows_bytes (rows_from horizon (lent_rows rows.now))) }

@@ -1,8 +1,7 @@
 // Queries: a range of times, conditions, keys and aggregates.
 ghost use Rattle.std.specs.Prelude.{◌≡◌, IfOk};
 
-use crate::rows::Value;
-use crate::text::{Names, Text};
+use row_model::{Names, Text, Value};
 use std::alloc::AllocError;
 use std::marker::Model;
 

@@ -1,7 +1,7 @@
 // Appends rows to bytes.
 ghost use Rattle.std.specs.Prelude.{◌≡◌, ◌≤◌, ◌++◌, length, OnOk, OnErr};
 ghost use Rattle.std.specs.List.{flat_map, AllByRecursion};
-ghost use Rattle.leaf_model.specs.Values.{IsSet, IsValue, IsCell, IsRow};
+ghost use Rattle.row_model.specs.Values.{IsSet, IsValue, IsCell, IsRow};
 ghost use Rattle.leaf_model.specs.Bytes.{name_bytes, text_bytes, value_bytes, cell_bytes, row_bytes, i64_bytes, u16_bytes, BeginsWith};
 ghost use Rattle.leaf_model.specs.Lent.{lent_cell, lent_cells, lent_row, lent_texts, lent_value};
 

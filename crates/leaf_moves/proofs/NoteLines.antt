@@ -13,7 +13,7 @@ use Rattle.leaf_machine.specs.Starts.{IsOpenedNote}
 use Rattle.printed_lines.specs.declared.line.Said.{Said}
 use Rattle.printed_lines.specs.declared.line.Said.TheVariants as said
 use Rattle.transcript.specs.Pieces.{Noted}
-use Rattle.transcript.specs.Life.{Notes, NotesOf, owed_words}
+use Rattle.transcript.specs.Life.{NotesFrom, NotesOf, owed_words}
 use Rattle.leaf_moves.specs.Modes.{owed_as, owed_of}
 use Rattle.leaf_moves.specs.Steps.{noted, noted_all, said_of_note}
 
@@ -40,7 +40,7 @@ closed_said (what.Closed n) h = (n, refl)
 closed_said what.Handed h = absurd h
 
 pub closed_noted : (place count : ℕ) (notes : List Note) → EachNoted IsClosedNote place count notes
-    → (counts : List ℕ) × (length counts ≡ count) × Notes place (map said.Closed counts) (noted_all notes)
+    → (counts : List ℕ) × (length counts ≡ count) × NotesFrom place (map said.Closed counts) (noted_all notes)
 closed_noted place count [] h = ([], sym h, tt)
 closed_noted place count (n ∷ ns) h =
     let rest = closed_noted (suc place) h.0 ns h.4 in
@@ -55,7 +55,7 @@ opened_said (what.Closed n) h = absurd h
 opened_said what.Handed h = absurd h
 
 pub opened_noted : (place count : ℕ) (notes : List Note) → EachNoted IsOpenedNote place count notes
-    → (counts : List ℕ) × (length counts ≡ count) × Notes place (map said.Opened counts) (noted_all notes)
+    → (counts : List ℕ) × (length counts ≡ count) × NotesFrom place (map said.Opened counts) (noted_all notes)
 opened_noted place count [] h = ([], sym h, tt)
 opened_noted place count (n ∷ ns) h =
     let rest = opened_noted (suc place) h.0 ns h.4 in
@@ -69,10 +69,10 @@ handed_said (what.Flushed n) h = absurd h
 handed_said (what.Closed n) h = absurd h
 handed_said what.Handed h = refl
 
-pub handed_noted : (place count : ℕ) (notes : List Note) → EachNoted IsHandedNote place count notes → Notes place (replicate count said.Handed) (noted_all notes)
-handed_noted place count [] h = subst (λ (c : ℕ). Notes place (replicate c said.Handed) []) (sym h) tt
+pub handed_noted : (place count : ℕ) (notes : List Note) → EachNoted IsHandedNote place count notes → NotesFrom place (replicate count said.Handed) (noted_all notes)
+handed_noted place count [] h = subst (λ (c : ℕ). NotesFrom place (replicate c said.Handed) []) (sym h) tt
 handed_noted place count (n ∷ ns) h =
-    subst (λ (c : ℕ). Notes place (replicate c said.Handed) (noted_all (n ∷ ns))) (sym h.1)
+    subst (λ (c : ℕ). NotesFrom place (replicate c said.Handed) (noted_all (n ∷ ns))) (sym h.1)
     (h.2, handed_said n.what h.3, handed_noted (suc place) h.0 ns h.4)
 
 -- ---- what was owed

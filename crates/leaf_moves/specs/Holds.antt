@@ -4,7 +4,7 @@ use Rattle.berth_face.specs.Berth.{Meaning}
 use Rattle.leaf_history.specs.History.{Entry, no_base}
 use Rattle.leaf_table.specs.Turns.{Shared, is_founded, start_of}
 use Rattle.leaf_table.specs.Calls.{SeatView, base_seen, seen_of}
-use Rattle.transcript.specs.Histories.{Ground}
+use Rattle.transcript.specs.Histories.{BaseState}
 use Rattle.leaf_moves.specs.Stage.{Leaf, MeetAll, seated_of}
 
 -- What is held of one leaf: its tables; at each a callers' seat, or none; and the leaf with its berth, or not.
@@ -84,15 +84,15 @@ GoOn xs histories = (leaf table : ℕ) → (more : List Entry) × (histories lea
 
 -- ---- what the tables were made with
 
-abbrev pub no_ground : Ground
-no_ground = record { founded = false; base = no_base }
+abbrev pub no_base_state : BaseState
+no_base_state = record { founded = false; base = no_base }
 
-abbrev pub ground_at : List Shared → ℕ → Ground
-ground_at [] table = no_ground
-ground_at (t ∷ ts) zero = record { founded = is_founded (base_seen t); base = start_of (base_seen t) }
-ground_at (t ∷ ts) (suc table) = ground_at ts table
+abbrev pub base_state_at : List Shared → ℕ → BaseState
+base_state_at [] table = no_base_state
+base_state_at (t ∷ ts) zero = record { founded = is_founded (base_seen t); base = start_of (base_seen t) }
+base_state_at (t ∷ ts) (suc table) = base_state_at ts table
 
-abbrev pub grounds_in : {B : Type 0} → List (Hold B) → ℕ → ℕ → Ground
-grounds_in [] leaf table = no_ground
-grounds_in (x ∷ xs) zero table = ground_at x.tables table
-grounds_in (x ∷ xs) (suc leaf) table = grounds_in xs leaf table
+abbrev pub base_states_in : {B : Type 0} → List (Hold B) → ℕ → ℕ → BaseState
+base_states_in [] leaf table = no_base_state
+base_states_in (x ∷ xs) zero table = base_state_at x.tables table
+base_states_in (x ∷ xs) (suc leaf) table = base_states_in xs leaf table

@@ -4,7 +4,7 @@ use Rattle.std.specs.List.{flat_map}
 use Rattle.berth_face.specs.Berth.{Meaning}
 use Rattle.turnstile.specs.Seats.{keeps_all_but, given, Joined}
 use Rattle.leaf_table.specs.Calls.{SeatView}
-use Rattle.script_text.specs.declared.fleet.Fleet.{Fleet}
+use Rattle.script_text.specs.declared.fleet.FleetShape.{FleetShape}
 use Rattle.transcript.specs.Pieces.{Played, PlayedItem, One, Burst}
 use Rattle.leaf_moves.specs.Stage.{Leaf, Meets, MeetAll}
 use Rattle.leaf_moves.specs.Holds.{Hold, AllMeet, caller_in}
@@ -64,7 +64,7 @@ pub record TakesBack {B : Type 0} (meaning : B → Meaning) (rest off xs : List 
 -- ---- played
 
 -- the commands of a lane, played one after another
-pub data PlaysOn {B : Type 0} (meaning : B → Meaning) (fleet : Fleet) : List (Hold B) → List Played → List (Hold B) → Type 0 where
+pub data PlaysOn {B : Type 0} (meaning : B → Meaning) (fleet : FleetShape) : List (Hold B) → List Played → List (Hold B) → Type 0 where
   none : (xs : List (Hold B)) (lane : List Played) (ys : List (Hold B)) → lane ≡ [] → ys ≡ xs → PlaysOn meaning fleet xs lane ys
   more : (xs : List (Hold B)) (lane : List Played) (ys : List (Hold B)) (p : Played) (others : List Played) (between : List (Hold B))
       → Plays meaning fleet p.command xs p.pieces between
@@ -73,7 +73,7 @@ pub data PlaysOn {B : Type 0} (meaning : B → Meaning) (fleet : Fleet) : List (
       → PlaysOn meaning fleet xs lane ys
 
 -- Lanes that play beside one another: each plays with what was cut off for it, which is then taken back.
-pub data Fans {B : Type 0} (meaning : B → Meaning) (fleet : Fleet) : List (Hold B) → List (List Played) → List (Hold B) → Type 0 where
+pub data Fans {B : Type 0} (meaning : B → Meaning) (fleet : FleetShape) : List (Hold B) → List (List Played) → List (Hold B) → Type 0 where
   none : (xs : List (Hold B)) (lanes : List (List Played)) (ys : List (Hold B)) → lanes ≡ [] → ys ≡ xs → Fans meaning fleet xs lanes ys
   beside : (xs : List (Hold B)) (lanes : List (List Played)) (ys : List (Hold B)) (first : List (List Played)) (lane : List Played) (needs acts : ℕ → Bool) (off rest rest' off' : List (Hold B))
       → CutsOff needs acts xs off rest
@@ -85,7 +85,7 @@ pub data Fans {B : Type 0} (meaning : B → Meaning) (fleet : Fleet) : List (Hol
 
 -- an item of a script: a command; or lanes beside one another, after all seats have met; or, if the ids do not suffice,
 -- lanes one after another
-pub data PlaysItem {B : Type 0} (meaning : B → Meaning) (fleet : Fleet) (xs : List (Hold B)) (x : PlayedItem) (ys : List (Hold B)) : Type 0 where
+pub data PlaysItem {B : Type 0} (meaning : B → Meaning) (fleet : FleetShape) (xs : List (Hold B)) (x : PlayedItem) (ys : List (Hold B)) : Type 0 where
   one : (p : Played)
       → x ≡ One p
       → Plays meaning fleet p.command xs p.pieces ys

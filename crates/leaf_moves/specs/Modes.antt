@@ -3,7 +3,7 @@ use Rattle.std.specs.Prelude.{◌≡◌, length, Option, Some, None}
 use Rattle.row_records.specs.Records.{LogRecord}
 use Rattle.leaf_steward.specs.Owing.{Owing}
 use Rattle.leaf_machine.specs.States.{Shutting, treated}
-use Rattle.transcript.specs.Life.{Mode, Down, Up, Preparing, Owed, Progress, first_open}
+use Rattle.transcript.specs.Life.{LifeMode, Down, Up, Preparing, Owed, Progress, first_open}
 use Rattle.leaf_moves.specs.Stage.{Leaf, IsDown, IsUp, IsPreparing}
 
 -- what the log is owed, as lines tell it
@@ -22,7 +22,7 @@ progress_of x = record { owed = owed_of x.serving.owing; treated = treated x; wa
 abbrev pub HasShut : Shutting → Type 0
 HasShut x = length x.closed ≡ first_open (progress_of x)
 
-abbrev pub mode_of : Leaf → Mode
+abbrev pub mode_of : Leaf → LifeMode
 mode_of (IsDown x) = Down
 mode_of (IsUp x) = Up (owed_of x.owing)
 mode_of (IsPreparing x) = Preparing (progress_of x)

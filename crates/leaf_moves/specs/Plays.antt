@@ -9,13 +9,13 @@ use Rattle.printed_lines.specs.declared.line.Line.{Line}
 use Rattle.script_text.specs.declared.command.Command.{Command}
 use Rattle.script_text.specs.declared.command.Command.TheVariants as command
 use Rattle.script_text.specs.Fits.{IsCommand}
-use Rattle.script_text.specs.declared.fleet.Fleet.{Fleet}
+use Rattle.script_text.specs.declared.fleet.FleetShape.{FleetShape}
 use Rattle.script_text.specs.Commands.{leaf_count}
 use Rattle.printed_lines.specs.declared.line.Deed.{Deed}
 use Rattle.transcript.specs.Pieces.{Piece, Says}
 use Rattle.transcript.specs.Shapes.{Prints}
 use Rattle.transcript.specs.Answers.{Answers}
-use Rattle.leaf_moves.specs.Holds.{Hold, GoOn, grounds_in, with_callers, with_leaf}
+use Rattle.leaf_moves.specs.Holds.{Hold, GoOn, base_states_in, with_callers, with_leaf}
 use Rattle.leaf_moves.specs.Stage.{Leaf}
 use Rattle.leaf_moves.specs.Steps.{CallStep, DeedStep}
 
@@ -49,12 +49,12 @@ pub data Goes {B : Type 0} (meaning : B → Meaning) : List (Hold B) → List Pi
 -- ---- whole commands
 
 -- a command that this fleet may play
-abbrev pub MayPlay : Fleet → Command → Type 0
+abbrev pub MayPlay : FleetShape → Command → Type 0
 MayPlay fleet (command.Fleet machines per_machine tables) = ⊤
 MayPlay fleet c = IsCommand (leaf_count fleet) fleet.names c
 
 -- What a command does. Its answer is over what the tables then hold, however their histories go on.
-pub record Plays {B : Type 0} (meaning : B → Meaning) (fleet : Fleet) (c : Command) (xs : List (Hold B)) (pieces : List Piece) (ys : List (Hold B)) : Type 0 where
+pub record Plays {B : Type 0} (meaning : B → Meaning) (fleet : FleetShape) (c : Command) (xs : List (Hold B)) (pieces : List Piece) (ys : List (Hold B)) : Type 0 where
   pub goes : Goes meaning xs pieces ys
   pub prints : Prints fleet c pieces
-  pub answers : (histories : ℕ → ℕ → List Entry) → GoOn ys histories → Answers fleet (grounds_in ys) histories (record { command = c; pieces = pieces })
+  pub answers : (histories : ℕ → ℕ → List Entry) → GoOn ys histories → Answers fleet (base_states_in ys) histories (record { command = c; pieces = pieces })

@@ -4,7 +4,7 @@ use Rattle.std.specs.Prelude.{◌≡◌, ℕ, List, length, slice_get, Some, Non
 use Rattle.leaf_model.specs.declared.writes.Write.{Write}
 use Rattle.row_records.specs.Records.{LogRecord}
 use Rattle.berth_face.specs.Berth.{Meaning}
-use Rattle.turnstile.specs.Seats.{AreIds, LearnsOthers, Told}
+use Rattle.turnstile.specs.Seats.{AreIds, LearnsOthers, SeesAlso}
 use Rattle.leaf_table.specs.Calls.{SeatView}
 use Rattle.crash_moments.specs.Left.{NamedStates}
 use Rattle.crash_moments.specs.Watched.{IsFoundation}
@@ -46,10 +46,10 @@ abbrev pub ServingStands : Serving → Meaning → Type 0
 ServingStands x m = (writes : List ℕ → List Write) × Runs (watched_by x.seated) x.owing.owner x.owing.log writes m
 
 -- region and disk hold what belongs to the leaf; `base` is the base of names that it does not have
-abbrev pub Stands : NamedStates → Leaf → Meaning → Type 0
-Stands base (IsDown x) m = (least : List ℕ → List Write) × (next : Option LogRecord) × Rests (watched_by x) base least next m
-Stands base (IsUp x) m = ServingStands x m
-Stands base (IsPreparing x) m = ServingStands x.serving m
+abbrev pub LeafStands : NamedStates → Leaf → Meaning → Type 0
+LeafStands base (IsDown x) m = (least : List ℕ → List Write) × (next : Option LogRecord) × Rests (watched_by x) base least next m
+LeafStands base (IsUp x) m = ServingStands x m
+LeafStands base (IsPreparing x) m = ServingStands x.serving m
 
 -- the base of each name is that of a table to which nothing was handed in
 abbrev pub AreHandedNothing : NamedStates → Type 0
@@ -58,22 +58,22 @@ AreHandedNothing base = (name : List ℕ) → IsFoundation (base name)
 -- region and disk still hold what belongs to the leaf, and at each moment all that a crash may leave belongs to its
 -- tables
 pub record StandsOn (base : NamedStates) (leaf leaf' : Leaf) (m m' : Meaning) : Type 0 where
-  pub stands : Stands base leaf' m'
+  pub stands : LeafStands base leaf' m'
   pub told : moments.Told base (watched_by (seated_of leaf)) (watched_by (seated_of leaf')) m m'
 
 -- The steward makes entries with these notes. If the berth tells its contents and the tables are founded, region and
 -- disk still hold what belongs to the leaf.
 pub record Carries (leaf leaf' : Leaf) (notes : List Note) (m m' : Meaning) : Type 0 where
   pub made : Makes m.clock m'.clock (seated_of leaf) notes (seated_of leaf')
-  pub stands : (base : NamedStates) → IsTrue m.tells → AreFounded (seated_of leaf) → AreHandedNothing base → Stands base leaf m → StandsOn base leaf leaf' m m'
+  pub stands : (base : NamedStates) → IsTrue m.tells → AreFounded (seated_of leaf) → AreHandedNothing base → LeafStands base leaf m → StandsOn base leaf leaf' m m'
 
 -- ---- meetings
 
 -- The steward's seat v and the callers' seat c met: each has then seen what the other had, in which it had made no
 -- entry itself.
 pub record Meets (v c v' c' : SeatView) : Type 0 where
-  pub steward : Told v c v'
-  pub caller : Told c v c'
+  pub steward : SeesAlso v c v'
+  pub caller : SeesAlso c v c'
   pub steward_learns : LearnsOthers v v'
   pub caller_learns : LearnsOthers c c'
   pub ids : AreIds c'.seen
@@ -94,4 +94,4 @@ pub record MeetAll (leaf : Leaf) (callers : List (Option SeatView)) (leaf' : Lea
       → slice_get seats place ≡ Some v' → slice_get callers' place ≡ Some c'
       → MeetsIf v c v' c'
   pub count : (length seats ≡ length (seated_of leaf).seats) × (length callers' ≡ length callers)
-  pub stands : (base : NamedStates) → IsTrue m.tells → AreFounded (seated_of leaf) → Stands base leaf m → Stands base leaf' m
+  pub stands : (base : NamedStates) → IsTrue m.tells → AreFounded (seated_of leaf) → LeafStands base leaf m → LeafStands base leaf' m

@@ -30,7 +30,7 @@ use Rattle.leaf_machine.specs.States as state
 use Rattle.leaf_machine.specs.States.{Serving, columns_added, columns_seen}
 use Rattle.leaf_machine.specs.Starts.{CameUp, IsExactRefusal, IsOpenedNote, IsStartRefused}
 use Rattle.leaf_machine.specs.Flushes as flushing
-use Rattle.leaf_machine.specs.Prepares.{IsCrowded}
+use Rattle.leaf_machine.specs.Prepares.{PreparingIsCrowded}
 use Rattle.printed_lines.specs.declared.line.Said.{Said}
 use Rattle.printed_lines.specs.declared.line.Said.TheVariants as said
 use Rattle.printed_lines.specs.declared.line.Ending.{Ending}
@@ -38,8 +38,8 @@ use Rattle.printed_lines.specs.declared.line.Ending.TheVariants as ending
 use Rattle.printed_lines.specs.declared.line.Deed.{Deed}
 use Rattle.printed_lines.specs.declared.line.Deed.TheVariants.{Start, Flush, Drain, Kill}
 use Rattle.transcript.specs.Pieces.{Piece, Called, Worn, Acted, Noted}
-use Rattle.transcript.specs.Life.{Comes, Copying, Down, Halts, MayMake, Mode, Owed, Preparing, Progress, Shutting, Stage, Starves, first_open}
-use Rattle.leaf_moves.specs.Stage.{Leaf, IsDown, IsUp, IsPreparing, seated_of, Stands, ServingStands, AreHandedNothing, Carries, MeetAll}
+use Rattle.transcript.specs.Life.{DrainComes, Copying, Down, Halts, MayMake, LifeMode, Owed, Preparing, Progress, Shutting, StageOfDrain, Starves, first_open}
+use Rattle.leaf_moves.specs.Stage.{Leaf, IsDown, IsUp, IsPreparing, seated_of, LeafStands, ServingStands, AreHandedNothing, Carries, MeetAll}
 use Rattle.leaf_moves.specs.Modes.{mode_of, owed_of, progress_of}
 
 -- ---- the calls of callers
@@ -85,7 +85,7 @@ noted_all notes = map noted notes
 -- ---- the steward's part of a command, by its notes and its ending
 
 -- the steward makes entries one after another, with these notes
-pub record Part (x : Seated) (notes : List Note) (y : Seated) : Type 0 where
+pub record MakesNoted (x : Seated) (notes : List Note) (y : Seated) : Type 0 where
   pub from : ℕ
   pub to : ℕ
   pub made : Makes from to x notes y
@@ -109,8 +109,7 @@ ending_of (fault.Stranger name) = ending.FaultStranger name
 ending_of fault.NoMemory = ending.FaultMemory
 ending_of (fault.Worn table) = ending.FaultWorn table
 
--- a start that is refused for a worn seat has that seat worn, and one that is refused for a stranger names a table's
--- name
+-- a start refused for a worn seat names a seat that is worn; one refused for a stranger names a table's name
 abbrev pub IsTrueOf : Seated → StartFault → Type 0
 IsTrueOf x (fault.Worn table) = WornAt x table
 IsTrueOf x fault.RegionFault = ⊤
@@ -152,7 +151,7 @@ pub data StartMoves (m m' : Meaning) (leaf : Leaf) (notes : List Note) (ends : E
   refused : (x : Seated) (f : StartFault)
       → leaf ≡ IsDown x
       → IsTrueOf x f
-      → ((base : NamedStates) → IsTrue m.tells → AreFounded x → Stands base leaf m → f ≢ fault.DiskDamaged)
+      → ((base : NamedStates) → IsTrue m.tells → AreFounded x → LeafStands base leaf m → f ≢ fault.DiskDamaged)
       → (IsTrue m.tells → RefusalTold x m m' f)
       → notes ≡ []
       → ends ≡ ending_of f
@@ -217,27 +216,28 @@ abbrev pub AreShut : Seated → Type 0
 AreShut x = AtEach (λ place t v. SeesShut t v) x
 
 -- The copy takes `copy` steps: to begin, one for each column, to write the directory, and to open the flag. It has at
--- least the columns that the rows need, and of founded tables at most one for each row and each cell that was added.
--- Each table is shut.
+-- least the columns that the rows need, and of founded tables at most one for each row and each cell that was added, and
+-- the spare ones. Each table is shut.
 abbrev pub HasCopyLength : Seated → ℕ → Type 0
 HasCopyLength x copy = (3 + columns_seen x.tables x.seats ≤ copy) × (AreFounded x → copy ≤ 3 + columns_added x.tables x.seats) × AreShut x
 
--- A drain reached this stage, of a copy that takes so many steps: by so many steps of the leaf's life and these entries of its steward, behind which the last were made.
-pub record ReachesBy (mode : Mode) (x y : Seated) (notes : List Note) (copy : ℕ) (s : Stage) : Type 0 where
+-- A drain, whose copy takes `copy` steps, has come to this stage in `made` steps of the leaf's life. The steward made
+-- the entries `treating` in these steps, and `last` after them.
+pub record ReachesBy (mode : LifeMode) (x y : Seated) (notes : List Note) (copy : ℕ) (s : StageOfDrain) : Type 0 where
   pub made : ℕ
   pub treating : List Note
   pub last : List Note
   pub notes_are : notes ≡ treating ++ last
-  pub comes : Comes (length x.tables) copy made mode (noted_all treating) s
+  pub comes : DrainComes (length x.tables) copy made mode (noted_all treating) s
   pub between : Seated
-  pub treats : Part x treating between
-  pub ends : Part between last y
+  pub treats : MakesNoted x treating between
+  pub ends : MakesNoted between last y
 
-abbrev pub Reaches : Leaf → Leaf → List Note → ℕ → Stage → Type 0
+abbrev pub Reaches : Leaf → Leaf → List Note → ℕ → StageOfDrain → Type 0
 Reaches leaf leaf' notes copy s = ReachesBy (mode_of leaf) (seated_of leaf) (seated_of leaf') notes copy s
 
--- what the region is of a leaf that was killed at this stage: begun and closed by a step of the copy, and untouched before
-abbrev pub RegionStopped : Stage → Meaning → Meaning → Type 0
+-- the region of a leaf that was killed at this stage: untouched before the copy; begun and closed after a step of it
+abbrev pub RegionStopped : StageOfDrain → Meaning → Meaning → Type 0
 RegionStopped (Shutting p) m m' = m'.held.region ≡ m.held.region
 RegionStopped (Copying zero) m m' = m'.held.region ≡ m.held.region
 RegionStopped (Copying (suc made)) m m' = IsWayOf m'.held.region (Disk (why.Closed 0))
@@ -247,15 +247,15 @@ SameRegion m m' = IsTrue m.tells → m'.held.region ≡ m.held.region
 
 -- what holds where the berth tells its contents and the tables are founded
 abbrev pub WhereStands : Leaf → Meaning → Type 0 → Type 0
-WhereStands leaf m P = (base : NamedStates) → IsTrue m.tells → AreFounded (seated_of leaf) → Stands base leaf m → P
+WhereStands leaf m P = (base : NamedStates) → IsTrue m.tells → AreFounded (seated_of leaf) → LeafStands base leaf m → P
 
--- a leaf with these seats, of whose log that is told, serves its tables still
+-- the leaf still serves its tables, if they are founded: with these seats, and this record owed to the log
 abbrev pub ServesStill : Leaf → Meaning → Meaning → Seated → Option Owed → Type 0
-ServesStill leaf m m' x owed = (base : NamedStates) → IsTrue m.tells → AreFounded (seated_of leaf) → AreHandedNothing base → Stands base leaf m
+ServesStill leaf m m' x owed = (base : NamedStates) → IsTrue m.tells → AreFounded (seated_of leaf) → AreHandedNothing base → LeafStands base leaf m
     → (s : Serving) × (s.seated ≡ x) × (owed_of s.owing ≡ owed) × ServingStands s m'
 
 -- How a drain is stopped at a stage: each table that is open is closed; or none is, and nothing is noted.
-abbrev pub Stops : Meaning → Meaning → (leaf leaf' : Leaf) → (notes : List Note) → (copy : ℕ) → (s : Stage) → Reaches leaf leaf' notes copy s → Type 0
+abbrev pub Stops : Meaning → Meaning → (leaf leaf' : Leaf) → (notes : List Note) → (copy : ℕ) → (s : StageOfDrain) → Reaches leaf leaf' notes copy s → Type 0
 Stops m m' leaf leaf' notes copy (Shutting p) r = (count : ℕ) × (copy ≡ 0) × (first_open p + count ≡ length (seated_of leaf).tables) × EachNoted IsClosedNote (first_open p) count r.last
     × SameRegion m m' × ServesStill leaf m m' r.between p.owed
 Stops m m' leaf leaf' notes copy (Copying made) r = HasCopyLength (seated_of leaf') copy × (r.last ≡ []) × WhereStands leaf m (RegionStopped (Copying made) m m')
@@ -270,13 +270,13 @@ DrainMoves m m' leaf stop notes ending.Done leaf' = (made : ℕ) × (r : Reaches
 DrainMoves m m' leaf stop notes ending.FaultRegion leaf' = (copy made : ℕ) × (r : Reaches leaf leaf' notes copy (Copying made)) × MayMake stop (suc r.made) × HasCopyLength (seated_of leaf') copy
     × (r.last ≡ []) × (mode_of leaf' ≡ Down) × WhereStands leaf m (HasNoStranger (seated_of leaf).names m'.held.region)
 DrainMoves m m' leaf stop notes ending.FaultRoom leaf' = (q : Progress) × (r : Reaches leaf leaf' notes 0 (Shutting q)) × MayMake stop (suc r.made) × (q.treated ≡ length (seated_of leaf).tables)
-    × AreShut (seated_of leaf') × IsCrowded (seated_of leaf') × (r.last ≡ []) × (mode_of leaf' ≡ Preparing q) × SameRegion m m'
+    × AreShut (seated_of leaf') × PreparingIsCrowded (seated_of leaf') × (r.last ≡ []) × (mode_of leaf' ≡ Preparing q) × SameRegion m m'
 DrainMoves m m' leaf stop notes ending.FaultMemory leaf' = (q p : Progress) × (r : Reaches leaf leaf' notes 0 (Shutting q)) × MayMake stop (suc r.made)
     × Starves (length (seated_of leaf).tables) q (noted_all r.last) p × (mode_of leaf' ≡ Preparing p) × SameRegion m m'
 DrainMoves m m' leaf stop notes ending.FaultDisk leaf' = (q p : Progress) × (r : Reaches leaf leaf' notes 0 (Shutting q)) × MayMake stop (suc r.made) × (q.treated < length (seated_of leaf).tables)
     × Halts q (noted_all r.last) p × (mode_of leaf' ≡ Preparing p) × SameRegion m m'
 DrainMoves m m' leaf stop notes ending.Stopped leaf' =
-    (copy : ℕ) × (s : Stage) × (r : Reaches leaf leaf' notes copy s) × (stop ≡ Some r.made) × Stops m m' leaf leaf' notes copy s r × (mode_of leaf' ≡ Down)
+    (copy : ℕ) × (s : StageOfDrain) × (r : Reaches leaf leaf' notes copy s) × (stop ≡ Some r.made) × Stops m m' leaf leaf' notes copy s r × (mode_of leaf' ≡ Down)
 DrainMoves m m' leaf stop notes ending.NotUp leaf' = IsDownLeaf leaf × (notes ≡ []) × (m'.held ≡ m.held) × (leaf' ≡ leaf)
 DrainMoves m m' leaf stop notes _ leaf' = ⊥
 

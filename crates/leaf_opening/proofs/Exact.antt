@@ -1,13 +1,13 @@
 -- Each answer of a start is one that its bytes decide.
 use Rattle.std.proofs.Common.{◌≡◌, ◌∙◌, inr, ℕ, List, Result, Ok, Err, sym, ap, subst}
 use Rattle.table_state.specs.Tables.{Table}
-use Rattle.adopt.specs.declared.found.AdoptFault.{AdoptFault}
-use Rattle.adopt.specs.declared.found.AdoptFault.TheVariants as adopt
+use Rattle.region_reading.specs.declared.fault.AdoptFault.{AdoptFault}
+use Rattle.region_reading.specs.declared.fault.AdoptFault.TheVariants as adopt
 use Rattle.leaf_words.specs.declared.ways.WhyDisk.{WhyDisk}
 use Rattle.leaf_words.specs.declared.ways.WhyDisk.TheVariants as why
 use Rattle.adopt.specs.Adopting.{IsWhy, IsWhyFor}
 use Rattle.disk_backup.specs.State.{LogState}
-use Rattle.disk_backup.specs.Scanning.{begun}
+use Rattle.disk_backup.specs.Scanning.{scanned_disk}
 use Rattle.log_recovery.specs.declared.fault.RecoveryFault.{RecoveryFault}
 use Rattle.log_recovery.specs.declared.fault.RecoveryFault.TheVariants as recovery
 use Rattle.log_recovery.specs.Recovery.{IfRead, IsRecovered, IsRecoveryRefusal}
@@ -36,16 +36,16 @@ module _ (names : List (List ℕ)) (region disk : List ℕ) where
   exact_adopt adopt.RegionFault = tt
   exact_adopt adopt.NoMemory = tt
 
-  pub exact_log : (w : WhyDisk) (now mid : List ℕ) (f : RecoveryFault) → IsWhyFor names region w → IsRecoveryRefusal names now f → IfRead f (now ≡ begun mid) → mid ≡ disk → IsExact names region disk (Err (told_of_recovery f))
+  pub exact_log : (w : WhyDisk) (now mid : List ℕ) (f : RecoveryFault) → IsWhyFor names region w → IsRecoveryRefusal names now f → IfRead f (now ≡ scanned_disk mid) → mid ≡ disk → IsExact names region disk (Err (told_of_recovery f))
   exact_log w now mid (recovery.Stranger name) is refusal read same =
-      inr ((w, is), subst (λ (d : List ℕ). IsRecoveryRefusal names d (recovery.Stranger name)) (read ∙ ap begun same) refusal)
+      inr ((w, is), subst (λ (d : List ℕ). IsRecoveryRefusal names d (recovery.Stranger name)) (read ∙ ap scanned_disk same) refusal)
   exact_log w now mid recovery.DiskDamaged is refusal read same =
-      ((w, is), subst (λ (d : List ℕ). IsRecoveryRefusal names d recovery.DiskDamaged) (read ∙ ap begun same) refusal)
+      ((w, is), subst (λ (d : List ℕ). IsRecoveryRefusal names d recovery.DiskDamaged) (read ∙ ap scanned_disk same) refusal)
   exact_log w now mid recovery.DiskFault is refusal read same = (w, is)
   exact_log w now mid recovery.NoMemory is refusal read same = tt
 
   pub exact_ok : (way w : Way) → way ≡ w → IsAnswer names region disk (Ok w) → IsExact names region disk (Ok way)
   exact_ok way w is answer = subst (λ (v : Way). IsExact names region disk (Ok v)) (sym is) answer
 
-  pub recovered_exact : (w : WhyDisk) (now : List ℕ) (tables : List Table) (log : LogState) → IsWhyFor names region w → IsRecovered names now tables log → now ≡ begun disk → IsAnswer names region disk (Ok (Disk w))
+  pub recovered_exact : (w : WhyDisk) (now : List ℕ) (tables : List Table) (log : LogState) → IsWhyFor names region w → IsRecovered names now tables log → now ≡ scanned_disk disk → IsAnswer names region disk (Ok (Disk w))
   recovered_exact w now tables log is read same = (is, tables, log, subst (λ (d : List ℕ). IsRecovered names d tables log) same read)

@@ -11,7 +11,7 @@ use Rattle.leaf_words.specs.declared.ways.WhyDisk.{WhyDisk}
 use Rattle.leaf_words.specs.declared.ways.WhyDisk.TheVariants as why
 use Rattle.adopt.specs.Adopting.{IsStranger, IsWhy, IsWhyFor}
 use Rattle.region_strangers.specs.Strangers.{stranger_of}
-use Rattle.disk_backup.specs.Scanning.{begun}
+use Rattle.disk_backup.specs.Scanning.{scanned_disk}
 use Rattle.log_recovery.proofs.LogAnswers.{one_stranger, recovered_no_stranger, recovered_not_damaged, stranger_not_damaged}
 use Rattle.leaf_words.specs.declared.ways.Way.{Way}
 use Rattle.leaf_words.specs.declared.ways.Way.TheVariants.{Memory, Disk}
@@ -139,22 +139,22 @@ one_answer names region disk (Ok Memory) (Err DiskDamaged) p q = absurd (image_w
 one_answer names region disk (Ok (Disk w)) (Ok Memory) p q = absurd (image_why names region q.0 q.1 w q.2 p.0)
 one_answer names region disk (Ok (Disk w)) (Ok (Disk v)) p q = ap (λ x. came (Disk x)) (one_why names region w v p.0 q.0)
 one_answer names region disk (Ok (Disk w)) (Err (Stranger name)) p (inl s) = absurd (stranger_why names region name w s p.0)
-one_answer names region disk (Ok (Disk w)) (Err (Stranger name)) p (inr s) = absurd (recovered_no_stranger names (begun disk) p.1 p.2 name p.3 s.1)
+one_answer names region disk (Ok (Disk w)) (Err (Stranger name)) p (inr s) = absurd (recovered_no_stranger names (scanned_disk disk) p.1 p.2 name p.3 s.1)
 one_answer names region disk (Ok (Disk w)) (Err DiskDamaged) p q = absurd (recovered_not_damaged names disk p.1 p.2 p.3 q.1)
 one_answer names region disk (Err (Stranger name)) (Ok Memory) (inl s) q = absurd (image_stranger names region q.0 q.1 name q.2 q.3 s)
 one_answer names region disk (Err (Stranger name)) (Ok Memory) (inr s) q = absurd (image_why names region q.0 q.1 s.0.0 q.2 s.0.1)
 one_answer names region disk (Err (Stranger name)) (Ok (Disk w)) (inl s) q = absurd (stranger_why names region name w s q.0)
-one_answer names region disk (Err (Stranger name)) (Ok (Disk w)) (inr s) q = absurd (recovered_no_stranger names (begun disk) q.1 q.2 name q.3 s.1)
+one_answer names region disk (Err (Stranger name)) (Ok (Disk w)) (inr s) q = absurd (recovered_no_stranger names (scanned_disk disk) q.1 q.2 name q.3 s.1)
 one_answer names region disk (Err (Stranger a)) (Err (Stranger b)) (inl s) (inl t) = ap (λ n. told (Stranger n)) (same_stranger names region a b s t)
 one_answer names region disk (Err (Stranger a)) (Err (Stranger b)) (inl s) (inr t) = absurd (stranger_why names region a t.0.0 s t.0.1)
 one_answer names region disk (Err (Stranger a)) (Err (Stranger b)) (inr s) (inl t) = absurd (stranger_why names region b s.0.0 t s.0.1)
-one_answer names region disk (Err (Stranger a)) (Err (Stranger b)) (inr s) (inr t) = ap (λ n. told (Stranger n)) (one_stranger names (begun disk) a b s.1 t.1)
+one_answer names region disk (Err (Stranger a)) (Err (Stranger b)) (inr s) (inr t) = ap (λ n. told (Stranger n)) (one_stranger names (scanned_disk disk) a b s.1 t.1)
 one_answer names region disk (Err (Stranger a)) (Err DiskDamaged) (inl s) q = absurd (stranger_why names region a q.0.0 s q.0.1)
-one_answer names region disk (Err (Stranger a)) (Err DiskDamaged) (inr s) q = absurd (stranger_not_damaged names (begun disk) a s.1 q.1)
+one_answer names region disk (Err (Stranger a)) (Err DiskDamaged) (inr s) q = absurd (stranger_not_damaged names (scanned_disk disk) a s.1 q.1)
 one_answer names region disk (Err DiskDamaged) (Ok Memory) p q = absurd (image_why names region q.0 q.1 p.0.0 q.2 p.0.1)
 one_answer names region disk (Err DiskDamaged) (Ok (Disk w)) p q = absurd (recovered_not_damaged names disk q.1 q.2 q.3 p.1)
 one_answer names region disk (Err DiskDamaged) (Err (Stranger a)) p (inl s) = absurd (stranger_why names region a p.0.0 s p.0.1)
-one_answer names region disk (Err DiskDamaged) (Err (Stranger a)) p (inr s) = absurd (stranger_not_damaged names (begun disk) a s.1 p.1)
+one_answer names region disk (Err DiskDamaged) (Err (Stranger a)) p (inr s) = absurd (stranger_not_damaged names (scanned_disk disk) a s.1 p.1)
 one_answer names region disk (Err DiskDamaged) (Err DiskDamaged) p q = refl
 one_answer names region disk (Err RegionFault) b p q = absurd p
 one_answer names region disk (Err DiskFault) b p q = absurd p

@@ -5,8 +5,8 @@ use Rattle.berth_face.specs.Berth.{Pair, Meaning, IsClosed, Ended, SameDisk}
 use Rattle.berth_face.specs.Moments.{KeepsRegion, Throughout}
 use Rattle.berth_face.proofs.Moments.{throughout_map, throughout_join, now_of}
 use Rattle.region_head.specs.Closing.{AdoptsFrom, IsBroken}
-use Rattle.adopt.specs.declared.found.AdoptFault.{AdoptFault}
-use Rattle.adopt.specs.declared.found.AdoptFault.TheVariants as adopting
+use Rattle.region_reading.specs.declared.fault.AdoptFault.{AdoptFault}
+use Rattle.region_reading.specs.declared.fault.AdoptFault.TheVariants as adopting
 use Rattle.disk_backup.specs.Scanning.{StepsFrom, BeginsScan}
 use Rattle.log_recovery.specs.declared.fault.RecoveryFault.{RecoveryFault}
 use Rattle.log_recovery.specs.declared.fault.RecoveryFault.TheVariants as found

@@ -44,20 +44,21 @@ module _ (names : List (List ℕ)) (name : List ℕ) (other : is_one_of names na
   pub no_table : (images : List TableImage) → stranger_of names (image_names images) ≡ None → table_named images name ≡ empty_image name
   no_table images none = ap (λ (o : Option TableImage). unwrap_or o (empty_image name)) (no_image images none)
 
-  pub no_writes_there : (writes : List ℕ → List Write) (images : List TableImage) → stranger_of names (image_names images) ≡ None → AreImagesOf writes images → writes name ≡ []
-  no_writes_there writes images none are = nil_from_length (writes name) (sym (are name).count ∙ ap (λ (t : TableImage). t.writes) (no_table images none))
+  pub no_writes_there : (spare : List ℕ → ℕ) (writes : List ℕ → List Write) (images : List TableImage) → stranger_of names (image_names images) ≡ None → AreImagesOf spare writes images
+      → writes name ≡ []
+  no_writes_there spare writes images none are = nil_from_length (writes name) (sym (are name).count ∙ ap (λ (t : TableImage). t.writes) (no_table images none))
 
   -- ---- in a log
 
-  no_record : (records : List LogRecord) → find (recovery.is_stranger names) records ≡ None → writes_of name records ≡ []
+  no_record : (records : List LogRecord) → find (recovery.is_stranger_record names) records ≡ None → writes_of name records ≡ []
   no_record [] none = refl
-  no_record (r ∷ rs) none = step (no_record rs) (recovery.is_stranger names r) refl (bytes_eq name r.name) refl none
+  no_record (r ∷ rs) none = step (no_record rs) (recovery.is_stranger_record names r) refl (bytes_eq name r.name) refl none
     where
-      step : (find (recovery.is_stranger names) rs ≡ None → writes_of name rs ≡ []) → (s : Bool) → recovery.is_stranger names r ≡ s → (b : Bool) → bytes_eq name r.name ≡ b
-          → cond s (Some r) (find (recovery.is_stranger names) rs) ≡ None → cond b (r.writes ++ writes_of name rs) (writes_of name rs) ≡ []
+      step : (find (recovery.is_stranger_record names) rs ≡ None → writes_of name rs ≡ []) → (s : Bool) → recovery.is_stranger_record names r ≡ s → (b : Bool) → bytes_eq name r.name ≡ b
+          → cond s (Some r) (find (recovery.is_stranger_record names) rs) ≡ None → cond b (r.writes ++ writes_of name rs) (writes_of name rs) ≡ []
       step next true s b e none = absurd cc
       step next false s true e none = absurd (unlike r.name (sym ((bytes_eq-Decides name r.name).0 e)) s)
       step next false s false e none = next none
 
   pub no_writes_read : (records : List LogRecord) → stranger_in names records ≡ None → writes_of name records ≡ []
-  no_writes_read records none = no_record records (none_of (λ (r : LogRecord). r.name) (find (recovery.is_stranger names) records) none)
+  no_writes_read records none = no_record records (none_of (λ (r : LogRecord). r.name) (find (recovery.is_stranger_record names) records) none)

@@ -7,7 +7,7 @@ use Rattle.leaf_words.specs.declared.ways.WhyDisk.{WhyDisk}
 use Rattle.adopt.specs.Adopting.{IsStranger, IsWhyFor}
 use Rattle.region_strangers.specs.Strangers.{stranger_of}
 use Rattle.disk_backup.specs.State.{LogState}
-use Rattle.disk_backup.specs.Scanning.{begun}
+use Rattle.disk_backup.specs.Scanning.{scanned_disk}
 use Rattle.log_recovery.specs.Recovery.{IsRecovered, IsRecoveryRefusal}
 use Rattle.log_recovery.specs.declared.fault.RecoveryFault.TheVariants as found
 use Rattle.leaf_opening.specs.declared.opening.Opened.{Opened}
@@ -24,9 +24,9 @@ GoesToLog names region = (w : WhyDisk) × IsWhyFor names region w
 -- stranger of the image or of the log; or that the log is damaged
 abbrev pub IsAnswer : List (List ℕ) → List ℕ → List ℕ → Result Way OpenFault → Type 0
 IsAnswer names region disk (Ok Memory) = (images : List TableImage) × (log_end : ℕ) × IsAdoptable region images log_end × (stranger_of names (image_names images) ≡ None)
-IsAnswer names region disk (Ok (Disk w)) = IsWhyFor names region w × (tables : List Table) × (log : LogState) × IsRecovered names (begun disk) tables log
-IsAnswer names region disk (Err (Stranger name)) = IsStranger names region name ⊎ (GoesToLog names region × IsRecoveryRefusal names (begun disk) (found.Stranger name))
-IsAnswer names region disk (Err DiskDamaged) = GoesToLog names region × IsRecoveryRefusal names (begun disk) found.DiskDamaged
+IsAnswer names region disk (Ok (Disk w)) = IsWhyFor names region w × (tables : List Table) × (log : LogState) × IsRecovered names (scanned_disk disk) tables log
+IsAnswer names region disk (Err (Stranger name)) = IsStranger names region name ⊎ (GoesToLog names region × IsRecoveryRefusal names (scanned_disk disk) (found.Stranger name))
+IsAnswer names region disk (Err DiskDamaged) = GoesToLog names region × IsRecoveryRefusal names (scanned_disk disk) found.DiskDamaged
 IsAnswer names region disk (Err RegionFault) = ⊥
 IsAnswer names region disk (Err DiskFault) = ⊥
 IsAnswer names region disk (Err NoMemory) = ⊥

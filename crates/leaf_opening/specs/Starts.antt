@@ -14,7 +14,7 @@ use Rattle.leaf_words.specs.declared.ways.WhyDisk.TheVariants as why
 use Rattle.adopt.specs.Adopting.{IsWhy, IsLeftBehind, IsStranger}
 use Rattle.region_strangers.specs.Strangers.{stranger_of}
 use Rattle.region_head.specs.Closing.{IsBroken}
-use Rattle.disk_backup.specs.Scanning.{begun, BeginsScan}
+use Rattle.disk_backup.specs.Scanning.{scanned_disk, BeginsScan}
 use Rattle.log_recovery.specs.Recovery.{AreFew, IsRecovered}
 use Rattle.log_recovery.specs.Recovery as recovery
 use Rattle.log_recovery.specs.declared.fault.RecoveryFault.TheVariants as found
@@ -30,7 +30,7 @@ abbrev pub IsWayOf : List ℕ → Way → Type 0
 IsWayOf region Memory = (images : List TableImage) × (log_end : ℕ) × IsAdoptable region images log_end
 IsWayOf region (Disk w) = IsWhy region w
 
--- the way that a leaf leaves for its next start: one that was up leaves no image but of the version that a drain writes
+-- the way that a leaf leaves for its next start: if it was up, an image has the version that a drain writes
 abbrev pub IsWayLeft : Bool → List ℕ → Way → Type 0
 IsWayLeft up region way = IsWayOf region way × (up ≡ true → way ≡ Memory → head_of region ≡ Version layout)
 
@@ -52,10 +52,10 @@ IsCome names region disk s (Disk w) = IsWhy region w × (x : IsRecovered names d
 -- the disk after a start by this way; a disk of at most one byte becomes one gate before it is read
 abbrev pub disk_after : Way → List ℕ → List ℕ
 disk_after Memory disk = disk
-disk_after (Disk w) disk = begun disk
+disk_after (Disk w) disk = scanned_disk disk
 
 -- a start that came to its end
-pub record Started (names : List (List ℕ)) (old new : Meaning) (s : OpenedLeaf) (way : Way) : Type 0 where
+pub record StartEnded (names : List (List ℕ)) (old new : Meaning) (s : OpenedLeaf) (way : Way) : Type 0 where
   pub come : IsCome names old.held.region new.held.disk s way
   pub region : IsLeftBehind old.held.region new.held.region
   pub disk : new.held.disk ≡ disk_after way old.held.disk
@@ -87,9 +87,9 @@ opened_leaf names o = record { names = names; tables = o.tables.each; columns = 
 
 -- ---- what a crash leaves while a leaf starts
 
--- A pair of a moment of a start comes from an earlier one. The region is as it was, or closed, or as it was but for a
--- flag that was open. The disk is the same; or, once the region is closed, the first byte was written of a disk that
--- read as at most one byte. A disk of one byte was synced before that.
+-- A pair of a moment of a start comes from an earlier one. Its region is the earlier one, that one with its flag
+-- closed, or closed. Its disk is the earlier one; or, once the region is closed, a disk that read as at most one byte
+-- got its first byte. A disk of one byte was synced before that.
 pub record OpensFrom (old : Meaning) (p : Pair) : Type 0 where
   pub from : Pair
   pub was : old.leaves old.clock from

@@ -10,7 +10,7 @@ ghost use Rattle.region_layout.specs.Names.{AreNames};
 ghost use Rattle.leaf_words.specs.declared.ways.Way.TheVariants as way;
 ghost use Rattle.leaf_opening.specs.declared.ways.OpenFault.TheVariants as fault;
 ghost use Rattle.leaf_opening.specs.Answers.{IsExact, way_of};
-ghost use Rattle.leaf_opening.specs.Starts.{Started, IsOpeningRefusal, IsWayOf, AreFresh, OpensFrom, KeepsDisks, IsDurable, TellsName, opened_leaf};
+ghost use Rattle.leaf_opening.specs.Starts.{StartEnded, IsOpeningRefusal, IsWayOf, AreFresh, OpensFrom, KeepsDisks, IsDurable, TellsName, opened_leaf};
 
 use crate::ways::OpenFault;
 use adopt::{Adopted, Adoption, adopt};
@@ -22,8 +22,8 @@ use log_recovery::{Recovered, recover};
 use std::alloc::Global;
 use table_state::Tables;
 
-/// What a start opened: one table for each name, in their order; the log, which is owed nothing; and the way by which
-/// the tables came.
+/// What a start opened: one table for each name, in their order; the log, which is owed nothing; and the way that the
+/// tables came.
 #[derive(Drop)]
 pub struct Opened {
     pub tables: Tables,
@@ -44,7 +44,7 @@ pub fn open_tables<B: Berth>(
     ensures room { IfOk result (λ o. AllByRecursion (λ t. t.writes < 2 ^ 63) o.tables.each) }
     // If the berth tells its contents.
     ensures told { IsTrue (B.meaning berth.old).tells → IfOk result (λ o.
-        Started names.now (B.meaning berth.old) (B.meaning berth.new) (opened_leaf names.now o) o.way) }
+        StartEnded names.now (B.meaning berth.old) (B.meaning berth.new) (opened_leaf names.now o) o.way) }
     ensures way { IsTrue (B.meaning berth.old).tells
         → IfOk result (λ o. IsWayOf (B.meaning berth.old).held.region o.way) }
     ensures refused { IsTrue (B.meaning berth.old).tells

@@ -3,7 +3,7 @@
 use Rattle.std.proofs.Common.{◌≡◌, ◌≢◌, ℕ, zero, suc, ◌+◌, ◌≤◌, List, length, Option, slice_get, sym, ap, ◌∙◌, subst, arith}
 use Rattle.leaf_history.specs.Calls.{Call}
 use Rattle.leaf_history.specs.Calls as call
-use Rattle.leaf_history.specs.Replies.{Reply}
+use Rattle.leaf_history.specs.Replies.{EntryReply}
 use Rattle.leaf_history.specs.Replies as reply
 use Rattle.row_records.specs.Records.{LogRecord}
 use Rattle.leaf_table.specs.declared.base.TableBase.{TableBase}
@@ -20,7 +20,7 @@ use Rattle.leaf_steward.proofs.Seating.{each_with, keeps_seated, may_enter, same
 -- some entry was made
 pub record SomeEntry (base : Option TableBase) (clock : ℕ) (v w : SeatView) : Type 0 where
   pub call : Call
-  pub reply : Reply
+  pub reply : EntryReply
   pub made : Made base clock v call reply w
 
 pub some_entry : (base : Option TableBase) (clock : ℕ) (v : SeatView) (what : What) (w : SeatView) → MadeAs base clock v what w → SomeEntry base clock v w

@@ -2,16 +2,16 @@
 use Rattle.std.proofs.Common.{◌≡◌, ◌≢◌, ◌⊎◌, ℕ, zero, suc, ◌+◌, ◌<◌, ◌≤◌, List, [], ◌∷◌, ◌++◌, length, get_or, Option, Some, slice_get, slice_set, refl, sym, ap, ◌∙◌, subst, inl, inr, ⊎_elim, arith, length-append, length-set}
 use Rattle.std.proofs.lemmas.List.{length-map}
 use Rattle.std.proofs.lemmas.Option.{slice_get_read, slice_get-get_or}
-use Rattle.turnstile.specs.Seats.{IsSeatOf, LearnsOthers, Told}
+use Rattle.turnstile.specs.Seats.{IsSeatOf, LearnsOthers, SeesAlso}
 use Rattle.turnstile.proofs.Prefixes.{prefix_length}
 use Rattle.leaf_history.specs.Calls.{Call}
-use Rattle.leaf_history.specs.Replies.{Reply}
+use Rattle.leaf_history.specs.Replies.{EntryReply}
 use Rattle.leaf_history.specs.Calls as call
 use Rattle.leaf_history.specs.Replies as reply
 use Rattle.leaf_history.specs.History.{Entry, LegalFrom}
 use Rattle.row_records.specs.Records.{LogRecord}
 use Rattle.leaf_table.specs.declared.replies.ClosedTable.{ClosedTable}
-use Rattle.leaf_table.specs.Turns.{Shared, Turns, is_founded, start_of, told, history, untaken_record}
+use Rattle.leaf_table.specs.Turns.{Shared, TurnsTaken, is_founded, start_of, told, history, untaken_record}
 use Rattle.leaf_table.specs.Calls.{SeatView, Made, ClosedBy, base_seen, name_of, seen_of, state_before, entry_seen, IsFresh, IsSteward, IsWorn}
 use Rattle.leaf_steward.specs.declared.notes.What.{What}
 use Rattle.leaf_steward.specs.Seated.{Seated, AtEach, AtPlace, IsSeated, IsUnused, AreSeated, Spares, with_seat}
@@ -78,7 +78,7 @@ seen_length v = length-map v.seen told
 longer : (xs ys : List Entry) (e : Entry) → length xs ≤ length ((xs ++ ys) ++ e ∷ [])
 longer xs ys e = omega (arith, length-append (xs ++ ys) (e ∷ []), length-append xs ys)
 
-pub sees_more : (t : Shared) (clock : ℕ) (v w : SeatView) (c : Call) (r : Reply) → Made (base_seen t) clock v c r w → length v.seen ≤ length w.seen
+pub sees_more : (t : Shared) (clock : ℕ) (v w : SeatView) (c : Call) (r : EntryReply) → Made (base_seen t) clock v c r w → length v.seen ≤ length w.seen
 sees_more t clock v w c r m =
     let e = entry_seen v.id clock c r in
     let was = seen_length v in
@@ -88,7 +88,7 @@ sees_more t clock v w c r m =
     omega (arith, was, now, seen, more)
 
 -- an entry keeps a seat seated
-pub keeps_seated : (t : Shared) (clock : ℕ) (v w : SeatView) (c : Call) (r : Reply) → IsSeated t v → Made (base_seen t) clock v c r w → IsSeated t w
+pub keeps_seated : (t : Shared) (clock : ℕ) (v w : SeatView) (c : Call) (r : EntryReply) → IsSeated t v → Made (base_seen t) clock v c r w → IsSeated t w
 keeps_seated t clock v w c r s m =
     let share = ap (λ (u : SeatView). u.share) m.place ∙ s.share in
     let more = sees_more t clock v w c r m in record {
@@ -101,7 +101,7 @@ keeps_seated t clock v w c r s m =
     }
 
 -- one entry takes at most one of its room
-pub spares_less : (t : Shared) (clock n : ℕ) (v w : SeatView) (c : Call) (r : Reply) → Made (base_seen t) clock v c r w → n + 1 ≤ v.room → n ≤ w.room
+pub spares_less : (t : Shared) (clock n : ℕ) (v w : SeatView) (c : Call) (r : EntryReply) → Made (base_seen t) clock v c r w → n + 1 ≤ v.room → n ≤ w.room
 spares_less t clock n v w c r m spares = let room = m.room.1 in omega (arith, room, spares)
 
 -- it may make an entry while it spares one
@@ -109,15 +109,15 @@ pub may_enter : (t : Shared) (v : SeatView) → IsSeated t v → Spares 1 t v �
 may_enter t v s spares = let share = s.share in (s.id, omega (arith, share, spares))
 
 -- of two legal histories that a seat is told it has seen one
-pub told_legal : (t : Shared) (v u w : SeatView) → LegalFrom (is_founded (base_seen t)) (start_of (base_seen t)) (seen_of v) → LegalFrom (is_founded (base_seen t)) (start_of (base_seen t)) (seen_of u) → Told v u w
+pub told_legal : (t : Shared) (v u w : SeatView) → LegalFrom (is_founded (base_seen t)) (start_of (base_seen t)) (seen_of v) → LegalFrom (is_founded (base_seen t)) (start_of (base_seen t)) (seen_of u) → SeesAlso v u w
     → LegalFrom (is_founded (base_seen t)) (start_of (base_seen t)) (seen_of w)
 told_legal t v u w own theirs h = ⊎_elim (λ is. legal_as v.seen own is) (λ is. legal_as u.seen theirs is) h.longer.one
   where
-    legal_as : (es : Turns) → LegalFrom (is_founded (base_seen t)) (start_of (base_seen t)) (history es) → h.seen ≡ es → LegalFrom (is_founded (base_seen t)) (start_of (base_seen t)) (seen_of w)
-    legal_as es legal is = subst (λ (l : Turns). LegalFrom (is_founded (base_seen t)) (start_of (base_seen t)) (history l)) (sym (ap (λ (x : SeatView). x.seen) h.view ∙ is)) legal
+    legal_as : (es : TurnsTaken) → LegalFrom (is_founded (base_seen t)) (start_of (base_seen t)) (history es) → h.seen ≡ es → LegalFrom (is_founded (base_seen t)) (start_of (base_seen t)) (seen_of w)
+    legal_as es legal is = subst (λ (l : TurnsTaken). LegalFrom (is_founded (base_seen t)) (start_of (base_seen t)) (history l)) (sym (ap (λ (x : SeatView). x.seen) h.view ∙ is)) legal
 
 -- a seat that was told what another has seen is still seated
-pub told_seated : (t : Shared) (v u w : SeatView) → IsSeated t v → LegalFrom (is_founded (base_seen t)) (start_of (base_seen t)) (seen_of u) → Told v u w → IsSeated t w
+pub told_seated : (t : Shared) (v u w : SeatView) → IsSeated t v → LegalFrom (is_founded (base_seen t)) (start_of (base_seen t)) (seen_of u) → SeesAlso v u w → IsSeated t w
 told_seated t v u w s legal h =
     let seen = ap (λ (x : SeatView). x.seen) h.view in
     let more = prefix_length v.seen h.seen h.longer.own in
@@ -138,7 +138,7 @@ unused_seated t v h = record {
   id = ap (λ (x : SeatView). x.id) h.unused;
   share = ap (λ (x : SeatView). x.share) h.unused;
   none_taken = ap (λ (x : SeatView). x.taken) h.unused;
-  legal = subst (λ (l : Turns). LegalFrom (is_founded (base_seen t)) (start_of (base_seen t)) (history l)) (sym (ap (λ (x : SeatView). x.seen) h.unused)) tt;
+  legal = subst (λ (l : TurnsTaken). LegalFrom (is_founded (base_seen t)) (start_of (base_seen t)) (history l)) (sym (ap (λ (x : SeatView). x.seen) h.unused)) tt;
   room = λ fresh. subst (λ n. 1024 ≤ n) (sym (ap (λ (x : SeatView). x.room) h.unused)) (omega arith);
 }
 
@@ -191,7 +191,7 @@ pub steward_at : {x now : Seated} {place : ℕ} {t : Shared} {v : SeatView} → 
 steward_at {x} {now} {place} {t} {v} h is spares = may_enter t v h.seated (there (Spares 1) h is spares)
 
 -- its seats are as they have to be after an entry
-pub seated_after : {x : Seated} {place : ℕ} {t : Shared} {v : SeatView} → SitsAt x place t v → AreSeated x → {clock : ℕ} {c : Call} {r : Reply} {w : SeatView} → Made (base_seen t) clock v c r w → AreSeated (with_seat x place w)
+pub seated_after : {x : Seated} {place : ℕ} {t : Shared} {v : SeatView} → SitsAt x place t v → AreSeated x → {clock : ℕ} {c : Call} {r : EntryReply} {w : SeatView} → Made (base_seen t) clock v c r w → AreSeated (with_seat x place w)
 seated_after {x} {place} {t} {v} h s {clock} {c} {r} {w} m = seated_with x place t w s h.at (keeps_seated t clock v w c r h.seated m)
 
 -- an entry with its note
@@ -256,7 +256,7 @@ pub fresh_at : {x now : Seated} {place : ℕ} {t : Shared} {v : SeatView} → Si
 fresh_at {x} {now} {place} {t} {v} h is fresh = let room = h.seated.room (there (λ u s. IsFresh s) h is fresh) in may_enter t v h.seated (omega (arith, room))
 
 -- and spares many an entry after that
-pub spares_after : {x now : Seated} {place : ℕ} {t : Shared} {v : SeatView} → SitsAt x place t v → x ≡ now → AtPlace (λ u s. IsFresh s) now place → {clock : ℕ} {c : Call} {r : Reply} {w : SeatView} → Made (base_seen t) clock v c r w → Spares 1000 t w
+pub spares_after : {x now : Seated} {place : ℕ} {t : Shared} {v : SeatView} → SitsAt x place t v → x ≡ now → AtPlace (λ u s. IsFresh s) now place → {clock : ℕ} {c : Call} {r : EntryReply} {w : SeatView} → Made (base_seen t) clock v c r w → Spares 1000 t w
 spares_after {x} {now} {place} {t} {v} h is fresh {clock} {c} {r} {w} m =
     let room = h.seated.room (there (λ u s. IsFresh s) h is fresh) in
     spares_less t clock 1000 v w c r m (omega (arith, room))
@@ -267,14 +267,14 @@ spares_after {x} {now} {place} {t} {v} h is fresh {clock} {c} {r} {w} m =
 abbrev pub IsCallersOf : SeatView → Shared → SeatView → Type 0
 IsCallersOf u t v = IsSeatOf u t.site × LegalFrom (is_founded (base_seen t)) (start_of (base_seen t)) (seen_of u)
 
-pub met_seated : {x now : Seated} {place : ℕ} {t : Shared} {v : SeatView} → SitsAt x place t v → x ≡ now → AreSeated x → (u w : SeatView) → AtPlace (IsCallersOf u) now place → Told v u w → AreSeated (with_seat x place w)
+pub met_seated : {x now : Seated} {place : ℕ} {t : Shared} {v : SeatView} → SitsAt x place t v → x ≡ now → AreSeated x → (u w : SeatView) → AtPlace (IsCallersOf u) now place → SeesAlso v u w → AreSeated (with_seat x place w)
 met_seated {x} {now} {place} {t} {v} h is s u w callers told = seated_with x place t w s h.at (told_seated t v u w h.seated (there (IsCallersOf u) h is callers).1 told)
 
 -- what the steward's seat has learned
 abbrev pub Learned : Seated → Seated → ℕ → SeatView → Shared → SeatView → Type 0
-Learned now after place u t v = (w : SeatView) × (after ≡ with_seat now place w) × Told v u w × LearnsOthers v w × LegalFrom (is_founded (base_seen t)) (start_of (base_seen t)) (seen_of w)
+Learned now after place u t v = (w : SeatView) × (after ≡ with_seat now place w) × SeesAlso v u w × LearnsOthers v w × LegalFrom (is_founded (base_seen t)) (start_of (base_seen t)) (seen_of w)
 
-pub meets : {x now : Seated} {place : ℕ} {t : Shared} {v : SeatView} → SitsAt x place t v → x ≡ now → (u w : SeatView) → AtPlace (IsCallersOf u) now place → Told v u w → LearnsOthers v w
+pub meets : {x now : Seated} {place : ℕ} {t : Shared} {v : SeatView} → SitsAt x place t v → x ≡ now → (u w : SeatView) → AtPlace (IsCallersOf u) now place → SeesAlso v u w → LearnsOthers v w
     → AtPlace (Learned now (with_seat x place w) place u) now place
 meets {x} {now} {place} {t} {v} h is u w callers told others = everywhere (Learned now (with_seat x place w) place u) h is (
   w,
@@ -286,8 +286,8 @@ meets {x} {now} {place} {t} {v} h is u w callers told others = everywhere (Learn
 
 -- what the caller's seat has learned
 abbrev pub Heard : SeatView → SeatView → Shared → SeatView → Type 0
-Heard u w t v = IsSeatOf w t.site × Told u v w × LearnsOthers u w × LegalFrom (is_founded (base_seen t)) (start_of (base_seen t)) (seen_of w)
+Heard u w t v = IsSeatOf w t.site × SeesAlso u v w × LearnsOthers u w × LegalFrom (is_founded (base_seen t)) (start_of (base_seen t)) (seen_of w)
 
-pub met_seat : {x now : Seated} {place : ℕ} {t : Shared} {v : SeatView} → SitsAt x place t v → x ≡ now → (u w : SeatView) → AtPlace (IsCallersOf u) now place → IsSeatOf w t.site → Told u v w → LearnsOthers u w → AtPlace (Heard u w) now place
+pub met_seat : {x now : Seated} {place : ℕ} {t : Shared} {v : SeatView} → SitsAt x place t v → x ≡ now → (u w : SeatView) → AtPlace (IsCallersOf u) now place → IsSeatOf w t.site → SeesAlso u v w → LearnsOthers u w → AtPlace (Heard u w) now place
 met_seat {x} {now} {place} {t} {v} h is u w callers seat told others =
     everywhere (Heard u w) h is (seat, told, others, told_legal t u v w (there (IsCallersOf u) h is callers).1 h.seated.legal told)

@@ -3,18 +3,18 @@
 use Rattle.std.proofs.Common.{◌≡◌, ℕ, ◌-◌, ◌≤◌, Bool, true, false, List, [], ◌∷◌, ◌++◌, length, take, Option, Some, None, refl, sym, ap, subst, ◌∙◌, arith, append_assoc}
 use Rattle.std.specs.Prelude.{if◌then◌else◌}
 use Rattle.std.proofs.lemmas.List.{length-append, length-map}
-use Rattle.turnstile.specs.Seats.{Told, LearnsOthers, Others}
+use Rattle.turnstile.specs.Seats.{SeesAlso, LearnsOthers, Others}
 use Rattle.leaf_model.specs.Content.{Contents, content, content_from, nothing}
 use Rattle.leaf_model.specs.declared.writes.Write.{Write}
 use Rattle.leaf_history.specs.Calls.{Call}
 use Rattle.leaf_history.specs.Calls as call
-use Rattle.leaf_history.specs.Replies.{Reply}
+use Rattle.leaf_history.specs.Replies.{EntryReply}
 use Rattle.leaf_history.specs.Replies as reply
 use Rattle.leaf_history.specs.History.{Entry, HistoryState, LegalFrom, MayOpen, OpenAllowed, after, after_entry, changed, is_refusal, first_writes}
 use Rattle.leaf_history.specs.Laws.{AreCallers, CallersKeep}
 use Rattle.leaf_history.proofs.Histories.{others_keep, LegalFrom-front, LegalFrom-back, after-append}
 use Rattle.leaf_table.specs.declared.base.TableBase.{TableBase}
-use Rattle.leaf_table.specs.Turns.{Shared, Turns, told, history, is_founded, start_of}
+use Rattle.leaf_table.specs.Turns.{Shared, TurnsTaken, told, history, is_founded, start_of}
 use Rattle.leaf_table.specs.Calls.{SeatView, Made, AreOthers, base_seen, entry_seen, seen_of, state_seen, state_before}
 use Rattle.leaf_table.proofs.Knowing.{callers_of}
 use Rattle.crash_moments.specs.Watched.{now_of}
@@ -25,7 +25,7 @@ use Rattle.leaf_steward.specs.Seated.{IsSeated, watched}
 -- ---- the seat
 
 -- one entry more makes what it has seen no shorter
-seen_longer : (base : Option TableBase) (clock : ℕ) (c : Call) (r : Reply) (v w : SeatView) → Made base clock v c r w → length v.seen ≤ length w.seen
+seen_longer : (base : Option TableBase) (clock : ℕ) (c : Call) (r : EntryReply) (v w : SeatView) → Made base clock v c r w → length v.seen ≤ length w.seen
 seen_longer base clock c r v w made =
     let old : length (seen_of v) ≡ length v.seen = length-map v.seen told in
     let new : length (seen_of w) ≡ length w.seen = length-map w.seen told in
@@ -34,7 +34,7 @@ seen_longer base clock c r v w made =
     omega (arith, old, new, all, length-append (seen_of v ++ made.between) e, length-append (seen_of v) made.between)
 
 -- the seat is the steward's still
-pub watch_stays : (t : Shared) (v w : SeatView) (clock : ℕ) (c : Call) (r : Reply) → IsSeated t v → Made (base_seen t) clock v c r w → IsSeated t w
+pub watch_stays : (t : Shared) (v w : SeatView) (clock : ℕ) (c : Call) (r : EntryReply) → IsSeated t v → Made (base_seen t) clock v c r w → IsSeated t w
 watch_stays t v w clock c r seated made = record {
   seat = record {
     at = ap (λ (u : SeatView). u.at) made.place ∙ seated.seat.at;
@@ -57,11 +57,11 @@ watch_stays t v w clock c r seated made = record {
 -- ---- what the steward knew
 
 -- callers made the entries between
-pub between_callers : (t : Shared) (v w : SeatView) (clock : ℕ) (c : Call) (r : Reply) → IsSeated t v → (made : Made (base_seen t) clock v c r w) → AreCallers made.between
+pub between_callers : (t : Shared) (v w : SeatView) (clock : ℕ) (c : Call) (r : EntryReply) → IsSeated t v → (made : Made (base_seen t) clock v c r w) → AreCallers made.between
 between_callers t v w clock c r seated made = callers_of v made.between seated.id seated.seat.has_id made.others
 
 -- they left what it knew
-pub watch_kept : (t : Shared) (v w : SeatView) (clock : ℕ) (c : Call) (r : Reply) → IsSeated t v → (made : Made (base_seen t) clock v c r w) → CallersKeep (state_seen (base_seen t) v) (state_before (base_seen t) v made.between)
+pub watch_kept : (t : Shared) (v w : SeatView) (clock : ℕ) (c : Call) (r : EntryReply) → IsSeated t v → (made : Made (base_seen t) clock v c r w) → CallersKeep (state_seen (base_seen t) v) (state_before (base_seen t) v made.between)
 watch_kept t v w clock c r seated made =
     let f : Bool = is_founded (base_seen t) in
     let s : HistoryState = start_of (base_seen t) in
@@ -71,7 +71,7 @@ watch_kept t v w clock c r seated made =
 
 -- ---- one entry
 
-pub enters_made : (t : Shared) (v w : SeatView) (clock : ℕ) (c : Call) (r : Reply) → is_founded (base_seen t) ≡ true → IsSeated t v → (made : Made (base_seen t) clock v c r w)
+pub enters_made : (t : Shared) (v w : SeatView) (clock : ℕ) (c : Call) (r : EntryReply) → is_founded (base_seen t) ≡ true → IsSeated t v → (made : Made (base_seen t) clock v c r w)
     → (e : Enters clock c r (watched t v) (watched t w)) × (e.between ≡ made.between)
 enters_made t v w clock c r founded seated made = (
   record {
@@ -90,18 +90,18 @@ seen_now t v founded = ap (λ (b : Bool). after b (start_of (base_seen t)) (seen
 
 -- ---- one meeting
 
-history_on : (xs ys : Turns) → history (xs ++ ys) ≡ history xs ++ history ys
+history_on : (xs ys : TurnsTaken) → history (xs ++ ys) ≡ history xs ++ history ys
 history_on [] ys = refl
 history_on (x ∷ xs) ys = ap (λ (es : List Entry). told x ∷ es) (history_on xs ys)
 
-others_told : (v : SeatView) (es : Turns) → Others v es → AreOthers v (history es)
+others_told : (v : SeatView) (es : TurnsTaken) → Others v es → AreOthers v (history es)
 others_told v [] o = tt
 others_told v (e ∷ es) o = (o.0, others_told v es o.1)
 
-pub learns_met : (t : Shared) (v u w : SeatView) → is_founded (base_seen t) ≡ true → IsSeated t v → Told v u w → LearnsOthers v w → LegalFrom (is_founded (base_seen t)) (start_of (base_seen t)) (seen_of w)
+pub learns_met : (t : Shared) (v u w : SeatView) → is_founded (base_seen t) ≡ true → IsSeated t v → SeesAlso v u w → LearnsOthers v w → LegalFrom (is_founded (base_seen t)) (start_of (base_seen t)) (seen_of w)
     → Learns (watched t v) (watched t w)
 learns_met t v u w founded seated met others legal =
-    let more : Turns = met.longer.own.0 in
+    let more : TurnsTaken = met.longer.own.0 in
     let seen : w.seen ≡ v.seen ++ more = ap (λ (s : SeatView). s.seen) met.view ∙ sym met.longer.own.1 in
     record {
       name = refl;

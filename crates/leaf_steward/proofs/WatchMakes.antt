@@ -8,7 +8,7 @@ use Rattle.std.proofs.lemmas.Option.{none-some, same_Some}
 use Rattle.table_state.specs.Tables.{Table}
 use Rattle.leaf_history.specs.Calls.{Call}
 use Rattle.leaf_history.specs.Calls as call
-use Rattle.leaf_history.specs.Replies.{Reply}
+use Rattle.leaf_history.specs.Replies.{EntryReply}
 use Rattle.leaf_history.specs.Replies as reply
 use Rattle.leaf_table.specs.declared.base.TableBase.{TableBase}
 use Rattle.leaf_table.specs.Turns.{Shared, is_founded}
@@ -29,7 +29,7 @@ use Rattle.leaf_steward.proofs.WatchEntries.{enters_made, watch_stays}
 -- ---- one entry
 
 -- whatever a note tells of is one entry
-made_of : (base : Option TableBase) (clock : ℕ) (v w : SeatView) (what : What) → MadeAs base clock v what w → (c : Call) × (r : Reply) × Made base clock v c r w
+made_of : (base : Option TableBase) (clock : ℕ) (v w : SeatView) (what : What) → MadeAs base clock v what w → (c : Call) × (r : EntryReply) × Made base clock v c r w
 made_of base clock v w (Opened n) m = (call.Open n m.0, reply.Noted, m.1)
 made_of base clock v w (Took n) m = (call.Take, reply.Counted n, m)
 made_of base clock v w (Flushed n) m = (call.Flushed n, reply.Noted, m)
@@ -37,7 +37,7 @@ made_of base clock v w (Closed n) m = (call.Shut, reply.Counted n, m)
 made_of base clock v w Handed m = (call.Done, reply.Noted, m)
 
 -- the table in one place has an entry more
-enters_more : (from to clock place : ℕ) (c : Call) (r : Reply) (w w' : Watched) (ws : List Watched) → from ≤ clock → clock ≤ to → slice_get ws place ≡ Some w → Enters clock c r w w' → SeenMore from to ws (slice_set ws place w')
+enters_more : (from to clock place : ℕ) (c : Call) (r : EntryReply) (w w' : Watched) (ws : List Watched) → from ≤ clock → clock ≤ to → slice_get ws place ≡ Some w → Enters clock c r w w' → SeenMore from to ws (slice_set ws place w')
 enters_more from to clock place c r w w' [] low high at enters = absurd (none-some w at)
 enters_more from to clock zero c r w w' (v ∷ ws) low high at enters =
     let same : w ≡ v = sym (same_Some v w at) in

@@ -8,10 +8,10 @@ use Rattle.table_state.specs.Tables.{Table}
 use Rattle.leaf_model.specs.Content.{Contents, content}
 use Rattle.leaf_history.specs.Calls.{Call}
 use Rattle.leaf_history.specs.Calls as call
-use Rattle.leaf_history.specs.Replies.{Reply}
+use Rattle.leaf_history.specs.Replies.{EntryReply}
 use Rattle.leaf_history.specs.Replies as reply
 use Rattle.leaf_history.specs.History.{HistoryState, LegalFrom}
-use Rattle.turnstile.specs.Seats.{LearnsOthers, Told}
+use Rattle.turnstile.specs.Seats.{LearnsOthers, SeesAlso}
 use Rattle.leaf_table.specs.declared.base.TableBase.{TableBase}
 use Rattle.leaf_table.specs.Turns.{Shared, is_founded, start_of}
 use Rattle.leaf_table.specs.Calls.{SeatView, Made, base_seen, name_of, seen_of, state_seen, SeesShut}
@@ -30,7 +30,7 @@ use Rattle.leaf_steward.proofs.WatchMakes.{IsOpenedAs, MadeAt, Went, each_noted,
 use Rattle.leaf_steward.proofs.WatchLists.{ShutsOne, OpensOne, HandsOne, shuts_all, opens_all, hands_all}
 
 -- an entry of the steward at a founded table: what came between is what callers did just before it
-pub made_enters : (t : Shared) (v w : SeatView) (clock : ℕ) (c : Call) (r : Reply) → is_founded (base_seen t) ≡ true → IsSeated t v → (made : Made (base_seen t) clock v c r w)
+pub made_enters : (t : Shared) (v w : SeatView) (clock : ℕ) (c : Call) (r : EntryReply) → is_founded (base_seen t) ≡ true → IsSeated t v → (made : Made (base_seen t) clock v c r w)
     → (e : Enters clock c r (watched t v) (watched t w)) × (e.between ≡ made.between)
 made_enters t v w clock c r founded seated made = enters_made t v w clock c r founded seated made
 
@@ -39,7 +39,7 @@ pub now_seen : (t : Shared) (v : SeatView) → is_founded (base_seen t) ≡ true
 now_seen t v founded = seen_now t v founded
 
 -- a meeting at a founded table
-pub met_learns : (t : Shared) (v u w : SeatView) → is_founded (base_seen t) ≡ true → IsSeated t v → Told v u w → LearnsOthers v w → LegalFrom (is_founded (base_seen t)) (start_of (base_seen t)) (seen_of w)
+pub met_learns : (t : Shared) (v u w : SeatView) → is_founded (base_seen t) ≡ true → IsSeated t v → SeesAlso v u w → LearnsOthers v w → LegalFrom (is_founded (base_seen t)) (start_of (base_seen t)) (seen_of w)
     → Learns (watched t v) (watched t w)
 met_learns t v u w founded seated told others legal = learns_met t v u w founded seated told others legal
 

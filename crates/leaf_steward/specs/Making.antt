@@ -3,7 +3,7 @@ use Rattle.std.specs.Prelude.{◌≡◌, ℕ, suc, ◌≤◌, List, [], ◌∷�
 use Rattle.leaf_model.specs.Content.{Contents}
 use Rattle.leaf_history.specs.Calls as call
 use Rattle.leaf_history.specs.Replies as reply
-use Rattle.leaf_history.specs.History.{held}
+use Rattle.leaf_history.specs.History.{contents_held}
 use Rattle.table_state.specs.Tables.{Table}
 use Rattle.row_records.specs.Records.{LogRecord}
 use Rattle.leaf_table.specs.declared.base.TableBase.{TableBase}
@@ -91,9 +91,9 @@ pub record ShutsAt (clock : ℕ) (x : Seated) (place number n : ℕ) (t : Table)
   pub counted : number ≡ length after.seen
   pub made : Made (base_seen table) clock before call.Shut (reply.Counted n) after
   pub writes : t.writes ≡ n
-  pub contents : t.contents ≡ held (state_before (base_seen table) before made.between)
+  pub contents : t.contents ≡ contents_held (state_before (base_seen table) before made.between)
   pub record_is : t.pending ≡ untaken_record (name_of table) (state_before (base_seen table) before made.between)
-  pub columns : HasFewColumns (is_founded (base_seen table)) (state_before (base_seen table) before made.between).writes t
+  pub columns : HasFewColumns (is_founded (base_seen table)) (state_before (base_seen table) before made.between).spare (state_before (base_seen table) before made.between).writes t
   pub now : y ≡ with_seat x place after
 
 -- the seat at this table is worn

@@ -36,7 +36,8 @@ impl<'t> Seats<'t> {
         requires open_ { AtPlace SeesOpen self.old table }
         requires spares { AtPlace (Spares 1) self.old table }
         requires room { length notes.old < 32 }
-        ensures took { IfSome result (λ r. (number : ℕ) × TakesAt (B.meaning berth.now).clock self.old table number r.0 r.1 self.new
+        ensures took { IfSome result (λ r. (number : ℕ)
+            × TakesAt (B.meaning berth.now).clock self.old table number r.0 r.1 self.new
             × (notes.new ≡ notes.old ++ record { table = table; number = number; what = what.Took r.0 } ∷ [])) }
         ensures worn { IfNone result (WornAt self.old table × (self.new ≡ self.old) × (notes.new ≡ notes.old)) }
     {
@@ -53,7 +54,7 @@ impl<'t> Seats<'t> {
         Some((writes, pending))
     }
 
-    /// Notes that the disk has the first `writes` writes of the table. The steward has to have taken as many.
+    /// Notes that the disk has the first `writes` writes of the table, which the steward has taken.
     pub fn flushed<R: Wait + Threads + Sync, B: Berth, G: Gate>(
         &mut self,
         rt: &R,
@@ -67,7 +68,8 @@ impl<'t> Seats<'t> {
         requires taken { AtPlace (λ t v. writes ≤ (state_seen (base_seen t) v).taken) self.old table }
         requires spares { AtPlace (Spares 1) self.old table }
         requires room { length notes.old < 32 }
-        ensures { (number : ℕ) × OneEntry (B.meaning berth.now).clock self.old (record { table = table; number = number; what = what.Flushed writes }) self.new
+        ensures { (number : ℕ) × OneEntry (B.meaning berth.now).clock self.old
+            (record { table = table; number = number; what = what.Flushed writes }) self.new
             × (notes.new ≡ notes.old ++ record { table = table; number = number; what = what.Flushed writes } ∷ []) }
     {
         let place = table as usize;
@@ -90,7 +92,8 @@ impl<'t> Seats<'t> {
         requires spares { AtPlace (Spares 1) self.old table }
         requires room { length notes.old < 32 }
         ensures { (number : ℕ) × ShutsAt (B.meaning berth.now).clock self.old table number result.writes result self.new
-            × (notes.new ≡ notes.old ++ record { table = table; number = number; what = what.Closed result.writes } ∷ []) }
+            × (notes.new ≡ notes.old ++ record { table = table; number = number; what = what.Closed result.writes }
+            ∷ []) }
     {
         let place = table as usize;
         let ClosedTable {
@@ -116,7 +119,8 @@ impl<'t> Seats<'t> {
         requires open_ { AtEach (λ place t v. first ≤ place → SeesOpen t v) self.old }
         requires spares { AtEach (λ place t v. first ≤ place → Spares 1 t v) self.old }
         ensures made { Makes (B.meaning berth.now).clock (B.meaning berth.now).clock self.old notes.new self.new }
-        ensures each { (count : ℕ) × (first + count ≡ length self.old.tables) × EachNoted IsClosedNote first count notes.new }
+        ensures each { (count : ℕ) × (first + count ≡ length self.old.tables)
+            × EachNoted IsClosedNote first count notes.new }
         ensures shut { AtEach (λ place t v. first ≤ place → SeesShut t v) self.new }
         ensures before { (place : ℕ) → place < first → slice_get self.new.seats place ≡ slice_get self.old.seats place }
     {
@@ -158,10 +162,16 @@ impl<'t> Seats<'t> {
         requires one { length tables.each ≡ length self.old.tables }
         requires shut { AtEach (λ place t v. SeesShut t v) self.old }
         requires fresh { AtEach (λ place t v. IsFresh v) self.old }
-        requires content { (place : ℕ) (t : Shared) (v : SeatView) (table : Table) → slice_get self.old.tables place ≡ Some t → slice_get self.old.seats place ≡ Some v
-            → slice_get tables.each place ≡ Some table → MayHandIn (is_founded (base_seen t)) (state_seen (base_seen t) v) table.writes table }
-        requires columns { (place : ℕ) (t : Shared) (v : SeatView) (table : Table) (n : ℕ) → slice_get self.old.tables place ≡ Some t → slice_get self.old.seats place ≡ Some v
-            → slice_get tables.each place ≡ Some table → slice_get tables.columns place ≡ Some n → is_founded (base_seen t) ≡ true → n ≤ added_count (first_writes (state_seen (base_seen t) v) table.writes) }
+        requires content { (place : ℕ) (t : Shared) (v : SeatView) (table : Table)
+            → slice_get self.old.tables place ≡ Some t → slice_get self.old.seats place ≡ Some v
+            → slice_get tables.each place ≡ Some table
+            → MayHandIn (is_founded (base_seen t)) (state_seen (base_seen t) v) table.writes table }
+        requires columns { (place : ℕ) (t : Shared) (v : SeatView) (table : Table) (n : ℕ)
+            → slice_get self.old.tables place ≡ Some t → slice_get self.old.seats place ≡ Some v
+            → slice_get tables.each place ≡ Some table → slice_get tables.columns place ≡ Some n
+            → is_founded (base_seen t) ≡ true
+            → n ≤ (state_seen (base_seen t) v).spare
+            + added_count (first_writes (state_seen (base_seen t) v) table.writes) }
         ensures made { Makes (B.meaning berth.now).clock (B.meaning berth.now).clock self.old notes.new self.new }
         ensures each { OpenedNotes 0 tables.each notes.new }
         ensures open_ { AtEach (λ place t v. SeesOpen t v) self.new }
@@ -189,7 +199,8 @@ impl<'t> Seats<'t> {
         requires shut { AtPlace SeesShut self.old table }
         requires spares { AtPlace (Spares 1) self.old table }
         requires room { length notes.old < 32 }
-        ensures entry { (number : ℕ) × OneEntry (B.meaning berth.now).clock self.old (record { table = table; number = number; what = what.Handed }) self.new
+        ensures entry { (number : ℕ) × OneEntry (B.meaning berth.now).clock self.old
+            (record { table = table; number = number; what = what.Handed }) self.new
             × (notes.new ≡ notes.old ++ record { table = table; number = number; what = what.Handed } ∷ []) }
         ensures shut { AtPlace SeesShut self.new table }
     {
@@ -211,10 +222,13 @@ impl<'t> Seats<'t> {
         requires table { table < length self.old.tables }
         requires shut { AtPlace SeesShut self.old table }
         requires fresh { AtPlace (λ t v. IsFresh v) self.old table }
-        requires content { AtPlace (λ t v. MayHandIn (is_founded (base_seen t)) (state_seen (base_seen t) v) content.writes content) self.old table }
+        requires content { AtPlace (λ t v. MayHandIn (is_founded (base_seen t)) (state_seen (base_seen t) v)
+            content.writes content) self.old table }
         requires room { length notes.old < 32 }
-        ensures entry { (number : ℕ) × OneEntry (B.meaning berth.now).clock self.old (record { table = table; number = number; what = what.Opened content.writes }) self.new
-            × (notes.new ≡ notes.old ++ record { table = table; number = number; what = what.Opened content.writes } ∷ []) }
+        ensures entry { (number : ℕ) × OneEntry (B.meaning berth.now).clock self.old
+            (record { table = table; number = number; what = what.Opened content.writes }) self.new
+            × (notes.new ≡ notes.old ++ record { table = table; number = number; what = what.Opened content.writes }
+            ∷ []) }
         ensures open_ { AtPlace SeesOpen self.new table }
         ensures spares { AtPlace (Spares 1000) self.new table }
     {

@@ -70,10 +70,13 @@ impl StewardLog {
         requires owed { IsOwed seats.old self.old }
         requires spares { IfSome self.old.log.owed (λ r. AtPlace (Spares 1) seats.old self.old.owner) }
         requires room { length notes.old < 32 }
-        ensures settles { SettlesOwed (B.meaning berth.new).clock seats.old self.old notes.old result seats.new self.new notes.new }
+        ensures settles { SettlesOwed (B.meaning berth.new).clock seats.old self.old notes.old result seats.new self.new
+            notes.new }
         ensures runs { (writes : List ℕ → List Write) → IsTrue (B.meaning berth.old).tells → AreFounded seats.old
-            → Runs (watched_by seats.old) self.old.owner self.old.log writes (B.meaning berth.old) → RunsTo seats.old seats.new self.new (B.meaning berth.old) (B.meaning berth.new) }
-        ensures region { IsTrue (B.meaning berth.old).tells → (B.meaning berth.new).held.region ≡ (B.meaning berth.old).held.region }
+            → Runs (watched_by seats.old) self.old.owner self.old.log writes (B.meaning berth.old)
+            → RunsTo seats.old seats.new self.new (B.meaning berth.old) (B.meaning berth.new) }
+        ensures region { IsTrue (B.meaning berth.old).tells
+            → (B.meaning berth.new).held.region ≡ (B.meaning berth.old).held.region }
         ensures time { Passes (B.meaning berth.old) (B.meaning berth.new) }
         ensures cause { HasCause (B.meaning berth.old).disk_faults (B.meaning berth.new).disk_faults result }
         ensures reads { (B.meaning berth.new).disk_reads ≡ (B.meaning berth.old).disk_reads }
@@ -85,8 +88,8 @@ impl StewardLog {
         }
     }
 
-    /// Brings the record that was just taken of a table to the disk, if there is one, and notes the table as flushed up
-    /// to `writes`. After a fault the record is owed. It takes no memory.
+    /// Brings the record that was just taken from a table to the disk, if there is one, and notes the table as flushed
+    /// up to `writes`. After a fault the record is owed. Takes no memory.
     pub fn bring<R: Wait + Threads + Sync, B: Berth, G: Gate>(
         &mut self,
         rt: &R,
@@ -104,10 +107,13 @@ impl StewardLog {
         requires named { IfSome pending (λ r. AtPlace (λ t v. name_of t ≡ r.name) seats.old table) }
         requires spares { AtPlace (Spares 1) seats.old table }
         requires room { length notes.old < 32 }
-        ensures brings { Brings (B.meaning berth.new).clock seats.old self.old table writes pending notes.old result seats.new self.new notes.new }
+        ensures brings { Brings (B.meaning berth.new).clock seats.old self.old table writes pending notes.old result
+            seats.new self.new notes.new }
         ensures runs { (taken : List ℕ → List Write) → IsTrue (B.meaning berth.old).tells → AreFounded seats.old
-            → HasJustTaken seats.old self.old table pending taken (B.meaning berth.old) → RunsTo seats.old seats.new self.new (B.meaning berth.old) (B.meaning berth.new) }
-        ensures region { IsTrue (B.meaning berth.old).tells → (B.meaning berth.new).held.region ≡ (B.meaning berth.old).held.region }
+            → HasJustTaken seats.old self.old table pending taken (B.meaning berth.old)
+            → RunsTo seats.old seats.new self.new (B.meaning berth.old) (B.meaning berth.new) }
+        ensures region { IsTrue (B.meaning berth.old).tells
+            → (B.meaning berth.new).held.region ≡ (B.meaning berth.old).held.region }
         ensures time { Passes (B.meaning berth.old) (B.meaning berth.new) }
         ensures cause { HasCause (B.meaning berth.old).disk_faults (B.meaning berth.new).disk_faults result }
         ensures reads { (B.meaning berth.new).disk_reads ≡ (B.meaning berth.old).disk_reads }
@@ -135,10 +141,13 @@ impl StewardLog {
         requires owed { IsOwed seats.old self.old }
         requires spares { IfSome self.old.log.owed (λ r. AtPlace (Spares 1) seats.old self.old.owner) }
         requires room { length notes.old < 32 }
-        ensures settles { SettlesOwed (B.meaning berth.new).clock seats.old self.old notes.old result seats.new self.new notes.new }
+        ensures settles { SettlesOwed (B.meaning berth.new).clock seats.old self.old notes.old result seats.new self.new
+            notes.new }
         ensures runs { (writes : List ℕ → List Write) → IsTrue (B.meaning berth.old).tells → AreFounded seats.old
-            → Runs (watched_by seats.old) self.old.owner self.old.log writes (B.meaning berth.old) → RunsTo seats.old seats.new self.new (B.meaning berth.old) (B.meaning berth.new) }
-        ensures region { IsTrue (B.meaning berth.old).tells → (B.meaning berth.new).held.region ≡ (B.meaning berth.old).held.region }
+            → Runs (watched_by seats.old) self.old.owner self.old.log writes (B.meaning berth.old)
+            → RunsTo seats.old seats.new self.new (B.meaning berth.old) (B.meaning berth.new) }
+        ensures region { IsTrue (B.meaning berth.old).tells
+            → (B.meaning berth.new).held.region ≡ (B.meaning berth.old).held.region }
         ensures time { Passes (B.meaning berth.old) (B.meaning berth.new) }
         ensures cause { HasCause (B.meaning berth.old).disk_faults (B.meaning berth.new).disk_faults result }
         ensures reads { (B.meaning berth.new).disk_reads ≡ (B.meaning berth.old).disk_reads }
@@ -161,10 +170,12 @@ impl StewardLog {
         requires taken { AtPlace (λ t v. self.now.count ≤ (state_seen (base_seen t) v).taken) seats.old self.now.owner }
         requires spares { AtPlace (Spares 1) seats.old self.now.owner }
         requires room { length notes.old < 32 }
-        ensures noted { (number : ℕ) × OneEntry (B.meaning berth.now).clock seats.old (flushed_note self.now number) seats.new
+        ensures noted { (number : ℕ) × OneEntry (B.meaning berth.now).clock seats.old (flushed_note self.now number)
+            seats.new
             × (notes.new ≡ notes.old ++ flushed_note self.now number ∷ []) }
         ensures runs { (writes : List ℕ → List Write) → AreFounded seats.old → self.now.log.owed ≡ None
-            → Runs (watched_by seats.old) self.now.owner self.now.log writes (B.meaning berth.now) → RunsTo seats.old seats.new self.now (B.meaning berth.now) (B.meaning berth.now) }
+            → Runs (watched_by seats.old) self.now.owner self.now.log writes (B.meaning berth.now)
+            → RunsTo seats.old seats.new self.now (B.meaning berth.now) (B.meaning berth.now) }
     {
         seats.sits();
         seats.flushed(rt, self.owner, self.count, berth, gate, notes);

@@ -3,8 +3,8 @@ ghost use Rattle.std.specs.Prelude.{◌≡◌, ◌+◌, ◌<◌, ◌≤◌, ◌+
 
 use std::marker::Model;
 
-/// What an entry did: opened a table with this many writes; took, or flushed, the first so many writes; closed it after
-/// so many; or handed it over.
+/// What an entry did: it opened a table that has so many writes; took or flushed its first so many writes; closed it
+/// after so many; or handed it over.
 #[derive(Clone, Copy, PartialEq, Eq)]
 pub enum What {
     Opened(u64),

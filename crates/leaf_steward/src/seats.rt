@@ -2,7 +2,7 @@
 ghost use Rattle.std.specs.Prelude.{◌≡◌, ◌<◌, ◌≤◌, ◌+◌, ◌^◌, ℕ, List, length, map, slice_get, Some, None, IfSome, IfNone, IfOk, OnOk, IsOk};
 ghost use Rattle.leaf_history.specs.History.{LegalFrom};
 ghost use Rattle.region_layout.specs.Names.{AreNames};
-ghost use Rattle.turnstile.specs.Seats.{IsSeatOf, LearnsOthers, Told};
+ghost use Rattle.turnstile.specs.Seats.{IsSeatOf, LearnsOthers, SeesAlso};
 ghost use Rattle.leaf_table.specs.Turns.{Shared, is_founded, start_of};
 ghost use Rattle.leaf_table.specs.Calls.{SeatView, base_seen, name_of, seen_of, IsFresh, IsWorn};
 ghost use Rattle.leaf_steward.specs.Seated.{AreAlike, AreSeated, AtEach, AtPlace, IsUnused, with_seat};
@@ -37,7 +37,8 @@ impl<'t> Seats<'t> {
         requires named { AreNames names }
         requires names { map name_of tables.now ≡ names }
         requires count { length seats.items ≡ length tables.now }
-        requires unused { AtEach (λ place t v. IsUnused t v) (record { names = names; tables = tables.now; seats = seats.items }) }
+        requires unused { AtEach (λ place t v. IsUnused t v)
+            (record { names = names; tables = tables.now; seats = seats.items }) }
         requires alike { AreAlike (record { names = names; tables = tables.now; seats = seats.items }) }
         ensures { result ≡ record { names = names; tables = tables.now; seats = seats.items } }
     {
@@ -70,7 +71,7 @@ impl<'t> Seats<'t> {
         self.tables.len() as u32
     }
 
-    /// The first table whose seat is worn: it has seen 2^62 entries. None if no seat is.
+    /// The first table whose seat is worn, which means that it has seen 2^62 entries. None if no seat is worn.
     pub fn worn(&self) -> Option<u32>
         ensures some { IfSome result (λ place. (place < length self.now.tables) × WornAt self.now place
             × ((before : ℕ) (v : SeatView) → before < place → slice_get self.now.seats before ≡ Some v → IsFresh v)) }
@@ -88,10 +89,13 @@ impl<'t> Seats<'t> {
     /// and takes no memory.
     pub fn meet(&mut self, table: u32, seat: &mut Seat) -> Result<(), AllocError>
         requires table { table < length self.old.tables }
-        requires seat { AtPlace (λ t v. IsSeatOf seat.old t.site × LegalFrom (is_founded (base_seen t)) (start_of (base_seen t)) (seen_of seat.old)) self.old table }
-        ensures learns { AtPlace (λ t v. (w : SeatView) × (self.new ≡ with_seat self.old table w) × Told v seat.old w × LearnsOthers v w
+        requires seat { AtPlace (λ t v. IsSeatOf seat.old t.site
+            × LegalFrom (is_founded (base_seen t)) (start_of (base_seen t)) (seen_of seat.old)) self.old table }
+        ensures learns { AtPlace (λ t v. (w : SeatView) × (self.new ≡ with_seat self.old table w)
+            × SeesAlso v seat.old w × LearnsOthers v w
             × LegalFrom (is_founded (base_seen t)) (start_of (base_seen t)) (seen_of w)) self.old table }
-        ensures seat { AtPlace (λ t v. IsSeatOf seat.new t.site × Told seat.old v seat.new × LearnsOthers seat.old seat.new
+        ensures seat { AtPlace (λ t v. IsSeatOf seat.new t.site × SeesAlso seat.old v seat.new
+            × LearnsOthers seat.old seat.new
             × LegalFrom (is_founded (base_seen t)) (start_of (base_seen t)) (seen_of seat.new)) self.old table }
         ensures done { IsOk result }
     {

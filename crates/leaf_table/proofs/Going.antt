@@ -1,16 +1,16 @@
 -- A legal list of turns goes on by one turn.
 use Rattle.std.proofs.Common.{ℤ, ◌≡◌, ◌⊎◌, ℕ, zero, suc, ◌+◌, ◌-◌, ◌<◌, ◌≤◌, ◌^◌, Bool, true, false, List, [], ◌∷◌, ◌++◌, length, take, drop, refl, sym, ap, ◌∙◌, subst, inl, inr, Option, Some, None, arith}
 use Rattle.std.specs.List.{AllByRecursion}
-use Rattle.turnstile.specs.declared.object.Entry as turnstile
+use Rattle.turnstile.specs.declared.object.TurnEntry as turnstile
 use Rattle.turnstile.specs.Objects.{entry_of}
-use Rattle.leaf_model.specs.declared.rows.Row.{Row}
+use Rattle.row_model.specs.declared.rows.Row.{Row}
 use Rattle.leaf_model.specs.declared.queries.Query.{Query}
 use Rattle.leaf_model.specs.declared.writes.Write.{Write}
 use Rattle.leaf_model.specs.declared.writes.Write.TheVariants as write
-use Rattle.leaf_model.specs.Values.{IsRow, IsTime}
+use Rattle.row_model.specs.Values.{IsRow, IsTime}
 use Rattle.leaf_model.specs.Content.{Contents, content_after, content_from, kept_count, late_count, removed_count}
 use Rattle.leaf_model.specs.Groups.{groups}
-use Rattle.leaf_history.specs.History.{HistoryState, LegalFrom, Allowed, opened, after, after_entry, held, untaken, write_count, written}
+use Rattle.leaf_history.specs.History.{HistoryState, LegalFrom, Allowed, opened, after, after_entry, contents_held, untaken, write_count, written}
 use Rattle.leaf_history.specs.Laws.{HasSoundCounts}
 use Rattle.leaf_history.proofs.Histories.{counts_stay, length_take}
 use Rattle.row_records.specs.Pending.{with_push}
@@ -19,35 +19,35 @@ use Rattle.group_table.proofs.Within.{groups_grow}
 use Rattle.leaf_table.specs.declared.base.TableBase.{TableBase}
 use Rattle.leaf_table.specs.declared.turns.Turn.{Turn}
 use Rattle.leaf_table.specs.declared.turns.Turn.TheVariants as turn
-use Rattle.leaf_table.specs.declared.turns.Answer.{Answer}
-use Rattle.leaf_table.specs.declared.turns.Answer.TheVariants as answer
+use Rattle.leaf_table.specs.declared.turns.TurnAnswer.{TurnAnswer}
+use Rattle.leaf_table.specs.declared.turns.TurnAnswer.TheVariants as answer
 use Rattle.leaf_table.specs.declared.value.LeafTable.{LeafTable}
-use Rattle.leaf_table.specs.Turns.{Turns, is_founded, start_of, call_of, reply_of, told, history, record_for, Hands, HandsFrom, LegalTurns, state_after, IsTableOf, StandsFor, MayHandIn, MayNow}
+use Rattle.leaf_table.specs.Turns.{TurnsTaken, is_founded, start_of, call_of, reply_of, told, history, record_for, Hands, HandsFrom, LegalTurns, state_after, IsTableOf, StandsFor, MayHandIn, MayNow}
 use Rattle.leaf_table.specs.Steps.{AddsTo, RemovesFrom, AsksOf}
 
-push_after : (founded : Bool) (s : HistoryState) (h : Turns) (e : turnstile.Entry Turn Answer) → after founded s (history (h ++ e ∷ [])) ≡ after_entry founded (after founded s (history h)) (told e)
+push_after : (founded : Bool) (s : HistoryState) (h : TurnsTaken) (e : turnstile.TurnEntry Turn TurnAnswer) → after founded s (history (h ++ e ∷ [])) ≡ after_entry founded (after founded s (history h)) (told e)
 push_after founded s [] e = refl
 push_after founded s (x ∷ h) e = push_after founded (after_entry founded s (told x)) h e
 
-push_legal : (founded : Bool) (s : HistoryState) (h : Turns) (e : turnstile.Entry Turn Answer) → LegalFrom founded s (history h) → Allowed founded (after founded s (history h)) e.by (call_of e.call) (reply_of e.reply) → LegalFrom founded s (history (h ++ e ∷ []))
+push_legal : (founded : Bool) (s : HistoryState) (h : TurnsTaken) (e : turnstile.TurnEntry Turn TurnAnswer) → LegalFrom founded s (history h) → Allowed founded (after founded s (history h)) e.by (call_of e.call) (reply_of e.reply) → LegalFrom founded s (history (h ++ e ∷ []))
 push_legal founded s [] e l a = (a, tt)
 push_legal founded s (x ∷ h) e l a = (l.0, push_legal founded (after_entry founded s (told x)) h e l.1 a)
 
-push_hands : (name : List ℕ) (founded : Bool) (s : HistoryState) (h : Turns) (e : turnstile.Entry Turn Answer) → HandsFrom name founded s h → Hands name founded (after founded s (history h)) e.call e.reply → HandsFrom name founded s (h ++ e ∷ [])
+push_hands : (name : List ℕ) (founded : Bool) (s : HistoryState) (h : TurnsTaken) (e : turnstile.TurnEntry Turn TurnAnswer) → HandsFrom name founded s h → Hands name founded (after founded s (history h)) e.call e.reply → HandsFrom name founded s (h ++ e ∷ [])
 push_hands name founded s [] e l a = (a, tt)
 push_hands name founded s (x ∷ h) e l a = (l.0, push_hands name founded (after_entry founded s (told x)) h e l.1 a)
 
-push_length : (h : Turns) (e : turnstile.Entry Turn Answer) → length (h ++ e ∷ []) ≡ length h + 1
+push_length : (h : TurnsTaken) (e : turnstile.TurnEntry Turn TurnAnswer) → length (h ++ e ∷ []) ≡ length h + 1
 push_length [] e = refl
 push_length (x ∷ h) e = let further = push_length h e in omega (arith, further)
 
 -- what one turn tells of the value and of its history
-pub record Goes (name : List ℕ) (founded : Bool) (s : HistoryState) (n : ℕ) (by clock : ℕ) (t : Turn) (a : Answer) (w : LeafTable) : Type 0 where
+pub record Goes (name : List ℕ) (founded : Bool) (s : HistoryState) (n : ℕ) (by clock : ℕ) (t : Turn) (a : TurnAnswer) (w : LeafTable) : Type 0 where
   pub allowed : Allowed founded s by (call_of t) (reply_of a)
   pub hands : Hands name founded s t a
   pub stands : IsTableOf name founded (after_entry founded s (told (entry_of by clock t a))) (n + 1) w
 
-pub goes_on : (name : List ℕ) (base : Option TableBase) (h : Turns) (by clock : ℕ) (t : Turn) (a : Answer) (w : LeafTable) → LegalTurns name base h → Goes name (is_founded base) (state_after base h) (length h) by clock t a w
+pub goes_on : (name : List ℕ) (base : Option TableBase) (h : TurnsTaken) (by clock : ℕ) (t : Turn) (a : TurnAnswer) (w : LeafTable) → LegalTurns name base h → Goes name (is_founded base) (state_after base h) (length h) by clock t a w
     → LegalTurns name base (h ++ entry_of by clock t a ∷ []) × StandsFor name base (h ++ entry_of by clock t a ∷ []) w
 goes_on name base h by clock t a w l g =
     let e = entry_of by clock t a in
@@ -60,7 +60,7 @@ counted_start : (base : Option TableBase) → HasSoundCounts (start_of base)
 counted_start (Some b) = record { taken = omega arith; handed_in = omega arith }
 counted_start None = record { taken = omega arith; handed_in = omega arith }
 
-pub counted : (name : List ℕ) (base : Option TableBase) (h : Turns) → LegalTurns name base h → HasSoundCounts (state_after base h)
+pub counted : (name : List ℕ) (base : Option TableBase) (h : TurnsTaken) → LegalTurns name base h → HasSoundCounts (state_after base h)
 counted name base h l = counts_stay (is_founded base) (start_of base) (history h) l.legal (counted_start base)
 
 held_push : (c : Contents) (ws : List Write) (w : Write) → content_after (content_from c ws) w ≡ content_from c (ws ++ w ∷ [])
@@ -118,10 +118,10 @@ writes_on name founded s n v u w c i live named lives table columns =
       columns = λ _ yes. let before = i.columns live yes in let adds = added_push s.writes w in omega (arith, columns, before, adds);
     }
 
-pub added : (name : List ℕ) (founded : Bool) (s : HistoryState) (n by clock : ℕ) (v : LeafTable) (rows : List Row) (a : Answer) (w : LeafTable) → HasSoundCounts s → IsTableOf name founded s n v → (0 < by) × AllByRecursion IsRow rows → AddsTo v rows a w → Goes name founded s n by clock (turn.Add rows) a w
+pub added : (name : List ℕ) (founded : Bool) (s : HistoryState) (n by clock : ℕ) (v : LeafTable) (rows : List Row) (a : TurnAnswer) (w : LeafTable) → HasSoundCounts s → IsTableOf name founded s n v → (0 < by) × AllByRecursion IsRow rows → AddsTo v rows a w → Goes name founded s n by clock (turn.Add rows) a w
 added name founded s n by clock v rows (answer.Added kept late) w c i caller is =
     let live : s.live ≡ true = sym i.live ∙ is.0 in
-    let same : v.table.contents ≡ held s = i.contents live in
+    let same : v.table.contents ≡ contents_held s = i.contents live in
     record {
       allowed = (caller.0, (live, subst (λ x. length x.rows + kept_count x rows ≤ 2 ^ 40) same is.1, is.2 ∙ ap (λ x. kept_count x rows) same, is.3 ∙ ap (λ x. late_count x rows) same));
       hands = (tt, tt);
@@ -141,10 +141,10 @@ added name founded s n by clock v rows (answer.Took writes pending) w c i caller
 added name founded s n by clock v rows (answer.Closed table) w c i caller is = absurd is
 added name founded s n by clock v rows answer.Noted w c i caller is = absurd is
 
-pub copied : (name : List ℕ) (founded : Bool) (s : HistoryState) (n by clock : ℕ) (v : LeafTable) (rows : _) (copy : Option (List Row)) (a : Answer) (w : LeafTable) → HasSoundCounts s → IsTableOf name founded s n v → MayNow founded s by (turn.AddCopy rows copy) → AddsTo v rows.value a w → Goes name founded s n by clock (turn.AddCopy rows copy) a w
+pub copied : (name : List ℕ) (founded : Bool) (s : HistoryState) (n by clock : ℕ) (v : LeafTable) (rows : _) (copy : Option (List Row)) (a : TurnAnswer) (w : LeafTable) → HasSoundCounts s → IsTableOf name founded s n v → MayNow founded s by (turn.AddCopy rows copy) → AddsTo v rows.value a w → Goes name founded s n by clock (turn.AddCopy rows copy) a w
 copied name founded s n by clock v rows copy a w c i may is = let goes = added name founded s n by clock v rows.value a w c i (may.0, may.1) is in record { allowed = goes.allowed; hands = goes.hands; stands = goes.stands }
 
-pub expired : (name : List ℕ) (founded : Bool) (s : HistoryState) (n by clock : ℕ) (v : LeafTable) (horizon : ℤ) (a : Answer) (w : LeafTable) → HasSoundCounts s → IsTableOf name founded s n v → (0 < by) × IsTime horizon → RemovesFrom v (write.Expire horizon) a w → Goes name founded s n by clock (turn.Expire horizon) a w
+pub expired : (name : List ℕ) (founded : Bool) (s : HistoryState) (n by clock : ℕ) (v : LeafTable) (horizon : ℤ) (a : TurnAnswer) (w : LeafTable) → HasSoundCounts s → IsTableOf name founded s n v → (0 < by) × IsTime horizon → RemovesFrom v (write.Expire horizon) a w → Goes name founded s n by clock (turn.Expire horizon) a w
 expired name founded s n by clock v horizon (answer.Removed k) w c i caller is = let live : s.live ≡ true = sym i.live ∙ is.0 in record { allowed = (caller.0, (live, is.1 ∙ ap (λ x. removed_count x (write.Expire horizon)) (i.contents live))); hands = (tt, tt); stands = writes_on name founded s n v w (write.Expire horizon) c i live is.2 is.3 is.4 (let fewer = is.5 in omega (arith, fewer)) }
 expired name founded s n by clock v horizon answer.NoMemory w c i caller is = record { allowed = (caller.0, sym i.live ∙ is.0); hands = (tt, tt); stands = subst (λ x. IsTableOf name founded s (n + 1) x) (sym is.1) (stays name founded s n v i) }
 expired name founded s n by clock v horizon answer.Shut w c i caller is = record { allowed = (caller.0, sym i.live ∙ is.0); hands = (tt, tt); stands = subst (λ x. IsTableOf name founded s (n + 1) x) (sym is.1) (stays name founded s n v i) }
@@ -155,7 +155,7 @@ expired name founded s n by clock v horizon (answer.Took writes pending) w c i c
 expired name founded s n by clock v horizon (answer.Closed table) w c i caller is = absurd is
 expired name founded s n by clock v horizon answer.Noted w c i caller is = absurd is
 
-pub cut_to : (name : List ℕ) (founded : Bool) (s : HistoryState) (n by clock : ℕ) (v : LeafTable) (count : ℕ) (a : Answer) (w : LeafTable) → HasSoundCounts s → IsTableOf name founded s n v → 0 < by → RemovesFrom v (write.Keep count) a w → Goes name founded s n by clock (turn.Keep count) a w
+pub cut_to : (name : List ℕ) (founded : Bool) (s : HistoryState) (n by clock : ℕ) (v : LeafTable) (count : ℕ) (a : TurnAnswer) (w : LeafTable) → HasSoundCounts s → IsTableOf name founded s n v → 0 < by → RemovesFrom v (write.Keep count) a w → Goes name founded s n by clock (turn.Keep count) a w
 cut_to name founded s n by clock v count (answer.Removed k) w c i caller is = let live : s.live ≡ true = sym i.live ∙ is.0 in record { allowed = (caller, (live, is.1 ∙ ap (λ x. removed_count x (write.Keep count)) (i.contents live))); hands = (tt, tt); stands = writes_on name founded s n v w (write.Keep count) c i live is.2 is.3 is.4 (let fewer = is.5 in omega (arith, fewer)) }
 cut_to name founded s n by clock v count answer.NoMemory w c i caller is = record { allowed = (caller, sym i.live ∙ is.0); hands = (tt, tt); stands = subst (λ x. IsTableOf name founded s (n + 1) x) (sym is.1) (stays name founded s n v i) }
 cut_to name founded s n by clock v count answer.Shut w c i caller is = record { allowed = (caller, sym i.live ∙ is.0); hands = (tt, tt); stands = subst (λ x. IsTableOf name founded s (n + 1) x) (sym is.1) (stays name founded s n v i) }
@@ -171,11 +171,11 @@ same_query None q r e is = cc
 same_query (Some x) q r (inl e) is = cc
 same_query (Some x) q r (inr e) is = cc
 
-pub asked : (name : List ℕ) (founded : Bool) (s : HistoryState) (n by clock : ℕ) (v : LeafTable) (query : _) (copy : Option Query) (a : Answer) → IsTableOf name founded s n v → MayNow founded s by (turn.Ask query copy) → AsksOf v copy a → Goes name founded s n by clock (turn.Ask query copy) a v
+pub asked : (name : List ℕ) (founded : Bool) (s : HistoryState) (n by clock : ℕ) (v : LeafTable) (query : _) (copy : Option Query) (a : TurnAnswer) → IsTableOf name founded s n v → MayNow founded s by (turn.Ask query copy) → AsksOf v copy a → Goes name founded s n by clock (turn.Ask query copy) a v
 asked name founded s n by clock v query copy (answer.Groups gs) i may is =
     let live : s.live ≡ true = sym i.live ∙ is.0 in
     let which : is.1 ≡ query.value = same_query copy query.value is.1 may.1 is.2 in record {
-      allowed = (may.0, (live, is.3 ∙ (ap (λ x. groups is.1 x.rows) (i.contents live) ∙ ap (λ q. groups q (held s).rows) which)));
+      allowed = (may.0, (live, is.3 ∙ (ap (λ x. groups is.1 x.rows) (i.contents live) ∙ ap (λ q. groups q (contents_held s).rows) which)));
       hands = (tt, (subst IsHeld (i.contents live) is.4, groups_grow (length v.table.contents.rows) (2 ^ 40) gs is.4.few is.5));
       stands = stays name founded s n v i;
     }
@@ -241,7 +241,7 @@ pub reopened : (name : List ℕ) (founded : Bool) (s : HistoryState) (n by clock
 reopened name founded s n by clock k v table c i may = record { allowed = (may.0, may.1, may.2.allowed, refl); hands = (tt, tt); stands = handed_in name founded s n k v table c i may.2 }
 
 -- the same, for a turn, an answer and a value that equal the ones it is shown for
-pub steps_on : (name : List ℕ) (base : Option TableBase) (h : Turns) (by clock : ℕ) (v : LeafTable) (t t' : Turn) (a a' : Answer) (w w' : LeafTable) → t ≡ t' → a ≡ a' → w ≡ w'
+pub steps_on : (name : List ℕ) (base : Option TableBase) (h : TurnsTaken) (by clock : ℕ) (v : LeafTable) (t t' : Turn) (a a' : TurnAnswer) (w w' : LeafTable) → t ≡ t' → a ≡ a' → w ≡ w'
     → LegalTurns name base h → StandsFor name base h v → MayNow (is_founded base) (state_after base h) by t
     → (HasSoundCounts (state_after base h) → IsTableOf name (is_founded base) (state_after base h) (length h) v → MayNow (is_founded base) (state_after base h) by t' → Goes name (is_founded base) (state_after base h) (length h) by clock t' a' w')
     → LegalTurns name base (h ++ entry_of by clock t a ∷ []) × StandsFor name base (h ++ entry_of by clock t a ∷ []) w

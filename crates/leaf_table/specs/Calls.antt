@@ -1,17 +1,17 @@
 -- What a call on a shared table needs of its seat, and what it does to it.
 use Rattle.std.specs.Prelude.{◌≡◌, ◌⊎◌, ℕ, ◌+◌, ◌<◌, ◌≤◌, ◌^◌, true, false, List, [], ◌∷◌, ◌++◌, length, Option, Result, Ok, Err, ⊤}
 use Rattle.std.specs.List.{AllByRecursion}
-use Rattle.turnstile.specs.Seats.{Standing, AreIds, Owns}
+use Rattle.turnstile.specs.Seats.{SeatStanding, AreIds, Owns}
 use Rattle.leaf_history.specs.Calls.{Call}
 use Rattle.leaf_history.specs.Calls as call
-use Rattle.leaf_history.specs.Replies.{Reply}
+use Rattle.leaf_history.specs.Replies.{EntryReply}
 use Rattle.leaf_history.specs.Replies as reply
-use Rattle.leaf_history.specs.History.{Entry, HistoryState, LegalFrom, Allowed, after, held}
+use Rattle.leaf_history.specs.History.{Entry, HistoryState, LegalFrom, Allowed, after, contents_held}
 use Rattle.table_state.specs.Tables.{Table}
 use Rattle.leaf_table.specs.declared.base.TableBase.{TableBase}
 use Rattle.leaf_table.specs.declared.base.Origin.{Origin}
 use Rattle.leaf_table.specs.declared.turns.Turn.{Turn}
-use Rattle.leaf_table.specs.declared.turns.Answer.{Answer}
+use Rattle.leaf_table.specs.declared.turns.TurnAnswer.{TurnAnswer}
 use Rattle.leaf_table.specs.declared.replies.Reply as shared
 use Rattle.leaf_table.specs.declared.replies.Reply.TheVariants as told
 use Rattle.leaf_table.specs.declared.replies.Taken.{Taken}
@@ -29,10 +29,10 @@ name_of t = t.site.base.name.value
 
 -- a seat at a table, as contracts see it
 abbrev pub SeatView : Type 0
-SeatView = Standing Origin Turn Answer
+SeatView = SeatStanding Origin Turn TurnAnswer
 
 -- an entry with these parts
-abbrev pub entry_seen : ℕ → ℕ → Call → Reply → Entry
+abbrev pub entry_seen : ℕ → ℕ → Call → EntryReply → Entry
 entry_seen caller clock c r = record { caller = caller; call = c; reply = r; clock = clock }
 
 -- the state of the table after a history
@@ -85,7 +85,7 @@ abbrev pub state_before : Option TableBase → SeatView → List Entry → Histo
 state_before base v between = state_of base (seen_of v ++ between)
 
 -- One entry was made, with this call and this reply. Others may have made entries before it.
-pub record Made (base : Option TableBase) (clock : ℕ) (v : SeatView) (c : Call) (r : Reply) (w : SeatView) : Type 0 where
+pub record Made (base : Option TableBase) (clock : ℕ) (v : SeatView) (c : Call) (r : EntryReply) (w : SeatView) : Type 0 where
   pub between : List Entry
   pub seen : seen_of w ≡ (seen_of v ++ between) ++ entry_seen v.id clock c r ∷ []
   pub others : AreOthers v between
@@ -98,7 +98,7 @@ pub record Made (base : Option TableBase) (clock : ℕ) (v : SeatView) (c : Call
   pub room : (w.room ≤ v.room) × (v.room ≤ w.room + 1) × (length w.seen ≤ 2 ^ 62 → w.room ≡ v.room)
 
 -- the same of a turn, and of what it gives out
-abbrev pub MadeTurn : List ℕ → Option TableBase → ℕ → SeatView → Turn → Answer → SeatView → Type 0
+abbrev pub MadeTurn : List ℕ → Option TableBase → ℕ → SeatView → Turn → TurnAnswer → SeatView → Type 0
 MadeTurn name base clock v t a w = (m : Made base clock v (call_of t) (reply_of a) w) × HandsOut name (is_founded base) (state_before base v m.between) t a
 
 -- a callers' seat
@@ -123,7 +123,7 @@ abbrev pub SeesShut : Shared → SeatView → Type 0
 SeesShut t v = (state_seen (base_seen t) v).live ≡ false
 
 -- the reply of an entry is told with the number n
-abbrev pub IsToldAs : ℕ → Reply → shared.Reply → Type 0
+abbrev pub IsToldAs : ℕ → EntryReply → shared.Reply → Type 0
 IsToldAs n (reply.Added kept late) x = x ≡ told.Added n kept late
 IsToldAs n (reply.Groups gs) x = x ≡ told.Groups n gs
 IsToldAs n reply.Shut x = x ≡ told.Shut n
@@ -134,14 +134,14 @@ IsToldAs n (reply.Counted k) x = ⊥
 IsToldAs n reply.Noted x = ⊥
 
 -- a reply that a caller may get
-abbrev pub IsCallersReply : Reply → Type 0
+abbrev pub IsCallersReply : EntryReply → Type 0
 IsCallersReply (reply.Counted k) = ⊥
 IsCallersReply reply.Noted = ⊥
 IsCallersReply _ = ⊤
 
 -- an entry was made, and its reply is told with its number
 abbrev pub Replied : Option TableBase → SeatView → Call → shared.Reply → SeatView → Type 0
-Replied base v c x w = IsFresh v × (r : Reply) × Made base 0 v c r w × IsToldAs (length w.seen) r x
+Replied base v c x w = IsFresh v × (r : EntryReply) × Made base 0 v c r w × IsToldAs (length w.seen) r x
 
 -- a caller's call: an entry with the reply that is told; or the seat is worn, and nothing changed
 abbrev pub Answered : Option TableBase → SeatView → Call → shared.Reply → SeatView → Type 0
@@ -163,9 +163,9 @@ pub record ClosedBy (name : List ℕ) (base : Option TableBase) (clock : ℕ) (v
   pub number : x.number ≡ length w.seen
   pub made : Made base clock v call.Shut (reply.Counted x.writes) w
   pub writes : x.table.writes ≡ x.writes
-  pub contents : x.table.contents ≡ held (state_before base v made.between)
+  pub contents : x.table.contents ≡ contents_held (state_before base v made.between)
   pub pending : x.table.pending ≡ untaken_record name (state_before base v made.between)
-  pub columns : HasFewColumns (is_founded base) (state_before base v made.between).writes x.table
+  pub columns : HasFewColumns (is_founded base) (state_before base v made.between).spare (state_before base v made.between).writes x.table
 
 -- the table was opened with this content; or the seat is worn, and the content was given back
 abbrev pub ReopenedBy : Option TableBase → ℕ → SeatView → ℕ → Table → Result ℕ Table → SeatView → Type 0

@@ -7,11 +7,13 @@ use std::alloc::{AllocError, Global};
 use std::marker::{Brand, PhantomData};
 use std::snapshot::Snapshot;
 
-/// The base of a founded table: the writes in its berth's log, and how many of them every crash leaves. Specification
-/// only, never constructed.
+/// The base of a founded table: the writes in its berth's log, how many of them every crash leaves, and how many spare
+/// columns an image in its region may have: those beyond one for each row and each cell that the writes add.
+/// Specification only, never constructed.
 pub struct TableBase {
     pub writes: Writes,
     pub flushed: u64,
+    pub spare: u64,
 }
 
 /// The base of each table of each leaf, or none, by the indices of leaf and table. Whoever makes a table picks it.
@@ -36,14 +38,14 @@ pub struct Origin {
 }
 
 /// The base of the table with the indices in the call.
-pub(crate) trait Place {
+pub(crate) trait HasTableBase {
     ghost use Rattle.std.specs.Prelude.{Option};
     ghost use Rattle.leaf_table.specs.declared.base.TableBase.{TableBase};
 
     ghost base: { Option TableBase };
 }
 
-impl Place for Brand {
+impl HasTableBase for Brand {
     ghost use Rattle.std.specs.Prelude.{None};
 
     ghost base = { None };
@@ -53,12 +55,12 @@ pub(crate) struct At<P> {
     of: PhantomData<P>,
 }
 
-impl<P: Place> Pick<TableBase> for At<P> {
+impl<P: HasTableBase> Pick<TableBase> for At<P> {
     ghost value = { P.base };
 }
 
 // The base that P picks.
-fn pick_base<P: Place>(
+fn pick_base<P: HasTableBase>(
     alloc: Global,
     _leaf: u32,
     _table: u32,

@@ -2,7 +2,7 @@
 ghost use Rattle.std.specs.Prelude.{◌≡◌};
 ghost use Rattle.std.specs.List.{AllByRecursion};
 ghost use Rattle.turnstile.specs.Seats.{IsSeatOf};
-ghost use Rattle.leaf_model.specs.Values.{IsRow, IsTime};
+ghost use Rattle.row_model.specs.Values.{IsRow, IsTime};
 ghost use Rattle.leaf_history.specs.Calls as call;
 ghost use Rattle.leaf_table.specs.Turns.{IsAddOf};
 ghost use Rattle.leaf_table.specs.Calls.{base_seen, IsCaller, SameSeat, Answered};

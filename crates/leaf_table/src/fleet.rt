@@ -186,7 +186,8 @@ fn leaf_tables<N: Founds>(
     requires short { AllByRecursion IsShortName names.now }
     requires share { (1 ≤ share) × (share ≤ 65536) }
     requires callers { HasRows (length names.now) leaf (lists_in callers.old.items) }
-    ensures { IfOk result (λ r. IsPartOfFleet N.base leaf names.now share (length names.now) r.0.items r.1.items (lists_in callers.old.items) (lists_in callers.new.items)) }
+    ensures { IfOk result (λ r. IsPartOfFleet N.base leaf names.now share (length names.now) r.0.items r.1.items
+        (lists_in callers.old.items) (lists_in callers.new.items)) }
 {
     let mut tables = Vec::new(alloc);
     let mut stewards = Vec::new(alloc);

@@ -24,7 +24,7 @@ pub use lent_query::LentQuery;
 pub use replies::{ClosedTable, Reply, Taken};
 pub use shared::{Seat, SharedTable};
 pub use shared_query::SharedQuery;
-pub use turns::{Answer, Turn};
+pub use turns::{Turn, TurnAnswer};
 pub use value::LeafTable;
 
 /// No-op; states what the steward knows of its table after a call of its own.

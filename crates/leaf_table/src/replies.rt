@@ -2,7 +2,7 @@
 ghost use Rattle.leaf_table.specs.Turns.{reply_of};
 ghost use Rattle.leaf_table.specs.Calls.{IsCallersReply, IsToldAs};
 
-use crate::turns::Answer;
+use crate::turns::TurnAnswer;
 use leaf_model::Groups;
 use row_records::Pending;
 use table_state::TableState;
@@ -39,17 +39,17 @@ pub struct ClosedTable {
 }
 
 // The reply of an entry, with the number of the entry.
-pub(crate) fn numbered(number: u64, answer: Answer) -> Reply
+pub(crate) fn numbered(number: u64, answer: TurnAnswer) -> Reply
     requires { IsCallersReply (reply_of answer) }
     ensures { IsToldAs number (reply_of answer) result }
 {
     match answer {
-        Answer::Added { kept, late } => Reply::Added { number, kept, late },
-        Answer::Removed(rows) => Reply::Removed { number, rows },
-        Answer::Groups(groups) => Reply::Groups { number, groups },
-        Answer::Shut => Reply::Shut { number },
-        Answer::Full => Reply::Full { number },
-        Answer::NoMemory => Reply::NoMemory { number },
-        Answer::Took { .. } | Answer::Closed(_) | Answer::Noted => unreachable!(),
+        TurnAnswer::Added { kept, late } => Reply::Added { number, kept, late },
+        TurnAnswer::Removed(rows) => Reply::Removed { number, rows },
+        TurnAnswer::Groups(groups) => Reply::Groups { number, groups },
+        TurnAnswer::Shut => Reply::Shut { number },
+        TurnAnswer::Full => Reply::Full { number },
+        TurnAnswer::NoMemory => Reply::NoMemory { number },
+        TurnAnswer::Took { .. } | TurnAnswer::Closed(_) | TurnAnswer::Noted => unreachable!(),
     }
 }

@@ -1,12 +1,12 @@
 // A shared table: its seats, and one turn at it.
 ghost use Rattle.std.specs.Prelude.{◌≡◌, ◌<◌, ◌≤◌, length, IfOk, IsOk};
-ghost use Rattle.turnstile.specs.Seats.{IsSeatOf, HasRoom, Joined, LearnsOthers, Told, keeps_all_but, given, unused_seat};
+ghost use Rattle.turnstile.specs.Seats.{IsSeatOf, HasRoom, Joined, LearnsOthers, SeesAlso, keeps_all_but, given, unused_seat};
 ghost use Rattle.leaf_table.specs.Turns.{is_founded, MayNow};
 ghost use Rattle.leaf_table.specs.Calls.{base_seen, name_of, state_seen, IsSteward, SeesShut, MadeTurn};
 
 use crate::base::{Founds, origin_of};
 use crate::lent_query::LentQuery;
-use crate::turns::{Answer, Turn};
+use crate::turns::{Turn, TurnAnswer};
 use crate::value::LeafTable;
 use berth_face::{Berth, Gate};
 use leaf_model::{Query, Text};
@@ -116,8 +116,8 @@ impl SharedTable {
     pub fn meet(&self, a: &mut Seat, b: &mut Seat) -> Result<(), AllocError>
         requires seats { IsSeatOf a.old self.now.site × IsSeatOf b.old self.now.site }
         ensures seats { IsSeatOf a.new self.now.site × IsSeatOf b.new self.now.site }
-        ensures a { Told a.old b.old a.new }
-        ensures b { Told b.old a.old b.new }
+        ensures a { SeesAlso a.old b.old a.new }
+        ensures b { SeesAlso b.old a.old b.new }
         ensures others { LearnsOthers a.old a.new × LearnsOthers b.old b.new }
         ensures same { a.new.seen ≡ b.new.seen }
         ensures done { IsOk result }
@@ -139,10 +139,11 @@ impl SharedTable {
         seat: &mut Seat,
         turn: Turn,
         gate: &G,
-    ) -> Answer
+    ) -> TurnAnswer
         requires seat { IsSeatOf seat.old self.now.site }
         requires room { HasRoom seat.old }
-        requires may { MayNow (is_founded (base_seen self.now)) (state_seen (base_seen self.now) seat.old) seat.old.id turn }
+        requires may { MayNow (is_founded (base_seen self.now)) (state_seen (base_seen self.now) seat.old) seat.old.id
+            turn }
         ensures seat { IsSeatOf seat.new self.now.site }
         ensures made { MadeTurn (name_of self.now) (base_seen self.now) C.now seat.old turn result seat.new }
     {
@@ -160,16 +161,16 @@ impl SharedTable {
     }
 
     // Updates the estimate after a turn.
-    fn weigh(&self, opened: u64, answer: &Answer) {
+    fn weigh(&self, opened: u64, answer: &TurnAnswer) {
         match answer {
-            Answer::Added { kept, .. } => {
+            TurnAnswer::Added { kept, .. } => {
                 self.weight.fetch_add(*kept, Ordering::SeqCst);
             }
-            Answer::Removed(rows) => {
+            TurnAnswer::Removed(rows) => {
                 self.weight.fetch_sub(*rows, Ordering::SeqCst);
             }
-            Answer::Closed(_) => self.weight.store(0, Ordering::SeqCst),
-            Answer::Noted if opened > 0 => self.weight.store(opened, Ordering::SeqCst),
+            TurnAnswer::Closed(_) => self.weight.store(0, Ordering::SeqCst),
+            TurnAnswer::Noted if opened > 0 => self.weight.store(opened, Ordering::SeqCst),
             _ => {}
         }
     }
@@ -182,13 +183,15 @@ impl SharedTable {
         turn: Turn,
         _berth: &B,
         gate: &G,
-    ) -> Answer
+    ) -> TurnAnswer
         requires seat { IsSeatOf steward.old self.now.site }
         requires steward { IsSteward steward.old }
-        requires may { MayNow (is_founded (base_seen self.now)) (state_seen (base_seen self.now) steward.old) steward.old.id turn }
+        requires may { MayNow (is_founded (base_seen self.now)) (state_seen (base_seen self.now) steward.old)
+            steward.old.id turn }
         requires clock { C.now ≡ (B.meaning _berth.now).clock }
         ensures seat { IsSeatOf steward.new self.now.site }
-        ensures made { MadeTurn (name_of self.now) (base_seen self.now) (B.meaning _berth.now).clock steward.old turn result steward.new }
+        ensures made { MadeTurn (name_of self.now) (base_seen self.now) (B.meaning _berth.now).clock steward.old turn
+            result steward.new }
     {
         self.turn::<C, R, G>(rt, steward, turn, gate)
     }
@@ -201,12 +204,14 @@ impl SharedTable {
         turn: Turn,
         berth: &B,
         gate: &G,
-    ) -> Answer
+    ) -> TurnAnswer
         requires seat { IsSeatOf steward.old self.now.site }
         requires steward { IsSteward steward.old }
-        requires may { MayNow (is_founded (base_seen self.now)) (state_seen (base_seen self.now) steward.old) steward.old.id turn }
+        requires may { MayNow (is_founded (base_seen self.now)) (state_seen (base_seen self.now) steward.old)
+            steward.old.id turn }
         ensures seat { IsSeatOf steward.new self.now.site }
-        ensures made { MadeTurn (name_of self.now) (base_seen self.now) (B.meaning berth.now).clock steward.old turn result steward.new }
+        ensures made { MadeTurn (name_of self.now) (base_seen self.now) (B.meaning berth.now).clock steward.old turn
+            result steward.new }
     {
         self.turn_at::<Brand, R, B, G>(rt, steward, turn, berth, gate)
     }

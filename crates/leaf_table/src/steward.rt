@@ -9,7 +9,7 @@ ghost use Rattle.leaf_table.specs.Calls.{base_seen, name_of, state_seen, IsStewa
 use crate::callers::WORN;
 use crate::replies::{ClosedTable, Taken};
 use crate::shared::{Seat, SharedTable};
-use crate::turns::{Answer, Turn};
+use crate::turns::{Turn, TurnAnswer};
 use berth_face::{Berth, Gate};
 use std::sync::Wait;
 use std::thread::Threads;
@@ -31,25 +31,26 @@ impl SharedTable {
         ensures same { SameSeat steward.old steward.new }
         ensures open { SeesOpen self.now steward.new }
         ensures taken { HasTaken self.now result steward.new }
-        ensures made { TookBy (name_of self.now) (base_seen self.now) (B.meaning berth.now).clock steward.old result steward.new }
+        ensures made { TookBy (name_of self.now) (base_seen self.now) (B.meaning berth.now).clock steward.old result
+            steward.new }
     {
         if steward.seen() >= WORN {
             return Taken::Worn;
         }
         match self.steward_turn(rt, steward, Turn::Take, berth, gate) {
-            Answer::Took { writes, pending } => Taken::Took {
+            TurnAnswer::Took { writes, pending } => Taken::Took {
                 number: steward.seen(),
                 writes,
                 pending,
             },
-            Answer::Added { .. }
-            | Answer::Removed(_)
-            | Answer::Groups(_)
-            | Answer::Shut
-            | Answer::Full
-            | Answer::NoMemory
-            | Answer::Closed(_)
-            | Answer::Noted => unreachable!(),
+            TurnAnswer::Added { .. }
+            | TurnAnswer::Removed(_)
+            | TurnAnswer::Groups(_)
+            | TurnAnswer::Shut
+            | TurnAnswer::Full
+            | TurnAnswer::NoMemory
+            | TurnAnswer::Closed(_)
+            | TurnAnswer::Noted => unreachable!(),
         }
     }
 
@@ -68,8 +69,10 @@ impl SharedTable {
         ensures seat { IsSeatOf steward.new self.now.site }
         ensures same { SameSeat steward.old steward.new }
         ensures number { result ≡ length steward.new.seen }
-        ensures live { (state_seen (base_seen self.now) steward.new).live ≡ (state_seen (base_seen self.now) steward.old).live }
-        ensures made { Made (base_seen self.now) (B.meaning berth.now).clock steward.old (call.Flushed writes) reply.Noted steward.new }
+        ensures live { (state_seen (base_seen self.now) steward.new).live
+            ≡ (state_seen (base_seen self.now) steward.old).live }
+        ensures made { Made (base_seen self.now) (B.meaning berth.now).clock steward.old (call.Flushed writes)
+            reply.Noted steward.new }
     {
         self.steward_turn(rt, steward, Turn::Flushed(writes), berth, gate);
         steward.seen()
@@ -89,22 +92,23 @@ impl SharedTable {
         ensures seat { IsSeatOf steward.new self.now.site }
         ensures same { SameSeat steward.old steward.new }
         ensures shut { SeesShut self.now steward.new }
-        ensures closed { ClosedBy (name_of self.now) (base_seen self.now) (B.meaning berth.now).clock steward.old result steward.new }
+        ensures closed { ClosedBy (name_of self.now) (base_seen self.now) (B.meaning berth.now).clock steward.old result
+            steward.new }
     {
         match self.steward_turn(rt, steward, Turn::Shut, berth, gate) {
-            Answer::Closed(table) => ClosedTable {
+            TurnAnswer::Closed(table) => ClosedTable {
                 number: steward.seen(),
                 writes: table.writes(),
                 table,
             },
-            Answer::Added { .. }
-            | Answer::Removed(_)
-            | Answer::Groups(_)
-            | Answer::Shut
-            | Answer::Full
-            | Answer::NoMemory
-            | Answer::Took { .. }
-            | Answer::Noted => unreachable!(),
+            TurnAnswer::Added { .. }
+            | TurnAnswer::Removed(_)
+            | TurnAnswer::Groups(_)
+            | TurnAnswer::Shut
+            | TurnAnswer::Full
+            | TurnAnswer::NoMemory
+            | TurnAnswer::Took { .. }
+            | TurnAnswer::Noted => unreachable!(),
         }
     }
 
@@ -123,7 +127,8 @@ impl SharedTable {
         ensures same { SameSeat steward.old steward.new }
         ensures number { result ≡ length steward.new.seen }
         ensures shut { SeesShut self.now steward.new }
-        ensures made { Made (base_seen self.now) (B.meaning berth.now).clock steward.old call.Done reply.Noted steward.new }
+        ensures made { Made (base_seen self.now) (B.meaning berth.now).clock steward.old call.Done reply.Noted
+            steward.new }
     {
         self.steward_turn(rt, steward, Turn::Done, berth, gate);
         steward.seen()
@@ -143,11 +148,13 @@ impl SharedTable {
         requires seat { IsSeatOf steward.old self.now.site }
         requires steward { IsSteward steward.old }
         requires shut { SeesShut self.now steward.old }
-        requires content { MayHandIn (is_founded (base_seen self.now)) (state_seen (base_seen self.now) steward.old) writes table }
+        requires content { MayHandIn (is_founded (base_seen self.now)) (state_seen (base_seen self.now) steward.old)
+            writes table }
         ensures seat { IsSeatOf steward.new self.now.site }
         ensures same { SameSeat steward.old steward.new }
         ensures open { OnOk result (SeesOpen self.now steward.new) }
-        ensures made { ReopenedBy (base_seen self.now) (B.meaning berth.now).clock steward.old writes table result steward.new }
+        ensures made { ReopenedBy (base_seen self.now) (B.meaning berth.now).clock steward.old writes table result
+            steward.new }
     {
         if steward.seen() >= WORN {
             return Err(table);

@@ -33,7 +33,7 @@ pub enum Turn {
 
 /// The answer of a turn: a reply without its number, or what goes to the steward.
 #[derive(Drop)]
-pub enum Answer {
+pub enum TurnAnswer {
     Added { kept: u64, late: u64 },
     Removed(u64),
     Groups(Groups),

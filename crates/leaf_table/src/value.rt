@@ -1,16 +1,16 @@
 // The value behind the turnstile.
 ghost use Rattle.std.specs.Prelude.{◌≡◌, ◌⊎◌, true, false, Some, None};
 ghost use Rattle.std.specs.List.{AllByRecursion};
-ghost use Rattle.leaf_model.specs.Values.{IsRow, IsTime};
+ghost use Rattle.row_model.specs.Values.{IsRow, IsTime};
 ghost use Rattle.leaf_model.specs.declared.writes.Write.TheVariants as write;
 ghost use Rattle.table_state.specs.Tables.{MayWrite};
-ghost use Rattle.leaf_table.specs.declared.turns.Answer.TheVariants.{Noted};
+ghost use Rattle.leaf_table.specs.declared.turns.TurnAnswer.TheVariants.{Noted};
 ghost use Rattle.leaf_table.specs.Steps.{AddsTo, RemovesFrom, AsksOf, TakesFrom, Shuts};
 
 use crate::asking::groups_of;
 use crate::base::Origin;
 use crate::shared_query::SharedQuery;
-use crate::turns::{Answer, Turn};
+use crate::turns::{Turn, TurnAnswer};
 use leaf_model::{Rows, Text};
 use std::alloc::Global;
 use std::marker::Brand;
@@ -21,7 +21,7 @@ use std::thread::Threads;
 use table_state::{AddFault, TableState};
 use turnstile::Object;
 
-/// The value behind a turnstile. While the table is shut, it is empty here: the steward has its content.
+/// The object that a turnstile guards. It is empty while the table is shut: the steward then has its content.
 #[derive(Drop)]
 pub struct LeafTable {
     pub(crate) alloc: Global,
@@ -31,26 +31,26 @@ pub struct LeafTable {
 }
 
 impl LeafTable {
-    fn add(&mut self, rows: Rows) -> Answer
+    fn add(&mut self, rows: Rows) -> TurnAnswer
         requires may { self.old.live ≡ true → MayWrite self.old.name self.old.table }
         requires rows { AllByRecursion IsRow rows }
         ensures { AddsTo self.old rows result self.new }
     {
         if !self.live {
-            return Answer::Shut;
+            return TurnAnswer::Shut;
         }
         match self.table.add(&self.name, rows) {
-            Ok(added) => Answer::Added {
+            Ok(added) => TurnAnswer::Added {
                 kept: added.kept,
                 late: added.late,
             },
-            Err(AddFault::Full) => Answer::Full,
-            Err(AddFault::NoMemory) => Answer::NoMemory,
+            Err(AddFault::Full) => TurnAnswer::Full,
+            Err(AddFault::NoMemory) => TurnAnswer::NoMemory,
         }
     }
 
     // Adds the copy of the rows. NoMemory if there is none.
-    fn add_copy(&mut self, rows: Snapshot<Rows>, copy: Option<Rows>) -> Answer
+    fn add_copy(&mut self, rows: Snapshot<Rows>, copy: Option<Rows>) -> TurnAnswer
         requires may { self.old.live ≡ true → MayWrite self.old.name self.old.table }
         requires rows { AllByRecursion IsRow rows.value }
         requires copy { (copy ≡ None) ⊎ (copy ≡ Some rows.value) }
@@ -58,86 +58,86 @@ impl LeafTable {
     {
         match copy {
             Some(copy) => self.add(copy),
-            None if self.live => Answer::NoMemory,
-            None => Answer::Shut,
+            None if self.live => TurnAnswer::NoMemory,
+            None => TurnAnswer::Shut,
         }
     }
 
-    fn expire(&mut self, horizon: i64) -> Answer
+    fn expire(&mut self, horizon: i64) -> TurnAnswer
         requires may { self.old.live ≡ true → MayWrite self.old.name self.old.table }
         requires horizon { IsTime horizon }
         ensures { RemovesFrom self.old (write.Expire horizon) result self.new }
     {
         if !self.live {
-            return Answer::Shut;
+            return TurnAnswer::Shut;
         }
         match self.table.expire(&self.name, horizon) {
-            Ok(rows) => Answer::Removed(rows),
-            Err(_) => Answer::NoMemory,
+            Ok(rows) => TurnAnswer::Removed(rows),
+            Err(_) => TurnAnswer::NoMemory,
         }
     }
 
-    fn keep(&mut self, n: u64) -> Answer
+    fn keep(&mut self, n: u64) -> TurnAnswer
         requires may { self.old.live ≡ true → MayWrite self.old.name self.old.table }
         ensures { RemovesFrom self.old (write.Keep n) result self.new }
     {
         if !self.live {
-            return Answer::Shut;
+            return TurnAnswer::Shut;
         }
         match self.table.keep(&self.name, n) {
-            Ok(rows) => Answer::Removed(rows),
-            Err(_) => Answer::NoMemory,
+            Ok(rows) => TurnAnswer::Removed(rows),
+            Err(_) => TurnAnswer::NoMemory,
         }
     }
 
-    fn ask<R: Threads + Sync>(&self, rt: &R, copy: Option<SharedQuery>) -> Answer
+    fn ask<R: Threads + Sync>(&self, rt: &R, copy: Option<SharedQuery>) -> TurnAnswer
         ensures { AsksOf self.now copy result }
     {
         if !self.live {
-            return Answer::Shut;
+            return TurnAnswer::Shut;
         }
         let query = match copy {
             Some(query) => query,
-            None => return Answer::NoMemory,
+            None => return TurnAnswer::NoMemory,
         };
         match groups_of::<Brand, R>(rt, self.alloc, &query, &self.table, Blank::new(1)) {
-            Ok(groups) => Answer::Groups(groups),
-            Err(_) => Answer::NoMemory,
+            Ok(groups) => TurnAnswer::Groups(groups),
+            Err(_) => TurnAnswer::NoMemory,
         }
     }
 
-    fn take(&mut self) -> Answer
+    fn take(&mut self) -> TurnAnswer
         ensures { TakesFrom self.old result self.new }
     {
         let writes = self.table.writes();
-        Answer::Took {
+        TurnAnswer::Took {
             writes,
             pending: self.table.take_pending(),
         }
     }
 
-    fn shut(&mut self) -> Answer
+    fn shut(&mut self) -> TurnAnswer
         ensures { Shuts self.old result self.new }
     {
         self.live = false;
         let none = TableState::new(self.alloc);
-        Answer::Closed(replace(&mut self.table, none))
+        TurnAnswer::Closed(replace(&mut self.table, none))
     }
 
-    fn open(&mut self, table: TableState) -> Answer
+    fn open(&mut self, table: TableState) -> TurnAnswer
         ensures answer { result ≡ Noted }
         ensures value { self.new ≡ record self.old { live = true; table = table } }
     {
         self.live = true;
         self.table = table;
-        Answer::Noted
+        TurnAnswer::Noted
     }
 }
 
 impl Object for LeafTable {
     type Call = Turn;
 
-    type Reply = Answer;
+    type Reply = TurnAnswer;
 
     type Base = Origin;
 
@@ -149,7 +149,7 @@ impl Object for LeafTable {
 
     ghost may = { λ b h by turn. MayTurn b.base h by turn };
 
-    fn step<R: Threads + Sync>(&mut self, rt: &R, call: Turn, _number: u64) -> Answer {
+    fn step<R: Threads + Sync>(&mut self, rt: &R, call: Turn, _number: u64) -> TurnAnswer {
         match call {
             Turn::Add(rows) => self.add(rows),
             Turn::AddCopy { rows, copy } => self.add_copy(rows, copy),
@@ -157,9 +157,9 @@ impl Object for LeafTable {
             Turn::Keep(n) => self.keep(n),
             Turn::Ask { query: _, copy } => self.ask(rt, copy),
             Turn::Take => self.take(),
-            Turn::Flushed(_) => Answer::Noted,
+            Turn::Flushed(_) => TurnAnswer::Noted,
             Turn::Shut => self.shut(),
-            Turn::Done => Answer::Noted,
+            Turn::Done => TurnAnswer::Noted,
             Turn::Open { writes: _, table } => self.open(table),
         }
     }

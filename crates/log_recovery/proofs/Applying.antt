@@ -15,18 +15,18 @@ use Rattle.table_state.specs.declared.fault.AddFault.{AddFault}
 use Rattle.table_state.specs.declared.fault.AddFault.TheVariants as add
 use Rattle.log_recovery.specs.Faults.{told_of_add}
 use Rattle.disk_backup.specs.Logs.{IsBounded, writes_of}
-use Rattle.leaf_model.specs.Names.{AreDistinct}
+use Rattle.row_model.specs.Names.{AreDistinct}
 use Rattle.disk_backup.proofs.SoundLogs.{writes_append}
-use Rattle.log_recovery.specs.Recovery.{table_of, tables_of, is_stranger, stranger_in, IsTooLong}
+use Rattle.log_recovery.specs.Recovery.{recovered_table, recovered_tables, is_stranger_record, stranger_in, IsTooLong}
 use Rattle.log_recovery.specs.Applying.{Applies, HasApplied, ReplaysAll, count_of}
 use Rattle.log_recovery.proofs.Replaying.{table_after}
 use Rattle.log_recovery.proofs.Places.{StandsAt, differ}
 
 -- ---- the tables of records have no store
 
-pub bare_tables : (names : List (List ℕ)) (records : List LogRecord) → map bare (tables_of names records) ≡ tables_of names records
+pub bare_tables : (names : List (List ℕ)) (records : List LogRecord) → map bare (recovered_tables names records) ≡ recovered_tables names records
 bare_tables [] records = refl
-bare_tables (n ∷ names) records = ap (λ (ts : List Table). table_of records n ∷ ts) (bare_tables names records)
+bare_tables (n ∷ names) records = ap (λ (ts : List Table). recovered_table records n ∷ ts) (bare_tables names records)
 
 -- ---- the writes of one name
 
@@ -69,13 +69,13 @@ module _ (records : List LogRecord) (r : LogRecord) where
   abbrev with_both : Contents → ℕ → Table
   with_both c n = record { contents = c; writes = n; pending = None; store = no_store }
 
-  table_here : table_after (table_of records r.name) r.writes ≡ table_of more r.name
+  table_here : table_after (recovered_table records r.name) r.writes ≡ recovered_table more r.name
   table_here = ap₂ with_both (sym (fold-append content_after (content []) (writes_of r.name records) r.writes)) (sym (length-append (writes_of r.name records) r.writes)) ∙ ap with_writes (sym writes_here)
 
-  table_other : (name : List ℕ) → name ≢ r.name → table_of more name ≡ table_of records name
+  table_other : (name : List ℕ) → name ≢ r.name → recovered_table more name ≡ recovered_table records name
   table_other name other = ap with_writes (writes_other name (differ name r.name (bytes_eq name r.name) refl other))
 
-  others_same : (names : List (List ℕ)) → AllByRecursion (λ other. other ≢ r.name) names → tables_of names records ≡ tables_of names more
+  others_same : (names : List (List ℕ)) → AllByRecursion (λ other. other ≢ r.name) names → recovered_tables names records ≡ recovered_tables names more
   others_same [] others = refl
   others_same (n ∷ ns) others = ap₂ (λ (t : Table) (ts : List Table). t ∷ ts) (sym (table_other n others.0)) (others_same ns others.1)
 
@@ -84,11 +84,11 @@ module _ (records : List LogRecord) (r : LogRecord) where
   apart n (m ∷ ns) zero others h e same = others.0 (e ∙ sym same)
   apart n (m ∷ ns) (suc i) others h e same = apart n ns i others.1 (omega (arith, h)) e same
 
-  set_here : (names : List (List ℕ)) (i : ℕ) (now : Table) → AreDistinct names → i < length names → get_or names i [] ≡ r.name → now ≡ table_of more r.name
-      → set (tables_of names records) i now ≡ tables_of names more
+  set_here : (names : List (List ℕ)) (i : ℕ) (now : Table) → AreDistinct names → i < length names → get_or names i [] ≡ r.name → now ≡ recovered_table more r.name
+      → set (recovered_tables names records) i now ≡ recovered_tables names more
   set_here [] i now distinct h e is = absurd (omega (arith, h))
   set_here (n ∷ ns) zero now distinct h e is =
-      ap₂ (λ (t : Table) (ts : List Table). t ∷ ts) (is ∙ ap (table_of more) (sym e)) (others_same ns (subst (λ (m : List ℕ). AllByRecursion (λ other. other ≢ m) ns) e distinct.0))
+      ap₂ (λ (t : Table) (ts : List Table). t ∷ ts) (is ∙ ap (recovered_table more) (sym e)) (others_same ns (subst (λ (m : List ℕ). AllByRecursion (λ other. other ≢ m) ns) e distinct.0))
   set_here (n ∷ ns) (suc i) now distinct h e is =
       ap₂ (λ (t : Table) (ts : List Table). t ∷ ts) (sym (table_other n (apart n ns i distinct.0 (omega (arith, h)) e))) (set_here ns i now distinct.1 (omega (arith, h)) e is)
 
@@ -108,7 +108,7 @@ module _ (records : List LogRecord) (r : LogRecord) where
 
   known_more : (names : List (List ℕ)) → stranger_in names records ≡ None → list_any (bytes_eq r.name) names ≡ true → stranger_in names more ≡ None
   known_more names none found =
-      ap (λ (o : Option LogRecord). option_map (λ (s : LogRecord). s.name) o) (find_more (is_stranger names) records (none_of (find (is_stranger names) records) none) (ap not found))
+      ap (λ (o : Option LogRecord). option_map (λ (s : LogRecord). s.name) o) (find_more (is_stranger_record names) records (none_of (find (is_stranger_record names) records) none) (ap not found))
 
   take_beyond : (k : ℕ) (a b : List Write) → length a ≤ k → take k (a ++ b) ≡ a ++ take (k - length a) b
   take_beyond k [] b h = let same : k ≡ k - 0 = omega arith in ap (λ (n : ℕ). take n b) same
@@ -140,8 +140,8 @@ module _ (records : List LogRecord) (r : LogRecord) where
   -- ---- together
 
   module _ (names : List (List ℕ)) (tables : List Table) (so_far : HasApplied names records tables) (i : ℕ) (at : StandsAt r.name names i) (before : Table) (read : before ≡ get_or tables i before) where
-    pub before_is : before ≡ table_of records r.name
-    before_is = read ∙ ap (λ (ts : List Table). get_or ts i before) so_far.tables_are ∙ get_or-map (table_of records) names i [] before at.within ∙ ap (table_of records) at.there
+    pub before_is : before ≡ recovered_table records r.name
+    before_is = read ∙ ap (λ (ts : List Table). get_or ts i before) so_far.tables_are ∙ get_or-map (recovered_table records) names i [] before at.within ∙ ap (recovered_table records) at.there
 
     pub before_few : length before.contents.rows ≤ 2 ^ 40
     before_few =

@@ -9,7 +9,7 @@ use Rattle.row_records.specs.Records.{LogRecord}
 use Rattle.table_state.specs.Tables.{Table, added_by, added_count, columns_most}
 use Rattle.disk_backup.specs.Logs.{writes_of}
 use Rattle.disk_backup.specs.State.{LogState}
-use Rattle.log_recovery.specs.Recovery.{AreFew, IsRecovered, tables_of}
+use Rattle.log_recovery.specs.Recovery.{AreFew, IsRecovered, recovered_tables}
 use Rattle.log_recovery.proofs.Applying.{only_by, writes_here}
 use Rattle.log_recovery.proofs.Places.{StandsAt}
 
@@ -82,12 +82,12 @@ module _ (records : List LogRecord) (r : LogRecord) where
 
 -- ---- tables that had no write
 
-pub few_none : (names : List (List ℕ)) → AreFew names [] (map most (tables_of names []))
+pub few_none : (names : List (List ℕ)) → AreFew names [] (map most (recovered_tables names []))
 few_none [] place name n named at = absurd cc
 few_none (m ∷ names) zero name n named at = omega (arith, some_is 0 n at)
 few_none (m ∷ names) (suc place) name n named at = few_none names place name n named at
 
-pub few_empty : (names : List (List ℕ)) (items : List Table) → items ≡ tables_of names [] → AreFew names [] (map most items)
+pub few_empty : (names : List (List ℕ)) (items : List Table) → items ≡ recovered_tables names [] → AreFew names [] (map most items)
 few_empty names items is = subst (λ (ts : List Table). AreFew names [] (map most ts)) (sym is) (few_none names)
 
 -- ---- a log that was read to its end

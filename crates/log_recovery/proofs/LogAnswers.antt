@@ -9,13 +9,13 @@ use Rattle.row_records.specs.Records.{LogRecord}
 use Rattle.table_state.specs.Tables.{Table}
 use Rattle.disk_backup.specs.Logs.{IsBounded, IsSound, writes_of}
 use Rattle.disk_backup.specs.State.{LogState}
-use Rattle.disk_backup.specs.Scanning.{Scanned, begun}
+use Rattle.disk_backup.specs.Scanning.{Scanned, scanned_disk}
 use Rattle.disk_backup.proofs.Logs.{closed_is_log}
 use Rattle.disk_backup.proofs.Scanned.{scanned_is_front}
 use Rattle.disk_backup.proofs.SoundLogs.{writes_append}
 use Rattle.disk_backup.proofs.InOrder.{scans_in_order, damaged_last}
 use Rattle.log_recovery.specs.declared.fault.RecoveryFault.TheVariants as found
-use Rattle.log_recovery.specs.Recovery.{ComesTo, IsDamagedLog, IsRecovered, IsRecoveryRefusal, IsTooLong, is_stranger, stranger_in}
+use Rattle.log_recovery.specs.Recovery.{ComesTo, IsDamagedLog, IsRecovered, IsRecoveryRefusal, IsTooLong, is_stranger_record, stranger_in}
 use Rattle.log_recovery.proofs.Reading.{never_refused}
 
 -- ---- lists that end in one element
@@ -53,23 +53,23 @@ module _ (names : List (List ℕ)) where
   none_of f None e = refl
   none_of f (Some x) e = absurd cc
 
-  known_by : (records : List LogRecord) (r : LogRecord) (more : List LogRecord) → find (is_stranger names) (records ++ r ∷ more) ≡ None → is_stranger names r ≡ false
-  known_by [] r more none = first (is_stranger names r) none
+  known_by : (records : List LogRecord) (r : LogRecord) (more : List LogRecord) → find (is_stranger_record names) (records ++ r ∷ more) ≡ None → is_stranger_record names r ≡ false
+  known_by [] r more none = first (is_stranger_record names r) none
     where
-      first : (b : Bool) → cond b (Some r) (find (is_stranger names) more) ≡ None → b ≡ false
+      first : (b : Bool) → cond b (Some r) (find (is_stranger_record names) more) ≡ None → b ≡ false
       first true e = absurd cc
       first false e = refl
-  known_by (s ∷ records) r more none = known_by records r more (rest (is_stranger names s) none)
+  known_by (s ∷ records) r more none = known_by records r more (rest (is_stranger_record names s) none)
     where
-      rest : (b : Bool) → cond b (Some s) (find (is_stranger names) (records ++ r ∷ more)) ≡ None → find (is_stranger names) (records ++ r ∷ more) ≡ None
+      rest : (b : Bool) → cond b (Some s) (find (is_stranger_record names) (records ++ r ∷ more)) ≡ None → find (is_stranger_record names) (records ++ r ∷ more) ≡ None
       rest true e = absurd cc
       rest false e = e
 
-  known : (records : List LogRecord) (r : LogRecord) (more : List LogRecord) → stranger_in names (records ++ r ∷ more) ≡ None → is_stranger names r ≡ false
-  known records r more none = known_by records r more (none_of (λ (s : LogRecord). s.name) (find (is_stranger names) (records ++ r ∷ more)) none)
+  known : (records : List LogRecord) (r : LogRecord) (more : List LogRecord) → stranger_in names (records ++ r ∷ more) ≡ None → is_stranger_record names r ≡ false
+  known records r more none = known_by records r more (none_of (λ (s : LogRecord). s.name) (find (is_stranger_record names) (records ++ r ∷ more)) none)
 
   -- a stranger's record is none that is known
-  other : (r : LogRecord) (name : List ℕ) → r.name ≡ name → list_any (bytes_eq name) names ≡ false → is_stranger names r ≡ false → ⊥
+  other : (r : LogRecord) (name : List ℕ) → r.name ≡ name → list_any (bytes_eq name) names ≡ false → is_stranger_record names r ≡ false → ⊥
   other r name is none known = clash (ap (λ (n : List ℕ). list_any (bytes_eq n) names) is ∙ none) known
     where
       clash : (list_any (bytes_eq r.name) names) ≡ false → not (list_any (bytes_eq r.name) names) ≡ false → ⊥
@@ -164,12 +164,12 @@ module _ (names : List (List ℕ)) (disk : List ℕ) where
 
 -- ---- a log that was recovered is sound
 
-begun_again : (disk : List ℕ) → begun (begun disk) ≡ begun disk
+begun_again : (disk : List ℕ) → scanned_disk (scanned_disk disk) ≡ scanned_disk disk
 begun_again [] = refl
 begun_again (b ∷ []) = refl
 begun_again (b ∷ c ∷ rest) = refl
 
-pub recovered_not_damaged : (names : List (List ℕ)) (disk : List ℕ) (tables : List Table) (log : LogState) → IsRecovered names (begun disk) tables log → IsRecoveryRefusal names (begun disk) found.DiskDamaged → ⊥
+pub recovered_not_damaged : (names : List (List ℕ)) (disk : List ℕ) (tables : List Table) (log : LogState) → IsRecovered names (scanned_disk disk) tables log → IsRecoveryRefusal names (scanned_disk disk) found.DiskDamaged → ⊥
 recovered_not_damaged names disk tables log all refused =
-    let sound : IsSound (begun disk) = (all.records, log.end, closed_is_log (begun disk) all.records log.end all.closed, all.bounded) in
-    never_refused names (begun disk) sound (subst (λ (d : List ℕ). IsRecoveryRefusal names d found.DiskDamaged) (sym (begun_again disk)) refused)
+    let sound : IsSound (scanned_disk disk) = (all.records, log.end, closed_is_log (scanned_disk disk) all.records log.end all.closed, all.bounded) in
+    never_refused names (scanned_disk disk) sound (subst (λ (d : List ℕ). IsRecoveryRefusal names d found.DiskDamaged) (sym (begun_again disk)) refused)

@@ -12,13 +12,13 @@ use Rattle.disk_backup.specs.declared.step.FlushRecord.{FlushRecord}
 use Rattle.disk_backup.specs.declared.step.LogStep.TheVariants.{Record}
 use Rattle.disk_backup.specs.Logs.{ClosedLog, IsSound, open_records, writes_of}
 use Rattle.disk_backup.specs.State.{LogState, ScanState}
-use Rattle.disk_backup.specs.Scanning.{Scanned, StepIs, ScansOn, begun, record_is}
+use Rattle.disk_backup.specs.Scanning.{Scanned, StepIs, ScansOn, scanned_disk, record_is}
 use Rattle.disk_backup.proofs.Logs.{end_snoc}
 use Rattle.disk_backup.proofs.Beginning.{begun_short, begun_long}
 use Rattle.disk_backup.proofs.Scanned.{never_damaged, scanned_is_front}
 use Rattle.log_recovery.specs.declared.fault.RecoveryFault.{RecoveryFault}
 use Rattle.log_recovery.specs.declared.fault.RecoveryFault.TheVariants.{DiskDamaged, DiskFault, NoMemory, Stranger}
-use Rattle.log_recovery.specs.Recovery.{AreFew, IfRead, IsRecovered, IsTooLong, IsRecoveryRefusal, tables_of}
+use Rattle.log_recovery.specs.Recovery.{AreFew, IfRead, IsRecovered, IsTooLong, IsRecoveryRefusal, recovered_tables}
 use Rattle.log_recovery.specs.Applying.{HasApplied, Reached, count_of}
 use Rattle.disk_backup.proofs.SoundLogs.{writes_append}
 use Rattle.log_recovery.proofs.Applying.{few_writes, count_more}
@@ -30,7 +30,7 @@ log_ended end = record { end = end; owed = None; laid = false }
 module _ (names : List (List ℕ)) (tells : Bool) (disk : List ℕ) where
   -- ---- the first gate
 
-  pub reached_none : (scan : ScanState) → scan.at ≡ 0 → (IsTrue tells → (scan.len ≡ length disk) × (0 < length disk)) → (columns : List ℕ) → AreFew names [] columns → Reached names tells disk scan (tables_of names []) columns
+  pub reached_none : (scan : ScanState) → scan.at ≡ 0 → (IsTrue tells → (scan.len ≡ length disk) × (0 < length disk)) → (columns : List ℕ) → AreFew names [] columns → Reached names tells disk scan (recovered_tables names []) columns
   reached_none scan start whole columns columns_few = record {
     records = [];
     applied = record {
@@ -76,7 +76,7 @@ module _ (names : List (List ℕ)) (tells : Bool) (disk : List ℕ) where
     abbrev IsSettled : Table → Type 0
     IsSettled t = (t.pending ≡ None) × (t.writes < 2 ^ 63)
 
-    each_settled : (ns : List (List ℕ)) → count_of so_far.records < 2 ^ 63 → AllByRecursion IsSettled (tables_of ns so_far.records)
+    each_settled : (ns : List (List ℕ)) → count_of so_far.records < 2 ^ 63 → AllByRecursion IsSettled (recovered_tables ns so_far.records)
     each_settled [] few = tt
     each_settled (n ∷ ns) few = ((refl, omega (arith, few, few_writes n so_far.records)), each_settled ns few)
 
@@ -115,7 +115,7 @@ never_refused_short names (inl cut) = nothing_there cut.at cut.damaged.rest cut.
 never_refused_short names (inr passed) = short_whole passed.0 passed.1 passed.2.at passed.2.scanned
 
 -- of a sound log no damage is told
-pub never_refused : (names : List (List ℕ)) (disk : List ℕ) → IsSound disk → IsRecoveryRefusal names (begun disk) DiskDamaged → ⊥
+pub never_refused : (names : List (List ℕ)) (disk : List ℕ) → IsSound disk → IsRecoveryRefusal names (scanned_disk disk) DiskDamaged → ⊥
 never_refused names disk sound refused = elim (cases_lt 1 (length disk)) [
   | inl long ↦ never_refused_long names disk sound long (subst (λ (d : List ℕ). IsRecoveryRefusal names d DiskDamaged) (begun_long disk long) refused)
   | inr short ↦ never_refused_short names (subst (λ (d : List ℕ). IsRecoveryRefusal names d DiskDamaged) (begun_short disk short) refused)

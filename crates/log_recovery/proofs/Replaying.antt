@@ -6,7 +6,7 @@ use Rattle.std.proofs.lemmas.List.Sums.{fold-append}
 use Rattle.std.specs.Prelude.{Err}
 use Rattle.std.specs.List.{AllByRecursion}
 use Rattle.leaf_model.specs.declared.writes.Write.{Write}
-use Rattle.leaf_model.specs.Values.{IsWrite}
+use Rattle.leaf_model.specs.Writes.{IsWrite}
 use Rattle.leaf_model.specs.Content.{Contents, content_after, content_from}
 use Rattle.table_state.specs.Tables.{Table, bare, no_store, replayed, Replays}
 use Rattle.table_state.specs.declared.fault.AddFault.{AddFault}

@@ -12,7 +12,7 @@ use Rattle.disk_backup.specs.State.{ScanState}
 use Rattle.disk_backup.specs.Scanning.{Scanned}
 use Rattle.log_recovery.specs.declared.fault.RecoveryFault.{RecoveryFault}
 use Rattle.log_recovery.specs.declared.fault.RecoveryFault.TheVariants.{DiskFault, DiskDamaged, Stranger, NoMemory}
-use Rattle.log_recovery.specs.Recovery.{AreFew, IsTooLong, stranger_in, tables_of}
+use Rattle.log_recovery.specs.Recovery.{AreFew, IsTooLong, stranger_in, recovered_tables}
 
 -- the writes are replayed: after each the table has at most 2^40 rows, or a prefix of them would take it past that
 abbrev pub ReplaysAll : Table → List Write → Result (Unit {0}) AddFault → Table → Type 0
@@ -25,7 +25,7 @@ ReplaysAll t writes (Err add.NoMemory) now = ⊤
 pub record HasApplied (names : List (List ℕ)) (records : List LogRecord) (tables : List Table) : Type 0 where
   pub known : stranger_in names records ≡ None
   pub bounded : IsBounded records
-  pub tables_are : tables ≡ tables_of names records
+  pub tables_are : tables ≡ recovered_tables names records
 
 -- how many writes the records have
 abbrev pub count_of : List LogRecord → ℕ

@@ -11,23 +11,23 @@ use Rattle.log_recovery.specs.declared.fault.RecoveryFault.{RecoveryFault}
 use Rattle.log_recovery.specs.declared.fault.RecoveryFault.TheVariants.{DiskFault, DiskDamaged, Stranger, NoMemory}
 
 -- a table of this name after the writes of the records
-abbrev pub table_of : List LogRecord → List ℕ → Table
-table_of records name = record { contents = content (writes_of name records); writes = length (writes_of name records); pending = None; store = no_store }
+abbrev pub recovered_table : List LogRecord → List ℕ → Table
+recovered_table records name = record { contents = content (writes_of name records); writes = length (writes_of name records); pending = None; store = no_store }
 
 -- the tables of these names, in their order
-abbrev pub tables_of : List (List ℕ) → List LogRecord → List Table
-tables_of names records = map (table_of records) names
+abbrev pub recovered_tables : List (List ℕ) → List LogRecord → List Table
+recovered_tables names records = map (recovered_table records) names
 
 -- each table has at most a column for each row and each cell that the records add to it
 abbrev pub AreFew : List (List ℕ) → List LogRecord → List ℕ → Type 0
 AreFew names records columns = (place : ℕ) (name : List ℕ) (n : ℕ) → slice_get names place ≡ Some name → slice_get columns place ≡ Some n → n ≤ added_count (writes_of name records)
 
-abbrev pub is_stranger : List (List ℕ) → LogRecord → Bool
-is_stranger names r = not (list_any (bytes_eq r.name) names)
+abbrev pub is_stranger_record : List (List ℕ) → LogRecord → Bool
+is_stranger_record names r = not (list_any (bytes_eq r.name) names)
 
 -- the name of the first record that is of no table with one of these names
 abbrev pub stranger_in : List (List ℕ) → List LogRecord → Option (List ℕ)
-stranger_in names records = option_map (λ (r : LogRecord). r.name) (find (is_stranger names) records)
+stranger_in names records = option_map (λ (r : LogRecord). r.name) (find (is_stranger_record names) records)
 
 -- the disk's log was read to its end: each record is of one of the tables, and no table grew too long
 pub record IsRecovered (names : List (List ℕ)) (disk : List ℕ) (tables : List Table) (log : LogState) : Type 0 where
@@ -35,7 +35,7 @@ pub record IsRecovered (names : List (List ℕ)) (disk : List ℕ) (tables : Lis
   pub closed : ClosedLog records log.end disk
   pub known : stranger_in names records ≡ None
   pub bounded : IsBounded records
-  pub tables_are : tables ≡ tables_of names records
+  pub tables_are : tables ≡ recovered_tables names records
   pub log_is : log ≡ record { end = log.end; owed = None; laid = false }
 
 -- the next record is r; each record before it was of one of the tables, and no table grew too long
@@ -67,11 +67,11 @@ IsRecoveryRefusal names disk DiskFault = ⊤
 IsRecoveryRefusal names disk NoMemory = ⊤
 
 -- on every berth: a stranger's name is UTF-8 of at most 255 bytes
-abbrev pub TellsName : RecoveryFault → Type 0
-TellsName (Stranger name) = IsUtf8 name × (length name ≤ 255)
-TellsName DiskDamaged = ⊤
-TellsName DiskFault = ⊤
-TellsName NoMemory = ⊤
+abbrev pub TellsLogName : RecoveryFault → Type 0
+TellsLogName (Stranger name) = IsUtf8 name × (length name ≤ 255)
+TellsLogName DiskDamaged = ⊤
+TellsLogName DiskFault = ⊤
+TellsLogName NoMemory = ⊤
 
 -- a claim about the refusals that the log's bytes decide
 abbrev pub IfRead : RecoveryFault → Type 0 → Type 0

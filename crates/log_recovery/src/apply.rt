@@ -1,12 +1,12 @@
 // Applying a record to the table of its name.
 ghost use Rattle.std.specs.Prelude.{◌≡◌, ◌+◌, ◌-◌, ◌<◌, ◌≤◌, ◌^◌, List, [], ◌∷◌, ◌++◌, length, map, IfErr, IfOk, OnOk};
 ghost use Rattle.std.specs.List.{AllByRecursion};
-ghost use Rattle.leaf_model.specs.Values.{IsWrite};
+ghost use Rattle.leaf_model.specs.Writes.{IsWrite};
 ghost use Rattle.row_records.specs.Records.{LogRecord, IsRecord};
 ghost use Rattle.disk_backup.specs.Scanning.{record_is};
-ghost use Rattle.leaf_model.specs.Names.{AreDistinct};
+ghost use Rattle.row_model.specs.Names.{AreDistinct};
 ghost use Rattle.table_state.specs.Tables.{Table, added_count, bare, columns_most};
-ghost use Rattle.log_recovery.specs.Recovery.{AreFew, TellsName, tables_of};
+ghost use Rattle.log_recovery.specs.Recovery.{AreFew, TellsLogName, recovered_tables};
 ghost use Rattle.log_recovery.specs.Applying.{Applies, HasApplied, MayApply, ReplaysAll};
 
 use crate::fault::RecoveryFault;
@@ -18,7 +18,7 @@ use table_state::{AddFault, TableState};
 
 /// One table for each name, in their order, each without a write.
 pub fn empty_tables(alloc: Global, names: &Names) -> Result<Vec<TableState>, AllocError>
-    ensures empty { IfOk result (λ tables. tables.items ≡ tables_of names.now []) }
+    ensures empty { IfOk result (λ tables. tables.items ≡ recovered_tables names.now []) }
     ensures columns { IfOk result (λ tables.
         AreFew names.now [] (map (λ (t : Table). columns_most t.store) tables.items)) }
 {
@@ -41,7 +41,7 @@ pub fn apply(
     requires may { MayApply names.now (length flush.writes) (map bare tables.old.items) }
     ensures does { (records : List LogRecord) → HasApplied names.now records (map bare tables.old.items)
         → Applies names.now records (record_is flush) result (map bare tables.new.items) }
-    ensures named { IfErr result TellsName }
+    ensures named { IfErr result TellsLogName }
     ensures columns { OnOk result ((records : List LogRecord)
         → AreFew names.now records (map (λ (t : Table). columns_most t.store) tables.old.items)
         → AreFew names.now (records ++ record_is flush ∷ [])

@@ -5,11 +5,11 @@ ghost use Rattle.berth_face.specs.Causes.{Rose};
 ghost use Rattle.berth_face.specs.Berth.{Passes, Stays};
 ghost use Rattle.berth_face.specs.Moments.{EachNow, Throughout};
 ghost use Rattle.disk_backup.specs.Logs.{IsSound};
-ghost use Rattle.disk_backup.specs.Scanning.{StepsFrom, BeginsScan, begun};
+ghost use Rattle.disk_backup.specs.Scanning.{StepsFrom, BeginsScan, scanned_disk};
 ghost use Rattle.log_recovery.specs.declared.fault.RecoveryFault.TheVariants as fault;
-ghost use Rattle.leaf_model.specs.Names.{AreDistinct};
+ghost use Rattle.row_model.specs.Names.{AreDistinct};
 ghost use Rattle.table_state.specs.Tables.{Table, bare, columns_most};
-ghost use Rattle.log_recovery.specs.Recovery.{AreFew, IfRead, IsRecovered, IsRecoveryRefusal, TellsName, tables_of};
+ghost use Rattle.log_recovery.specs.Recovery.{AreFew, IfRead, IsRecovered, IsRecoveryRefusal, TellsLogName, recovered_tables};
 
 use crate::apply::{apply, empty_tables};
 use crate::fault::RecoveryFault;
@@ -41,9 +41,10 @@ pub fn recover<B: Berth>(
     // What is left of the berth, and what a crash leaves of it at each moment. After Ok a crash leaves the disk that
     // was read.
     ensures disk { IsTrue (B.meaning berth.old).tells
-        → OnOk result ((B.meaning berth.new).held.disk ≡ begun (B.meaning berth.old).held.disk) }
+        → OnOk result ((B.meaning berth.new).held.disk ≡ scanned_disk (B.meaning berth.old).held.disk) }
     ensures begun { IsTrue (B.meaning berth.old).tells
-        → IfErr result (λ e. IfRead e ((B.meaning berth.new).held.disk ≡ begun (B.meaning berth.old).held.disk)) }
+        → IfErr result (λ e. IfRead e ((B.meaning berth.new).held.disk
+        ≡ scanned_disk (B.meaning berth.old).held.disk)) }
     ensures held { IsTrue (B.meaning berth.old).tells → BeginsScan
         (length (B.meaning berth.old).held.disk) (B.meaning berth.old).held.disk (B.meaning berth.new).held.disk }
     ensures region { IsTrue (B.meaning berth.old).tells
@@ -57,7 +58,7 @@ pub fn recover<B: Berth>(
     ensures one { IfOk result (λ r. length r.tables.each ≡ length names.now) }
     ensures none_owed { IfOk result (λ r. (r.log.owed ≡ None) × (r.log.end < 2 ^ 63)) }
     ensures settled { IfOk result (λ r. AllByRecursion (λ t. (t.pending ≡ None) × (t.writes < 2 ^ 63)) r.tables.each) }
-    ensures named { IfErr result TellsName }
+    ensures named { IfErr result TellsLogName }
     ensures time { Passes (B.meaning berth.old) (B.meaning berth.new) }
     ensures cause { result ≡ Err fault.DiskFault
         → Rose (B.meaning berth.old).disk_faults (B.meaning berth.new).disk_faults }
@@ -83,10 +84,10 @@ fn read_on<B: Berth>(
     requires start { scan.at ≡ 0 }
     requires whole { IsTrue (B.meaning berth.old).tells
         → (scan.len ≡ length (B.meaning berth.old).held.disk) × (0 < length (B.meaning berth.old).held.disk) }
-    requires empty { map bare tables.old.items ≡ tables_of names.now [] }
+    requires empty { map bare tables.old.items ≡ recovered_tables names.now [] }
     requires columns { AreFew names.now [] (map (λ (t : Table). columns_most t.store) tables.old.items) }
     ensures stays { IsTrue (B.meaning berth.old).tells → Stays (B.meaning berth.old) (B.meaning berth.new) }
-    ensures named { IfErr result TellsName }
+    ensures named { IfErr result TellsLogName }
     ensures time { Passes (B.meaning berth.old) (B.meaning berth.new) }
     ensures cause { result ≡ Err fault.DiskFault
         → Rose (B.meaning berth.old).disk_faults (B.meaning berth.new).disk_faults }

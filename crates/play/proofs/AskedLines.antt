@@ -2,7 +2,7 @@
 use Rattle.std.proofs.Common.{◌≡◌, inl, inr, ℕ, true, List, [], ◌∷◌, refl, sym, ap, ap₂, ◌∙◌, Result, Ok, Err}
 use Rattle.std.specs.Prelude.{ℤ, int_le, OnOk}
 use Rattle.std.specs.List.{AllByRecursion}
-use Rattle.leaf_model.specs.declared.rows.Row.{Row}
+use Rattle.row_model.specs.declared.rows.Row.{Row}
 use Rattle.leaf_model.specs.declared.queries.Query.{Query}
 use Rattle.leaf_history.specs.Calls as call
 use Rattle.table_state.specs.Tables.{IsHeldRow}

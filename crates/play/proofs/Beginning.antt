@@ -15,14 +15,14 @@ use Rattle.leaf_table.specs.Lists.{row}
 use Rattle.leaf_steward.specs.Seated.{AreAlike, AreFounded, AtEach, Seated}
 use Rattle.crash_states.specs.Beginning.{MayBegin}
 use Rattle.rollover_watch.specs.Watches.{Held}
-use Rattle.script_text.specs.declared.fleet.Fleet.{Fleet}
+use Rattle.script_text.specs.declared.fleet.FleetShape.{FleetShape}
 use Rattle.script_text.specs.Commands.{leaf_count}
 use Rattle.transcript.specs.Counts.{CountsRose}
 use Rattle.leaf_moves.specs.Holds.{Hold, berth_in}
-use Rattle.leaf_moves.specs.Stage.{IsDown, Leaf, Stands, seated_of}
+use Rattle.leaf_moves.specs.Stage.{IsDown, Leaf, LeafStands, seated_of}
 use Rattle.transcript.specs.Transcript.{Known}
 use Rattle.transcript.specs.Leaving.{AreKnown, IsKnown}
-use Rattle.transcript_leaf.specs.Session.{AreGrounded, AreInPlace, IsNewHold, StandsFirst}
+use Rattle.transcript_leaf.specs.Session.{HaveKnownBase, AreInPlace, IsNewHold, StandsFirst}
 use Rattle.player.specs.Crew.{column, new_holds, seated_at}
 use Rattle.play.specs.Played.{AreBases, IsBase, KeepsCounts}
 use Rattle.play.specs.Runs.{RunSoFar, berths_in, table_bases}
@@ -71,14 +71,14 @@ unfounded_start : (o : Option TableBase) → is_founded o ≡ false → start_of
 unfounded_start None e = refl
 unfounded_start (Some b) e = absurd cc
 
-grounded : {base : Option NamedStates} {names : List (List ℕ)} {tables : List Shared} {stewards : List SeatView} {callers : List (Option SeatView)} (m : Meaning) (known : Option Known)
-    → AreNewTables base names tables stewards callers → IsKnown base m known → AreGrounded known (seated names tables stewards)
-grounded {base = None} {tables = tables} m None t is = λ place s v at sat.
+known_base : {base : Option NamedStates} {names : List (List ℕ)} {tables : List Shared} {stewards : List SeatView} {callers : List (Option SeatView)} (m : Meaning) (known : Option Known)
+    → AreNewTables base names tables stewards callers → IsKnown base m known → HaveKnownBase known (seated names tables stewards)
+known_base {base = None} {tables = tables} m None t is = λ place s v at sat.
     let none = each_at (λ (u : Shared). is_founded (base_seen u) ≡ false) tables (t.unfounded refl) place s at in
     (none, unfounded_start (base_seen s) none)
-grounded {base = None} m (Some k) t is = absurd is
-grounded {base = Some b} m None t is = absurd is
-grounded {base = Some b} {tables = tables} m (Some k) t is = λ place s v at sat.
+known_base {base = None} m (Some k) t is = absurd is
+known_base {base = Some b} m None t is = absurd is
+known_base {base = Some b} {tables = tables} m (Some k) t is = λ place s v at sat.
     let by = founded_at t place s at in
     (by.0, by.1 ∙ ap (λ (states : NamedStates). states (name_of s)) (sym is.0))
 
@@ -106,11 +106,11 @@ ready {base = Some b} m are t is founded = (b, is.begins, start_as t)
 
 -- what stands of a leaf over its tables, where their base is one that may begin over the berth
 abbrev StandsThere : Leaf → Meaning → Type 0
-StandsThere l m = (states : NamedStates) → AreFounded (seated_of l) → MayBegin states m → StartAs states (seated_of l) → Stands states l m
+StandsThere l m = (states : NamedStates) → AreFounded (seated_of l) → MayBegin states m → StartAs states (seated_of l) → LeafStands states l m
 
 stands_first : {base : Option NamedStates} {names : List (List ℕ)} {tables : List Shared} {stewards : List SeatView} {callers : List (Option SeatView)} (m : Meaning)
     → AreNewTables base names tables stewards callers → IfSome base (λ b. IsBase b m)
-    → ((states : NamedStates) → AreFounded (seated names tables stewards) → MayBegin states m → StartAs states (seated names tables stewards) → Stands states (IsDown (seated names tables stewards)) m)
+    → ((states : NamedStates) → AreFounded (seated names tables stewards) → MayBegin states m → StartAs states (seated names tables stewards) → LeafStands states (IsDown (seated names tables stewards)) m)
     → IfSome base (StandsFirst (seated names tables stewards) m)
 stands_first {base = None} m t is stands = tt
 stands_first {base = Some b} m t is stands = record { begins = is.begins; stands = stands b (all_founded t) is.begins (start_as t) }
@@ -176,7 +176,7 @@ module _ {B : Type 0} (base : ℕ → Option NamedStates) (meaning : B → Meani
         callers_are = tables.callers_are ∙ as_many tables;
         first = stands_first (meaning b) tables (are leaf b at) stands;
         is_known = is;
-        grounded = grounded (meaning b) known tables is;
+        known_base = known_base (meaning b) known tables is;
         unused = tables.unused;
       }
 
@@ -187,10 +187,10 @@ module _ {B : Type 0} (base : ℕ → Option NamedStates) (meaning : B → Meani
   taken_are = length-take leaves berths ∙ omega (arith, enough)
 
   -- nothing was written yet
-  pub run_begins : (fleet : Fleet) (was : Option (List ℕ)) (watches : List Held) (xs : List (Hold B)) → leaf_count fleet ≡ leaves → fleet.names ≡ names
+  pub run_begins : (fleet : FleetShape) (was : Option (List ℕ)) (watches : List Held) (xs : List (Hold B)) → leaf_count fleet ≡ leaves → fleet.names ≡ names
       → xs ≡ new_holds 0 names rows stewards callers taken
       → ((leaf : ℕ) (x : Hold B) (l : Leaf) (b : B) (states : NamedStates) → slice_get xs leaf ≡ Some x → x.held ≡ Some (l, b) → AreFounded (seated_of l) → MayBegin states (meaning b)
-      → StartAs states (seated_of l) → Stands states l (meaning b))
+      → StartAs states (seated_of l) → LeafStands states l (meaning b))
       → RunSoFar base meaning fleet (berths_in xs) was was watches watches [] [] xs
   run_begins fleet was watches xs count named made stands = record {
     played = [];

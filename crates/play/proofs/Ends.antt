@@ -17,12 +17,12 @@ use Rattle.script_text.specs.Script.{script_of}
 use Rattle.script_text.specs.Fits.{AreItems, AreTables, IsAlone, IsItem, IsTableName}
 use Rattle.printed_lines.specs.declared.line.Line.{Line}
 use Rattle.printed_lines.specs.Lines.{lines_text}
-use Rattle.script_text.specs.declared.fleet.Fleet.{Fleet}
-use Rattle.transcript.specs.Pieces.{One, Played, PlayedItem, all_lines, all_pieces, script_fleet, item_of, plays_in}
+use Rattle.script_text.specs.declared.fleet.FleetShape.{FleetShape}
+use Rattle.transcript.specs.Pieces.{One, Played, PlayedItem, all_lines, all_pieces, deeds, script_fleet, item_of, plays_in}
 use Rattle.transcript.specs.Counts.{CountsRose}
-use Rattle.transcript.specs.Strangers.{Strangers}
+use Rattle.transcript.specs.Strangers.{StrangersIn}
 use Rattle.transcript.specs.Telling.{AreTold}
-use Rattle.transcript.specs.Transcript.{Known, Transcript, first_life, grounds_of}
+use Rattle.transcript.specs.Transcript.{Known, Transcript, first_life, base_states_of}
 use Rattle.leaf_moves.specs.Holds.{Hold, berth_in}
 use Rattle.transcript.specs.Leaving.{AtBerth, IsToldRun, IsWritten, LeavesBerth}
 use Rattle.leaf_moves.specs.Stage.{Leaf}
@@ -50,11 +50,11 @@ tables_are_names names t = record {
 }
 
 -- a command behind the fleet may be played by a run
-alone_may : (fleet : Fleet) (c : Command) → IsAlone (leaf_count fleet) fleet.names c → MayRunAlone fleet c
+alone_may : (fleet : FleetShape) (c : Command) → IsAlone (leaf_count fleet) fleet.names c → MayRunAlone fleet c
 alone_may fleet (command.Fleet m p ts) h = absurd h
 alone_may fleet _ h = h
 
-item_may : (fleet : Fleet) (x : Item) → IsItem (leaf_count fleet) fleet.names x → MayRun fleet x
+item_may : (fleet : FleetShape) (x : Item) → IsItem (leaf_count fleet) fleet.names x → MayRun fleet x
 item_may fleet (item.One c) h = alone_may fleet c h
 item_may fleet (item.Burst lanes) h = h
 
@@ -183,19 +183,19 @@ module _ {B : Type 0} (meaning : B → Meaning) (front rest own : List B) (xs : 
 
   module _ (known : ℕ → Option Known) (watching watched : List Held) where
     -- what these lines are, of a fleet
-    pub record ToldBy (lines : List Line) (fleet : Fleet) (items : List Item) : Type 0 where
+    pub record ToldBy (lines : List Line) (fleet : FleetShape) (items : List Item) : Type 0 where
       pub transcript : Transcript fleet known items (lines_text fleet.names lines)
       pub lines_are : all_lines transcript.played ≡ lines
-      pub standing : AreTold fleet (grounds_of fleet known) transcript.histories transcript.played
+      pub standing : AreTold fleet (base_states_of fleet known) transcript.histories transcript.played
       pub heard : HearsAll fleet (plays_in transcript.played) watching watched
       pub counts : (leaf : ℕ) → leaf < (leaf_count fleet) → AtBerth meaning olds news leaf (CountsRose leaf (all_pieces transcript.played))
-      pub strangers : (leaf : ℕ) (k : Known) → leaf < (leaf_count fleet) → known leaf ≡ Some k → Strangers fleet.names k.held.disk leaf k.held.region (all_pieces transcript.played)
+      pub strangers : (leaf : ℕ) (k : Known) → leaf < (leaf_count fleet) → known leaf ≡ Some k → StrangersIn fleet.names k.held.disk k.held.region (deeds leaf (all_pieces transcript.played))
       pub leaves : (leaf : ℕ) (k : Known) → leaf < (leaf_count fleet) → known leaf ≡ Some k →
           AtBerth meaning olds news leaf (LeavesBerth fleet.names k.base (transcript.lives leaf) (transcript.histories leaf))
       pub moments : (leaf : ℕ) → leaf < (leaf_count fleet) → AtBerth meaning olds news leaf (λ old new. MomentsRise (transcript.histories leaf) old.clock (notes_told leaf (all_pieces transcript.played)) new.clock)
       pub others : drop (leaf_count fleet) news ≡ drop (leaf_count fleet) olds
 
-    pub fleet_told : (fleet : Fleet) (played : List PlayedItem) → leaf_count fleet ≡ length front → AreCounted meaning front xs (all_pieces played) → HearsAll fleet (plays_in played) watching watched → ToldFleet meaning fleet known played front xs
+    pub fleet_told : (fleet : FleetShape) (played : List PlayedItem) → leaf_count fleet ≡ length front → AreCounted meaning front xs (all_pieces played) → HearsAll fleet (plays_in played) watching watched → ToldFleet meaning fleet known played front xs
         → ToldBy (all_lines played) fleet (map item_of played)
     fleet_told fleet played size counted heard whole =
         let told : IsToldFleet meaning fleet known played front xs = whole.fleet_is in
@@ -208,7 +208,7 @@ module _ {B : Type 0} (meaning : B → Meaning) (front rest own : List B) (xs : 
           heard = subst (λ (ps : List PlayedItem). HearsAll fleet (plays_in ps) watching watched) (sym same) heard;
           counts = λ leaf below. at_berth (CountsRose leaf (all_pieces t.played)) leaf (omega (arith, below, size))
               (λ old x l new at now held. subst (λ (ps : List PlayedItem). CountsRose leaf (all_pieces ps) (meaning old) (meaning new)) (sym same) (counted leaf old x l new at now held));
-          strangers = λ leaf k below is. subst (λ (ps : List PlayedItem). Strangers fleet.names k.held.disk leaf k.held.region (all_pieces ps)) (sym same) (told.strangers leaf k below is);
+          strangers = λ leaf k below is. subst (λ (ps : List PlayedItem). StrangersIn fleet.names k.held.disk k.held.region (deeds leaf (all_pieces ps))) (sym same) (told.strangers leaf k below is);
           leaves = λ leaf k below is. at_berth (LeavesBerth fleet.names k.base (t.lives leaf) (t.histories leaf)) leaf (omega (arith, below, size))
               (λ old x l new at now held. told.leaves leaf k old new x is at now (berth_held x l new held));
           moments = λ leaf below. at_berth (λ old new. MomentsRise (t.histories leaf) old.clock (notes_told leaf (all_pieces t.played)) new.clock) leaf (omega (arith, below, size))
@@ -248,15 +248,15 @@ module _ {B : Type 0} (meaning : B → Meaning) (olds news own : List B) (old_xs
   abbrev parts : front ++ drop leaves olds ≡ olds
   parts = take-append-drop leaves olds
 
-  pub crew_written : (base : ℕ → Option NamedStates) (items played : List Item) (fleet : Fleet) (was now : Option (List ℕ)) (watching watched : List Held) → script_fleet items ≡ fleet → leaf_count fleet ≡ leaves
+  pub crew_written : (base : ℕ → Option NamedStates) (items played : List Item) (fleet : FleetShape) (was now : Option (List ℕ)) (watching watched : List Held) → script_fleet items ≡ fleet → leaf_count fleet ≡ leaves
       → played ≡ items → IsRun base meaning fleet (berths_in old_xs) was now watching watched played xs → IsWritten meaning olds news base items was now watching watched
   crew_written base items played fleet was now watching watched is size all ran =
       let run : IsRun base meaning fleet (berths_in old_xs) was now watching watched items xs =
       subst (λ (is : List Item). IsRun base meaning fleet (berths_in old_xs) was now watching watched is xs) all ran in
       let here : IsRun base meaning (script_fleet items) front was now watching watched items xs =
-      subst (λ (f : Fleet). IsRun base meaning f front was now watching watched items xs) (sym is)
+      subst (λ (f : FleetShape). IsRun base meaning f front was now watching watched items xs) (sym is)
       (subst (λ (bs : List B). IsRun base meaning fleet bs was now watching watched items xs) had run) in
-      let sized : leaf_count (script_fleet items) ≡ length front = ap (λ (f : Fleet). leaf_count f) is ∙ (size ∙ sym front_is) in
+      let sized : leaf_count (script_fleet items) ≡ length front = ap (λ (f : FleetShape). leaf_count f) is ∙ (size ∙ sym front_is) in
       subst (λ (bs : List B). IsWritten meaning bs news base items was now watching watched) parts
       (subst (λ (bs : List B). IsWritten meaning (front ++ drop leaves olds) bs base items was now watching watched) (sym has)
       (run_written meaning front (drop leaves olds) own xs are count_front base items was now watching watched sized here))

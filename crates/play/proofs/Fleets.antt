@@ -12,7 +12,7 @@ use Rattle.leaf_table.specs.Lists.{place, row}
 use Rattle.leaf_table.specs.Fleet.{IsAt, IsNewFleet, IsShortName}
 use Rattle.printed_lines.specs.Lines.{name_at}
 use Rattle.player.specs.Crew.{column}
-use Rattle.play.specs.Played.{AreBases, AreShut, IsBase}
+use Rattle.play.specs.Played.{AreBases, BasesAreShut, IsBase}
 use Rattle.play.specs.Runs.{table_base, table_bases}
 use Rattle.transcript_fleet.proofs.Lists.{All-weaken}
 use Rattle.transcript_leaf.proofs.Lists.{element_at, length_mapped, name_is, same_some, within}
@@ -52,7 +52,7 @@ column_at leaf (r ∷ rows) (suc t) x below at = column_at leaf rows t x (omega 
 -- ---- the tables of one leaf
 
 -- what its tables are founded with, by their names
-founded_with : (base : Option NamedStates) (ts : List Shared) → IfSome base AreShut → ((place : ℕ) (t : Shared) → slice_get ts place ≡ Some t → base_seen t ≡ table_base base (name_of t))
+founded_with : (base : Option NamedStates) (ts : List Shared) → IfSome base BasesAreShut → ((place : ℕ) (t : Shared) → slice_get ts place ≡ Some t → base_seen t ≡ table_base base (name_of t))
     → IfSome base (λ b. AllByRecursion (λ (t : Shared). (is_founded (base_seen t) ≡ true) × (start_of (base_seen t) ≡ b (name_of t))) ts)
 founded_with None ts are each = tt
 founded_with (Some b) ts are each = all_each (λ (t : Shared). (is_founded (base_seen t) ≡ true) × (start_of (base_seen t) ≡ b (name_of t))) ts (λ place t at.
@@ -101,7 +101,7 @@ module _ (base : ℕ → Option NamedStates) (names : List (List ℕ)) (leaves :
       let named : name_at names t ≡ name_of n.0.table = sym (name_is names t n.0.name n.0.named) ∙ sym n.0.new.named in
       subst (λ (u : Shared). base_seen u ≡ table_base (base leaf) (name_of u)) n.1 (n.0.new.founded ∙ ap (table_base (base leaf)) named)
 
-  new_tables : IfSome (base leaf) AreShut → AreNewTables (base leaf) names tables seats (column leaf callers)
+  new_tables : IfSome (base leaf) BasesAreShut → AreNewTables (base leaf) names tables seats (column leaf callers)
   new_tables are = record {
     named = named_as tables names as_many (λ t table name at named.
         let n = new_at t table at in
@@ -116,7 +116,7 @@ module _ (base : ℕ → Option NamedStates) (names : List (List ℕ)) (leaves :
 -- ---- of leaves whose berths have these bases
 
 -- a base's tables are shut
-base_is_shut : (base : Option NamedStates) (m : Meaning) → IfSome base (λ b. IsBase b m) → IfSome base AreShut
+base_is_shut : (base : Option NamedStates) (m : Meaning) → IfSome base (λ b. IsBase b m) → IfSome base BasesAreShut
 base_is_shut None m is = tt
 base_is_shut (Some b) m is = is.is
 

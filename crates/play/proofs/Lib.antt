@@ -4,6 +4,7 @@ pub mod Playable
 pub mod Plays
 pub mod AskedLines
 pub mod OwnItems
+pub mod OwnFollowers
 pub mod Fleets
 pub mod Beginning
 pub mod Own

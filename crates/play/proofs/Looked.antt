@@ -6,8 +6,8 @@ use Rattle.berth_face.specs.Berth.{Meaning}
 use Rattle.berth_face.specs.Causes.{Rose}
 use Rattle.berth_face.specs.Streams.{WritesFront}
 use Rattle.region_reading.specs.Reading.{Untouched}
-use Rattle.region_reading.specs.declared.fault.LookFault.{LookFault}
-use Rattle.region_reading.specs.declared.fault.LookFault.TheVariants as fault
+use Rattle.region_reading.specs.declared.fault.AdoptFault.{AdoptFault}
+use Rattle.region_reading.specs.declared.fault.AdoptFault.TheVariants as fault
 use Rattle.region_inspect.specs.declared.seen.Seen.{Seen}
 use Rattle.region_inspect.specs.Shows.{Shows}
 use Rattle.region_inspect.specs.Lines.{region_text}
@@ -65,18 +65,18 @@ module _ {B : Type 0} (meaning : B → Meaning) (leaf : ℕ) (olds : List B) whe
   }
 
   module _ (news : List B) where
-    pub seen_by : (r : Result Seen LookFault) (looked : IsLookedAt meaning leaf olds news) → (IsTrue (meaning looked.berth).tells → IfOk r (Shows (meaning looked.berth).held.region))
+    pub seen_by : (r : Result Seen AdoptFault) (looked : IsLookedAt meaning leaf olds news) → (IsTrue (meaning looked.berth).tells → IfOk r (Shows (meaning looked.berth).held.region))
         → IfOk r (λ seen. IsSeen meaning leaf olds news (Some seen))
     seen_by (Ok seen) looked shows = record { looked = looked; shows = shows; cause = λ none. absurd cc }
     seen_by (Err e) looked shows = tt
 
-    pub failed_by : (r : Result Seen LookFault) (looked : IsLookedAt meaning leaf olds news)
+    pub failed_by : (r : Result Seen AdoptFault) (looked : IsLookedAt meaning leaf olds news)
         → (r ≡ Err fault.RegionFault → Rose (meaning looked.berth).region_faults (meaning looked.berth_now).region_faults) → r ≡ Err fault.RegionFault → IsSeen meaning leaf olds news None
     failed_by r looked cause is = record { looked = looked; shows = λ told. tt; cause = λ none. cause is }
 
     -- how it ends where not all was written
     pub ends_short : (was now : Option (List ℕ)) (s : Status) (seen : Option Seen) → IsSeen meaning leaf olds news seen → (s ≡ status.WriteFault → WritesFront was now (region_text leaf seen))
-        → (s ≡ status.NoMemory → now ≡ was) → IfShort s (InspectEndsShort meaning leaf was now olds news)
+        → (s ≡ status.NoMemory → now ≡ was) → IfShort s (InspectEndsShort meaning leaf olds news was now)
     ends_short was now status.WriteFault seen is front none = InspectEndsShort.some seen is (front refl)
     ends_short was now status.NoMemory seen is front none = InspectEndsShort.nothing (none refl) is.looked
     ends_short was now _ seen is front none = tt

@@ -4,10 +4,10 @@ use Rattle.std.specs.Prelude.{nat_lt}
 use Rattle.std.proofs.lemmas.Bool.{cond-false}
 use Rattle.std.proofs.lemmas.Bool.Decides.{nat_tests}
 use Rattle.berth_face.specs.Streams.{ReadsAll, TakesAtMost}
-use Rattle.text_faults.specs.declared.fault.Why.{Why}
-use Rattle.text_faults.specs.declared.fault.Why.TheVariants as why
-use Rattle.text_faults.specs.declared.fault.ScriptFault.{ScriptFault}
-use Rattle.text_faults.specs.declared.fault.ScriptFault.TheVariants.{At, NoMemory}
+use Rattle.row_model.specs.declared.script_fault.Why.{Why}
+use Rattle.row_model.specs.declared.script_fault.Why.TheVariants as why
+use Rattle.row_model.specs.declared.script_fault.ScriptFault.{ScriptFault}
+use Rattle.row_model.specs.declared.script_fault.ScriptFault.TheVariants.{At, NoMemory}
 use Rattle.script_text.specs.Script.{IfAt, script_of}
 use Rattle.script_text.proofs.Own.{own_fault}
 use Rattle.run_ends.specs.Outcome.{IsRefused, TakesText, IfScript, if_short}

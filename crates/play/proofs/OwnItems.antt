@@ -1,6 +1,6 @@
--- Items that the run itself plays: what they did, and that the standing queries stay those of the fleet.
-use Rattle.std.proofs.Common.{◌≡◌, inl, inr, ℕ, ◌+◌, ◌<◌, true, false, true≢false, List, [], ◌∷◌, ◌++◌, length, refl, sym, ap, subst, ◌∙◌, arith, Option, Some, None, Result, Ok, Err, Vec, Global}
-use Rattle.std.specs.Prelude.{IfOk, IfSome, IsErr, OnOk, slice_get, slice_set, map, ◌≤◌, ⊤}
+-- Items that the run itself plays: what they did.
+use Rattle.std.proofs.Common.{◌≡◌, inl, inr, ℕ, ◌+◌, true, false, true≢false, List, [], ◌∷◌, ◌++◌, length, refl, sym, ap, subst, ◌∙◌, arith, Option, Some, None, Result, Ok, Err, Vec, Global}
+use Rattle.std.specs.Prelude.{IfOk, IfSome, IsErr, OnOk, slice_get, slice_set, map, ⊤}
 use Rattle.std.specs.List.{AllByRecursion}
 use Rattle.std.proofs.lemmas.List.{append-nil}
 use Rattle.berth_face.specs.Berth.{Meaning}
@@ -19,9 +19,14 @@ use Rattle.script_text.specs.declared.command.Command.{Command}
 use Rattle.script_text.specs.declared.command.Command.TheVariants as command
 use Rattle.script_text.specs.declared.item.Item.{Item}
 use Rattle.script_text.specs.declared.item.Item.TheVariants as item
-use Rattle.script_text.specs.declared.fleet.Fleet.{Fleet}
+use Rattle.script_text.specs.declared.fleet.FleetShape.{FleetShape}
 use Rattle.script_text.specs.Commands.{leaf_count}
+use Rattle.script_text.specs.declared.order.Order.{Order}
+use Rattle.script_text.specs.declared.order.Part.TheVariants as part
+use Rattle.script_text.specs.declared.order.RunOrder.{RunOrder}
+use Rattle.script_text.specs.declared.order.RunOrder.TheVariants as run_order
 use Rattle.script_text.specs.Fits.{declared_by}
+use Rattle.script_text.specs.Orders.{IsOrder, IsPart, part_of, run_command}
 use Rattle.printed_lines.specs.declared.line.Said.TheVariants.{Asked}
 use Rattle.printed_lines.specs.declared.line.Line.{Line}
 use Rattle.printed_lines.specs.declared.line.Line.TheVariants as line
@@ -30,20 +35,19 @@ use Rattle.printed_lines.specs.declared.line.WhyUntold.TheVariants as untold
 use Rattle.printed_lines.specs.Lines.{IsOf}
 use Rattle.standing_feed.specs.declared.follower.Follower.{Follower}
 use Rattle.standing_feed.specs.declared.meant.Meant.{Meant}
-use Rattle.standing_feed.specs.Hearing.{TablePlace}
-use Rattle.standing_feed.specs.Following.{FollowAll, new_follower, noted, place_of, settled}
+use Rattle.standing_feed.specs.Following.{FollowAll, new_follower, meant_for, settled}
 use Rattle.transcript.specs.Pieces.{Piece, Called, Says, Played, PlayedItem, One, Burst, item_of, lines_in, piece_lines, pieces_in, place_among}
-use Rattle.transcript.specs.Histories.{Ground}
+use Rattle.transcript.specs.Histories.{BaseState}
 use Rattle.transcript.specs.Telling as telling
 use Rattle.transcript.specs.Watching.{Hears}
-use Rattle.transcript_standing.specs.Followed.{DoesItself, IsFollower, TellsItself, TellsState}
-use Rattle.leaf_moves.specs.Holds.{GoOn, Hold, grounds_in}
+use Rattle.transcript_standing.specs.Followed.{DoesItself, TellsItself, TellsState}
+use Rattle.leaf_moves.specs.Holds.{GoOn, Hold, base_states_in}
 use Rattle.leaf_moves.specs.Lanes.{PlaysItem}
 use Rattle.leaf_moves.specs.Plays as going
 use Rattle.player.specs.Asked.{AsksLeaf}
 use Rattle.player.specs.Crew.{AllCounted, CountedIf}
 use Rattle.player.proofs.Chains.{counted_calm, goes_more}
-use Rattle.transcript_leaf.proofs.Lists.{length_mapped}
+use Rattle.player.proofs.Ordered.{part_may}
 use Rattle.lane_play.specs.Shortened.{BeginsItem}
 use Rattle.lane_play.specs.Went.{ItemWent, OrNothing, told_lines}
 use Rattle.lane_play.proofs.Heard.{watched_one}
@@ -54,21 +58,40 @@ use Rattle.play.proofs.AskedLines.{piece_of, piece_is, held_times, held_above, i
 
 -- ---- which commands are the run's own
 
-quiet : (fleet : Fleet) (c : Command) (pieces : List Piece) (ws : List Held) → is_of_run c ≡ true → Hears fleet (record { command = c; pieces = pieces }) ws ws
+quiet : (fleet : FleetShape) (c : Command) (pieces : List Piece) (ws : List Held) → is_of_run c ≡ true → Hears fleet (record { command = c; pieces = pieces }) ws ws
 quiet fleet (command.Rollover percent) pieces ws own = absurd (true≢false (sym own))
 quiet fleet _ pieces ws own = refl
 
 -- another declares no standing query
-pub declares_none : (c : Command) → is_of_run c ≡ false → declared_by (item.One c) ≡ 0
+declares_none : (c : Command) → is_of_run c ≡ false → declared_by (item.One c) ≡ 0
 declares_none (command.Standing leaf q) other = absurd (true≢false other)
 declares_none _ other = refl
 
--- and at one the standing queries do nothing by themselves
-idle_one : (fleet : Fleet) (grounds : ℕ → ℕ → Ground) (histories : ℕ → ℕ → List Entry) (c d : Command) (pieces : List Piece) (fs : List Follower) → is_of_run c ≡ false → d ≡ c
-    → DoesItself fleet grounds histories (One (record { command = d; pieces = pieces })) fs fs
-idle_one fleet grounds histories c d pieces fs other same = by d (ap is_of_run same ∙ other)
+pub run_own : (r : RunOrder) → is_of_run (run_command r) ≡ true
+run_own (run_order.Declare leaf q) = refl
+run_own (run_order.Tell number) = refl
+
+-- a tell declares none
+pub none_told : (r : RunOrder) (standing now was : ℕ) → r ≡ run_order.Tell standing → now ≡ was → now ≡ was + declared_by (item.One (run_command r))
+none_told r standing now was is same =
+    let none : declared_by (item.One (run_command r)) ≡ 0 = ap (λ (o : RunOrder). declared_by (item.One (run_command o))) is in
+    omega (arith, none, same)
+
+-- the leaves may play the order of a command that a run may play
+pub run_may : (fleet : FleetShape) (c : Command) (o : Order) → part_of c ≡ part.Leaves o → MayRunAlone fleet c → IsOrder (leaf_count fleet) fleet.names o
+run_may fleet c o is may = subst (IsPart (leaf_count fleet) fleet.names) is (by c may)
   where
-    by : (e : Command) → is_of_run e ≡ false → DoesItself fleet grounds histories (One (record { command = e; pieces = pieces })) fs fs
+    by : (k : Command) → MayRunAlone fleet k → IsPart (leaf_count fleet) fleet.names (part_of k)
+    by (command.Standing leaf q) h = tt
+    by (command.Tell number) h = tt
+    by k h = part_may fleet k h
+
+-- and at one the standing queries do nothing by themselves
+idle_one : (fleet : FleetShape) (base_states : ℕ → ℕ → BaseState) (histories : ℕ → ℕ → List Entry) (c d : Command) (pieces : List Piece) (fs : List Follower) → is_of_run c ≡ false → d ≡ c
+    → DoesItself fleet base_states histories (One (record { command = d; pieces = pieces })) fs fs
+idle_one fleet base_states histories c d pieces fs other same = by d (ap is_of_run same ∙ other)
+  where
+    by : (e : Command) → is_of_run e ≡ false → DoesItself fleet base_states histories (One (record { command = e; pieces = pieces })) fs fs
     by (command.Standing leaf q) is = absurd (true≢false is)
     by (command.Tell standing) is = absurd (true≢false is)
     by _ is = refl
@@ -78,15 +101,25 @@ abbrev pub IsOfLeaves : Item → Type 0
 IsOfLeaves (item.One c) = is_of_run c ≡ false
 IsOfLeaves (item.Burst lanes) = ⊤
 
-idle : (fleet : Fleet) (grounds : ℕ → ℕ → Ground) (histories : ℕ → ℕ → List Entry) (x : Item) (p : PlayedItem) (fs : List Follower) → IsOfLeaves x → BeginsItem (item_of p) x → DoesItself fleet grounds histories p fs fs
-idle fleet grounds histories (item.One c) (One p) fs other begun = idle_one fleet grounds histories c p.command p.pieces fs other begun
-idle fleet grounds histories (item.One c) (Burst lanes) fs other begun = absurd begun
-idle fleet grounds histories (item.Burst lanes) (One p) fs other begun = absurd begun
-idle fleet grounds histories (item.Burst lanes) (Burst others) fs other begun = refl
+-- it declares none
+pub none_declared : (x y : Item) (count : ℕ) → x ≡ y → IsOfLeaves y → count ≡ count + declared_by x
+none_declared x y count is other =
+    let none : declared_by x ≡ 0 = ap declared_by is ∙ by y other in
+    omega (arith, none)
+  where
+    by : (z : Item) → IsOfLeaves z → declared_by z ≡ 0
+    by (item.One c) leaves = declares_none c leaves
+    by (item.Burst lanes) leaves = refl
+
+idle : (fleet : FleetShape) (base_states : ℕ → ℕ → BaseState) (histories : ℕ → ℕ → List Entry) (x : Item) (p : PlayedItem) (fs : List Follower) → IsOfLeaves x → BeginsItem (item_of p) x → DoesItself fleet base_states histories p fs fs
+idle fleet base_states histories (item.One c) (One p) fs other begun = idle_one fleet base_states histories c p.command p.pieces fs other begun
+idle fleet base_states histories (item.One c) (Burst lanes) fs other begun = absurd begun
+idle fleet base_states histories (item.Burst lanes) (One p) fs other begun = absurd begun
+idle fleet base_states histories (item.Burst lanes) (Burst others) fs other begun = refl
 
 -- ---- what an item did
 
-module _ {B : Type 0} (meaning : B → Meaning) (fleet : Fleet) where
+module _ {B : Type 0} (meaning : B → Meaning) (fleet : FleetShape) where
   -- of an item, or nothing
   abbrev pub Did : Item → (List Follower → List Line → Type 0) → List Follower → List (Hold B) → List Held → Option (List Line) → List (Hold B) → List Held → Type 0
   Did x T olds xs us lines ys vs = OrNothing (ItemDid meaning fleet x T olds xs us lines ys vs) xs us lines ys vs
@@ -96,7 +129,7 @@ module _ {B : Type 0} (meaning : B → Meaning) (fleet : Fleet) where
       → OrNothing (ItemWent meaning fleet x xs us lines ys vs) xs us lines ys vs → Did x (IsBefore fs) fs xs us lines ys vs
   leaves_did x fs xs ys us vs lines other (inl went) = inl (record {
     went = went;
-    did = λ histories on. (fs, idle fleet (grounds_in ys) histories x went.played fs other went.begun, still lines);
+    did = λ histories on. (fs, idle fleet (base_states_in ys) histories x went.played fs other went.begun, still lines);
   })
     where
       still : (o : Option (List Line)) → IfSome o (IsBefore fs fs)
@@ -134,7 +167,7 @@ module _ {B : Type 0} (meaning : B → Meaning) (fleet : Fleet) where
   lost_as x T U olds xs ys us vs lines (Err e) wrong did = lost_lines x T U olds xs ys us vs lines did
 
   -- and where the standing queries followed them
-  pub followed_lines : (x : Item) (olds mids news : List Follower) (xs ys : List (Hold B)) (us vs : List Held) (lines : List Line) (notes : List (List Meant)) → notes ≡ map (noted x) olds → FollowAll notes lines mids news
+  pub followed_lines : (x : Item) (olds mids news : List Follower) (xs ys : List (Hold B)) (us vs : List Held) (lines : List Line) (notes : List (List Meant)) → notes ≡ map (meant_for x) olds → FollowAll notes lines mids news
       → Did x (IsBefore mids) olds xs us (Some lines) ys vs → Did x (FollowsLines x olds news) olds xs us (Some lines) ys vs
   followed_lines x olds mids news xs ys us vs lines notes are follow (inl d) = inl (record {
     went = d.went;
@@ -142,7 +175,7 @@ module _ {B : Type 0} (meaning : B → Meaning) (fleet : Fleet) where
         let e = d.did histories on in (
           e.0,
           e.1,
-          subst (λ (fs : List Follower). FollowAll (map (noted x) olds) lines fs news) (sym e.2) (subst (λ (ns : List (List Meant)). FollowAll ns lines mids news) are follow),
+          subst (λ (fs : List Follower). FollowAll (map (meant_for x) olds) lines fs news) (sym e.2) (subst (λ (ns : List (List Meant)). FollowAll ns lines mids news) are follow),
         );
   })
   followed_lines x olds mids news xs ys us vs lines notes are follow (inr none) = inr none
@@ -245,9 +278,9 @@ module _ {B : Type 0} (meaning : B → Meaning) (fleet : Fleet) where
   tells_fresh standing f g xs (Err e) fresh same told = inr (refl, refl)
 
   -- one that is stale asks its table first
-  stale_with : {E : Type 0} (standing leaf table : ℕ) (q : Query) (D : (ℕ → ℕ → Ground) → (ℕ → ℕ → List Entry) → List Piece → Type 0) (xs ys : List (Hold B)) (first : Line) (reply : Reply) (told : Line) (result : Result (Vec Line Global) E)
+  stale_with : {E : Type 0} (standing leaf table : ℕ) (q : Query) (D : (ℕ → ℕ → BaseState) → (ℕ → ℕ → List Entry) → List Piece → Type 0) (xs ys : List (Hold B)) (first : Line) (reply : Reply) (told : Line) (result : Result (Vec Line Global) E)
       (asked : AsksLeaf meaning fleet.names leaf table q xs first reply ys) → IsOf fleet.names told → IfOk result (λ lines. lines.items ≡ first ∷ told ∷ [])
-      → ((histories : ℕ → ℕ → List Entry) → GoOn ys histories → D (grounds_in ys) histories (asked.piece ∷ Says told ∷ []))
+      → ((histories : ℕ → ℕ → List Entry) → GoOn ys histories → D (base_states_in ys) histories (asked.piece ∷ Says told ∷ []))
       → PlaysOwn meaning fleet (command.Tell standing) D xs result ys
   stale_with {E = E} standing leaf table q D xs ys first reply told result asked fits lines did =
       let alone : piece_lines asked.piece ≡ first ∷ [] = sym (append-nil (piece_lines asked.piece)) ∙ asked.line_is in
@@ -352,38 +385,3 @@ module _ {B : Type 0} (meaning : B → Meaning) (fleet : Fleet) where
       by (Ok ls) between is = ap (λ (h : Follower). slice_set olds standing h) is ∙ sym are
       by (Err e) between is = tt
   one_told standing olds news f g xs ys result at are (inr none) = inr none
-
--- ---- the standing queries
-
--- there is a note for no more than there are
-pub notes_within : {X Y Z : Type 0} (f : X → Z) (g : Y → Z) (notes : List X) (fs : List Y) (count more : ℕ) → map f notes ≡ map g fs → count ≡ length fs + more → length notes ≤ count
-notes_within f g notes fs count more same is =
-    let one = length_mapped f notes in
-    let other = length_mapped g fs in
-    let both : length (map f notes) ≡ length (map g fs) = ap length same in
-    omega (arith, one, other, both, is)
-
--- one more that was declared
-pub declared_follower : (fleet : Fleet) (leaf table : ℕ) (q : Query) (fs gs : List Follower) → MayRunAlone fleet (command.Standing leaf q) → table ≡ place_among q.table fleet.names → gs ≡ fs ++ new_follower leaf table q ∷ []
-    → AllByRecursion (IsFollower fleet) fs → AllByRecursion (IsFollower fleet) gs
-declared_follower fleet leaf table q fs gs may at is all =
-    let below : table < length fleet.names = subst (λ n. n < length fleet.names) (sym at) (place_below q.table fleet.names may.1) in
-    subst (AllByRecursion (IsFollower fleet)) (sym is) (more fs all (may.0, below))
-  where
-    more : (fs : List Follower) → AllByRecursion (IsFollower fleet) fs → IsFollower fleet (new_follower leaf table q) → AllByRecursion (IsFollower fleet) (fs ++ new_follower leaf table q ∷ [])
-    more [] all one = (one, tt)
-    more (f ∷ fs) all one = (all.0, more fs all.1 one)
-
--- the same tables
-pub followers_stay : (fleet : Fleet) (fs gs : List Follower) → map place_of gs ≡ map place_of fs → AllByRecursion (IsFollower fleet) fs → AllByRecursion (IsFollower fleet) gs
-followers_stay fleet [] [] same all = tt
-followers_stay fleet [] (g ∷ gs) same all = absurd cc
-followers_stay fleet (f ∷ fs) [] same all = absurd cc
-followers_stay fleet (f ∷ fs) (g ∷ gs) same all =
-    let both = parts (place_of g) (place_of f) (map place_of gs) (map place_of fs) same in
-    let leaf : g.leaf ≡ f.leaf = ap (λ (p : TablePlace). p.leaf) both.0 in
-    let table : g.table ≡ f.table = ap (λ (p : TablePlace). p.table) both.0 in
-    ((subst (λ n. n < leaf_count fleet) (sym leaf) all.0.0, subst (λ n. n < length fleet.names) (sym table) all.0.1), followers_stay fleet fs gs both.1 all.1)
-  where
-    parts : (a b : TablePlace) (ps qs : List TablePlace) → a ∷ ps ≡ b ∷ qs → (a ≡ b) × (ps ≡ qs)
-    parts a b ps qs e = (cc, cc)

@@ -14,15 +14,15 @@ use Rattle.script_text.specs.declared.item.Item.{Item}
 use Rattle.printed_lines.specs.declared.line.Ending.{Ending}
 use Rattle.printed_lines.specs.declared.line.Line.{Line}
 use Rattle.printed_lines.specs.Lines.{line_text, lines_text}
-use Rattle.script_text.specs.declared.fleet.Fleet.{Fleet}
+use Rattle.script_text.specs.declared.fleet.FleetShape.{FleetShape}
 use Rattle.printed_lines.specs.declared.line.Deed.{Deed}
 use Rattle.standing_feed.specs.declared.follower.Follower.{Follower}
-use Rattle.standing_feed.specs.Following.{FollowAll, noted}
-use Rattle.transcript.specs.Transcript.{Known, grounds_of}
+use Rattle.standing_feed.specs.Following.{FollowAll, meant_for}
+use Rattle.transcript.specs.Transcript.{Known, base_states_of}
 use Rattle.transcript.specs.Pieces.{Piece, Called, Worn, Acted, Says, Played, PlayedItem, all_lines, all_pieces, item_lines, item_of, pieces_in, plays_in, plays_of}
-use Rattle.transcript.specs.Counts.{Counted, CountsRose, deeds_in, disk_faults_in, disk_reads_in, is_disk_fault, is_region_fault, reads_disk, region_faults_in}
+use Rattle.transcript.specs.Counts.{CountRose, CountsRose, deeds_in, is_disk_fault, is_region_fault, reads_disk}
 use Rattle.leaf_moves.specs.Stage.{Leaf}
-use Rattle.leaf_moves.specs.Holds.{GoOn, HasMet, Hold, grounds_in}
+use Rattle.leaf_moves.specs.Holds.{GoOn, HasMet, Hold, base_states_in}
 use Rattle.transcript.specs.Watching.{HearsAll}
 use Rattle.player.specs.Crew.{AllPass, CountedIf, PassesIf, AllCounted}
 use Rattle.lane_play.specs.Went.{OrNothing, told_lines}
@@ -40,7 +40,7 @@ use Rattle.transcript_leaf.proofs.Lists.{element_at, within}
 use Rattle.berth_face.specs.Streams.{Written, WritesFront}
 use Rattle.leaf_moves.specs.Lanes.{PlaysItem}
 use Rattle.lane_play.specs.Shortened.{BeginsItem}
-use Rattle.play.specs.Cut.{PlaysSome, last_lines}
+use Rattle.play.specs.Cut.{last_lines}
 use Rattle.play.specs.Shortened.{RunShort, StopsAt}
 
 -- ---- bytes
@@ -76,7 +76,7 @@ deeds_append test leaf (Called l t c number said ∷ xs) ys = deeds_append test 
 deeds_append test leaf (Worn l t ∷ xs) ys = deeds_append test leaf xs ys
 deeds_append test leaf (Says line ∷ xs) ys = deeds_append test leaf xs ys
 
-counted_faults : (a b c m n k : ℕ) → k ≡ m + n → Counted a b m → Counted b c n → Counted a c k
+counted_faults : (a b c m n k : ℕ) → k ≡ m + n → CountRose a b m → CountRose b c n → CountRose a c k
 counted_faults a b c m n k e g h = omega (arith, e, g, h)
 
 counted_reads : (a b c m n k : ℕ) → k ≡ m + n → (m ≡ 0 → b ≡ a) → (n ≡ 0 → c ≡ b) → k ≡ 0 → c ≡ a
@@ -84,11 +84,11 @@ counted_reads a b c m n k e g h none = h (omega (arith, e, none)) ∙ g (omega (
 
 pub counted_on : (leaf : ℕ) (xs ys : List Piece) (a b c : Meaning) → CountsRose leaf xs a b → CountsRose leaf ys b c → CountsRose leaf (xs ++ ys) a c
 counted_on leaf xs ys a b c g h = record {
-  region = counted_faults a.region_faults b.region_faults c.region_faults (region_faults_in leaf xs) (region_faults_in leaf ys) (region_faults_in leaf (xs ++ ys))
+  region = counted_faults a.region_faults b.region_faults c.region_faults (deeds_in (λ deed ending. is_region_fault ending) leaf xs) (deeds_in (λ deed ending. is_region_fault ending) leaf ys) (deeds_in (λ deed ending. is_region_fault ending) leaf (xs ++ ys))
       (deeds_append (λ deed ending. is_region_fault ending) leaf xs ys) g.region h.region;
-  disk = counted_faults a.disk_faults b.disk_faults c.disk_faults (disk_faults_in leaf xs) (disk_faults_in leaf ys) (disk_faults_in leaf (xs ++ ys))
+  disk = counted_faults a.disk_faults b.disk_faults c.disk_faults (deeds_in (λ deed ending. is_disk_fault ending) leaf xs) (deeds_in (λ deed ending. is_disk_fault ending) leaf ys) (deeds_in (λ deed ending. is_disk_fault ending) leaf (xs ++ ys))
       (deeds_append (λ deed ending. is_disk_fault ending) leaf xs ys) g.disk h.disk;
-  reads = counted_reads a.disk_reads b.disk_reads c.disk_reads (disk_reads_in leaf xs) (disk_reads_in leaf ys) (disk_reads_in leaf (xs ++ ys))
+  reads = counted_reads a.disk_reads b.disk_reads c.disk_reads (deeds_in reads_disk leaf xs) (deeds_in reads_disk leaf ys) (deeds_in reads_disk leaf (xs ++ ys))
       (deeds_append reads_disk leaf xs ys) g.reads h.reads;
 }
 
@@ -150,11 +150,11 @@ plays_snoc : (ps : List PlayedItem) (p : PlayedItem) → plays_in (ps ++ p ∷ [
 plays_snoc ps p = flat_map-append plays_of ps (p ∷ []) ∙ ap (λ (qs : List Played). plays_in ps ++ qs) (append-nil (plays_of p))
 
 -- what watches heard of some commands, and then of others
-heard_on : (fleet : Fleet) (ps qs : List Played) (a b c : List Held) → HearsAll fleet ps a b → HearsAll fleet qs b c → HearsAll fleet (ps ++ qs) a c
+heard_on : (fleet : FleetShape) (ps qs : List Played) (a b c : List Held) → HearsAll fleet ps a b → HearsAll fleet qs b c → HearsAll fleet (ps ++ qs) a c
 heard_on fleet [] qs a b c first next = subst (λ (watches : List Held). HearsAll fleet qs watches c) first next
 heard_on fleet (p ∷ ps) qs a b c first next = (first.0, first.1, heard_on fleet ps qs first.0 b c first.2 next)
 
-pub run_goes_on : {B : Type 0} (base : ℕ → Option NamedStates) (meaning : B → Meaning) (fleet crew : Fleet) (olds : List B) (was written after : Option (List ℕ)) (watching between watched : List Held) (items : List Item) (x : Item) (fs gs : List Follower) (xs ys : List (Hold B))
+pub run_goes_on : {B : Type 0} (base : ℕ → Option NamedStates) (meaning : B → Meaning) (fleet crew : FleetShape) (olds : List B) (was written after : Option (List ℕ)) (watching between watched : List Held) (items : List Item) (x : Item) (fs gs : List Follower) (xs ys : List (Hold B))
     → RunSoFar base meaning fleet olds was written watching between items fs xs
     → crew ≡ fleet
     → Advances meaning crew fs gs xs ys written after between watched x
@@ -162,7 +162,7 @@ pub run_goes_on : {B : Type 0} (base : ℕ → Option NamedStates) (meaning : B 
     → AreFollowers fleet fs
     → RunSoFar base meaning fleet olds was after watching watched (items ++ x ∷ []) gs ys
 run_goes_on {B} base meaning fleet crew olds was written after watching between watched items x fs gs xs ys run same advance passes followers =
-    let step : Advances meaning fleet fs gs xs ys written after between watched x = subst (λ (f : Fleet). Advances meaning f fs gs xs ys written after between watched x) same advance in
+    let step : Advances meaning fleet fs gs xs ys written after between watched x = subst (λ (f : FleetShape). Advances meaning f fs gs xs ys written after between watched x) same advance in
     let p : PlayedItem = step.played in
     let text : Appends was after (lines_text fleet.names (all_lines run.played ++ item_lines p)) =
     subst (Appends was after) (sym (flat_map-append (line_text fleet.names) (all_lines run.played) (item_lines p)))
@@ -184,11 +184,11 @@ run_goes_on {B} base meaning fleet crew olds was written after watching between 
       followed = λ known is histories on.
           let later = plays_on meaning olds fleet known run.played xs ys p (run.session known is) step.plays in
           let one = step.follows histories on in
-          follow_on fleet (grounds_of fleet known) histories run.played p [] fs gs (run.followed known is histories (later.1 histories on))
+          follow_on fleet (base_states_of fleet known) histories run.played p [] fs gs (run.followed known is histories (later.1 histories on))
           (record {
             between = one.between;
             may = one.may;
-            itself = does_same fleet (grounds_in ys) (grounds_of fleet known) histories (sessions_know meaning olds fleet known (run.played ++ p ∷ []) ys later.0) p fs one.between followers one.itself;
+            itself = does_same fleet (base_states_in ys) (base_states_of fleet known) histories (sessions_know meaning olds fleet known (run.played ++ p ∷ []) ys later.0) p fs one.between followers one.itself;
             follow = one.follow;
           });
     }
@@ -197,7 +197,7 @@ run_goes_on {B} base meaning fleet crew olds was written after watching between 
     held_before leaf y now = element_at xs leaf (omega (arith, within ys leaf y now, passes.count))
 
 -- what an item did, once its lines were written
-pub advances : {B E F : Type 0} (meaning : B → Meaning) (fleet : Fleet) (x : Item) (fs gs : List Follower) (xs ys : List (Hold B)) (was now : Option (List ℕ)) (watching watched : List Held) (lines : Result (Vec Line Global) E) (written : Result (Unit {0}) F)
+pub advances : {B E F : Type 0} (meaning : B → Meaning) (fleet : FleetShape) (x : Item) (fs gs : List Follower) (xs ys : List (Hold B)) (was now : Option (List ℕ)) (watching watched : List Held) (lines : Result (Vec Line Global) E) (written : Result (Unit {0}) F)
     → MayRun fleet x
     → OrNothing (ItemDid meaning fleet x (FollowsLines x fs gs) fs xs watching (told_lines lines) ys watched) xs watching (told_lines lines) ys watched
     → OnOk written (IsOk lines)
@@ -221,8 +221,8 @@ advances meaning fleet x fs gs xs ys was now watching watched (Ok ls) (Ok u) may
             between = e.0;
             may = playable fleet x went.played may went.lines_are.0;
             itself = e.1;
-            follow = subst (λ (ks : List Line). FollowAll (map (noted (item_of went.played)) fs) ks e.0 gs) went.lines_are.1
-                (subst (λ (i : Item). FollowAll (map (noted i) fs) ls.items e.0 gs) (sym went.lines_are.0) e.2);
+            follow = subst (λ (ks : List Line). FollowAll (map (meant_for (item_of went.played)) fs) ks e.0 gs) went.lines_are.1
+                (subst (λ (i : Item). FollowAll (map (meant_for i) fs) ls.items e.0 gs) (sym went.lines_are.0) e.2);
           };
     }
 
@@ -232,7 +232,7 @@ on_err (Ok x) p = tt
 on_err (Err e) p = p
 
 -- an item whose lines were not all written, or that had none
-pub stops_one : {B E : Type 0} (meaning : B → Meaning) (fleet : Fleet) (x : Item) (T : List Follower → List Line → Type 0) (fs : List Follower) (xs ys : List (Hold B)) (was now : Option (List ℕ)) (watching watched : List Held) (lines : Result (Vec Line Global) E)
+pub stops_one : {B E : Type 0} (meaning : B → Meaning) (fleet : FleetShape) (x : Item) (T : List Follower → List Line → Type 0) (fs : List Follower) (xs ys : List (Hold B)) (was now : Option (List ℕ)) (watching watched : List Held) (lines : Result (Vec Line Global) E)
     → OrNothing (ItemDid meaning fleet x T fs xs watching (told_lines lines) ys watched) xs watching (told_lines lines) ys watched
     → IfOk lines (λ ls. WritesFront was now (lines_text fleet.names ls.items)) → (told_lines lines ≡ None → now ≡ was)
     → StopsAt meaning fleet fs xs ys was now watching watched x
@@ -246,19 +246,19 @@ stops_one meaning fleet x T fs xs ys was now watching watched (Err e) (inl d) fr
     (λ histories on. let k = d.did histories on in (k.0, k.1))
 
 -- what was told of a fleet, with what its standing queries tell
-pub fleet_right : {B : Type 0} (meaning : B → Meaning) (fleet : Fleet) (known : ℕ → Option Known) (played : List PlayedItem) (olds : List B) (xs : List (Hold B)) → AreNames fleet.names
-    → ((histories : ℕ → ℕ → List Entry) → GoOn xs histories → FollowedSome fleet (grounds_of fleet known) histories played []) → IsToldFleet meaning fleet known played olds xs
+pub fleet_right : {B : Type 0} (meaning : B → Meaning) (fleet : FleetShape) (known : ℕ → Option Known) (played : List PlayedItem) (olds : List B) (xs : List (Hold B)) → AreNames fleet.names
+    → ((histories : ℕ → ℕ → List Entry) → GoOn xs histories → FollowedSome fleet (base_states_of fleet known) histories played []) → IsToldFleet meaning fleet known played olds xs
     → ToldFleet meaning fleet known played olds xs
 fleet_right meaning fleet known played olds xs names followed told =
     let t = told.transcript in
     record {
       fleet_is = told;
       standing = tell_right fleet known (map item_of played) (lines_text fleet.names (all_lines played)) t names
-          (subst (λ (ps : List PlayedItem). FollowedSome fleet (grounds_of fleet known) t.histories ps []) (sym told.played_is) (followed t.histories told.go_on));
+          (subst (λ (ps : List PlayedItem). FollowedSome fleet (base_states_of fleet known) t.histories ps []) (sym told.played_is) (followed t.histories told.go_on));
     }
 
 -- once all seats have met again, the run is told
-pub run_ends : {B : Type 0} (base : ℕ → Option NamedStates) (meaning : B → Meaning) (fleet : Fleet) (olds : List B) (was now : Option (List ℕ)) (watching watched : List Held) (items : List Item) (fs : List Follower) (xs : List (Hold B)) → AreNames fleet.names
+pub run_ends : {B : Type 0} (base : ℕ → Option NamedStates) (meaning : B → Meaning) (fleet : FleetShape) (olds : List B) (was now : Option (List ℕ)) (watching watched : List Held) (items : List Item) (fs : List Follower) (xs : List (Hold B)) → AreNames fleet.names
     → RunSoFar base meaning fleet olds was now watching watched items fs xs → ((leaf : ℕ) (x : Hold B) → slice_get xs leaf ≡ Some x → HasMet meaning x)
     → IsRun base meaning fleet olds was now watching watched items xs
 run_ends base meaning fleet olds was now watching watched items fs xs names run met = record {
@@ -268,7 +268,7 @@ run_ends base meaning fleet olds was now watching watched items fs xs names run 
   heard = run.heard;
   counted = run.counted;
   told = λ known is. fleet_right meaning fleet known run.played olds xs names
-      (λ histories on. follow_to_end fleet (grounds_of fleet known) histories run.played [] fs (run.followed known is histories on))
+      (λ histories on. follow_to_end fleet (base_states_of fleet known) histories run.played [] fs (run.followed known is histories on))
       (ended meaning olds fleet known run.played xs (run.session known is) met);
 }
 
@@ -301,13 +301,13 @@ front_of was now text {A} (inr same) = subst (λ (o : Option (List ℕ)). (w : W
 
 -- ---- a run that stops
 
-module _ {B : Type 0} (base : ℕ → Option NamedStates) (meaning : B → Meaning) (fleet : Fleet) (olds : List B) (was : Option (List ℕ)) (watching : List Held) where
+module _ {B : Type 0} (base : ℕ → Option NamedStates) (meaning : B → Meaning) (fleet : FleetShape) (olds : List B) (was : Option (List ℕ)) (watching : List Held) where
   -- before an item of which nothing was done
   pub run_halts : (written : Option (List ℕ)) (watched : List Held) (items more : List Item) (fs : List Follower) (xs : List (Hold B)) → RunSoFar base meaning fleet olds was written watching watched items fs xs
       → (items ≡ [] → berths_in xs ≡ olds) → RunShort base meaning fleet olds was written watching watched (items ++ more) xs
   run_halts written watched items more fs xs run first = record {
     played = run.played;
-    some = PlaysSome.whole (more, ap (λ (is : List Item). is ++ more) (sym run.items_are));
+    some = inl (more, ap (λ (is : List Item). is ++ more) (sym run.items_are));
     rest = [];
     text = all_written was written (lines_text fleet.names (all_lines run.played)) run.text;
     last = omega arith;
@@ -317,7 +317,7 @@ module _ {B : Type 0} (base : ℕ → Option NamedStates) (meaning : B → Meani
     keeps = run.keeps;
     untouched = λ none. first (sym run.items_are ∙ ap (λ (ps : List PlayedItem). map item_of ps) none);
     session = run.session;
-    followed = λ known is histories on. follow_to_end fleet (grounds_of fleet known) histories run.played [] fs (run.followed known is histories on);
+    followed = λ known is histories on. follow_to_end fleet (base_states_of fleet known) histories run.played [] fs (run.followed known is histories on);
   }
 
   -- behind one that was played, or begun, and of which a front was written
@@ -325,7 +325,7 @@ module _ {B : Type 0} (base : ℕ → Option NamedStates) (meaning : B → Meani
       → RunSoFar base meaning fleet olds was written watching between items fs xs → AllPass meaning xs ys → AreFollowers fleet fs
       → BeginsItem (item_of p) x → PlaysItem meaning fleet xs p ys → AllCounted meaning (all_pieces (p ∷ [])) xs ys → HearsAll fleet (plays_of p) between watched
       → ((item_of p ≡ x) × WritesFront written after (lines_text fleet.names (item_lines p))) ⊎ (after ≡ written)
-      → ((histories : ℕ → ℕ → List Entry) → GoOn ys histories → (gs : List Follower) × DoesItself fleet (grounds_in ys) histories p fs gs)
+      → ((histories : ℕ → ℕ → List Entry) → GoOn ys histories → (gs : List Follower) × DoesItself fleet (base_states_in ys) histories p fs gs)
       → RunShort base meaning fleet olds was after watching watched (items ++ x ∷ more) ys
   run_cut written after between watched items more x fs xs ys p run passes followers begins plays counts heard wrote did =
       let piece : List ℕ = lines_text fleet.names (item_lines p) in
@@ -337,7 +337,7 @@ module _ {B : Type 0} (base : ℕ → Option NamedStates) (meaning : B → Meani
       ap (λ (ls : List Line). lines_text fleet.names ls) (lines_snoc run.played p) ∙ flat_map-append (line_text fleet.names) (all_lines run.played) (item_lines p) in
       record {
         played = run.played ++ p ∷ [];
-        some = PlaysSome.within items (item_of p) x more refl begins (map-append item_of run.played (p ∷ []) ∙ ap (λ (is : List Item). is ++ item_of p ∷ []) run.items_are);
+        some = inr (items, more, item_of p, x, refl, begins, map-append item_of run.played (p ∷ []) ∙ ap (λ (is : List Item). is ++ item_of p ∷ []) run.items_are);
         rest = front.0;
         text = subst (λ (t : List ℕ). Written was after t front.0) (sym lines)
             (front_behind was written after (lines_text fleet.names (all_lines run.played)) (lines_text fleet.names (item_lines p)) front.0 run.text front.1);
@@ -361,8 +361,8 @@ module _ {B : Type 0} (base : ℕ → Option NamedStates) (meaning : B → Meani
         followed = λ known is histories on.
             let later = plays_on meaning olds fleet known run.played xs ys p (run.session known is) plays in
             let one = did histories on in
-            follow_to_stop fleet (grounds_of fleet known) histories run.played p [] fs one.0 (run.followed known is histories (later.1 histories on))
-            (does_same fleet (grounds_in ys) (grounds_of fleet known) histories (sessions_know meaning olds fleet known (run.played ++ p ∷ []) ys later.0) p fs one.0 followers one.1);
+            follow_to_stop fleet (base_states_of fleet known) histories run.played p [] fs one.0 (run.followed known is histories (later.1 histories on))
+            (does_same fleet (base_states_in ys) (base_states_of fleet known) histories (sessions_know meaning olds fleet known (run.played ++ p ∷ []) ys later.0) p fs one.0 followers one.1);
       }
     where
       some_there : (ps : List PlayedItem) (p : PlayedItem) → ps ++ p ∷ [] ≡ [] → ⊥
@@ -387,22 +387,22 @@ some_done [] x e = cc
 some_done (y ∷ done) x e = cc
 
 -- at an item of all of them
-pub run_short : {B : Type 0} (base : ℕ → Option NamedStates) (meaning : B → Meaning) (fleet crew : Fleet) (olds : List B) (was written after : Option (List ℕ)) (watching between watched : List Held) (done left more all : List Item) (x : Item) (fs : List Follower) (xs ys : List (Hold B))
+pub run_short : {B : Type 0} (base : ℕ → Option NamedStates) (meaning : B → Meaning) (fleet crew : FleetShape) (olds : List B) (was written after : Option (List ℕ)) (watching between watched : List Held) (done left more all : List Item) (x : Item) (fs : List Follower) (xs ys : List (Hold B))
     → RunSoFar base meaning fleet olds was written watching between done fs xs → (done ≡ [] → berths_in xs ≡ olds) → done ++ left ≡ all → left ≡ x ∷ more → AllPass meaning xs ys → crew ≡ fleet → AreFollowers fleet fs
     → StopsAt meaning crew fs xs ys written after between watched x
     → RunShort base meaning fleet olds was after watching watched all ys
 run_short base meaning fleet crew olds was written after watching between watched done left more all x fs xs ys run first whole is passes same followers stops =
     subst (λ (its : List Item). RunShort base meaning fleet olds was after watching watched its ys) (ap (λ (r : List Item). done ++ r) (sym is) ∙ whole)
     (run_stops base meaning fleet olds was watching written after between watched done more x fs xs ys run first passes followers
-    (subst (λ (f : Fleet). StopsAt meaning f fs xs ys written after between watched x) same stops))
+    (subst (λ (f : FleetShape). StopsAt meaning f fs xs ys written after between watched x) same stops))
 
 -- with the same standing queries
-pub followers_as : {B : Type 0} (base : ℕ → Option NamedStates) (meaning : B → Meaning) (fleet : Fleet) (olds : List B) (was now : Option (List ℕ)) (watching watched : List Held) (items : List Item) (fs gs : List Follower) (xs : List (Hold B)) → gs ≡ fs
+pub followers_as : {B : Type 0} (base : ℕ → Option NamedStates) (meaning : B → Meaning) (fleet : FleetShape) (olds : List B) (was now : Option (List ℕ)) (watching watched : List Held) (items : List Item) (fs gs : List Follower) (xs : List (Hold B)) → gs ≡ fs
     → RunSoFar base meaning fleet olds was now watching watched items fs xs → RunSoFar base meaning fleet olds was now watching watched items gs xs
 followers_as base meaning fleet olds was now watching watched items fs gs xs same run = subst (λ (hs : List Follower). RunSoFar base meaning fleet olds was now watching watched items hs xs) (sym same) run
 
 -- once no item is left
-pub run_whole : {B : Type 0} (base : ℕ → Option NamedStates) (meaning : B → Meaning) (fleet : Fleet) (olds : List B) (was now : Option (List ℕ)) (watching watched : List Held) (done left all : List Item) (fs : List Follower) (xs : List (Hold B))
+pub run_whole : {B : Type 0} (base : ℕ → Option NamedStates) (meaning : B → Meaning) (fleet : FleetShape) (olds : List B) (was now : Option (List ℕ)) (watching watched : List Held) (done left all : List Item) (fs : List Follower) (xs : List (Hold B))
     → RunSoFar base meaning fleet olds was now watching watched done fs xs → done ++ left ≡ all → left ≡ [] → RunSoFar base meaning fleet olds was now watching watched all fs xs
 run_whole base meaning fleet olds was now watching watched done left all fs xs run whole none =
     subst (λ (its : List Item). RunSoFar base meaning fleet olds was now watching watched its fs xs) (sym (append-nil done) ∙ (ap (λ (r : List Item). done ++ r) (sym none) ∙ whole)) run

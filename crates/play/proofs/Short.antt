@@ -10,15 +10,16 @@ use Rattle.crash_moments.specs.Left.{NamedStates}
 use Rattle.rollover_watch.specs.Watches.{Held}
 use Rattle.script_text.specs.declared.item.Item.{Item}
 use Rattle.script_text.specs.declared.item.Item.TheVariants as item
-use Rattle.script_text.specs.declared.fleet.Fleet.{Fleet}
+use Rattle.script_text.specs.declared.fleet.FleetShape.{FleetShape}
 use Rattle.script_text.specs.declared.script.Script.{Script}
 use Rattle.script_text.specs.Commands.{leaf_count}
 use Rattle.script_text.specs.Script.{script_of}
 use Rattle.soak.specs.Soak.{soak_script}
 use Rattle.run_ends.specs.declared.status.Status.{Status}
+use Rattle.run_words.specs.declared.words.Request.TheVariants.{Play, Soak}
 use Rattle.transcript.specs.Pieces.{PlayedItem, all_lines, item_of, plays_in, script_fleet}
 use Rattle.transcript.specs.Transcript.{Known}
-use Rattle.transcript.specs.Leaving.{AreKnown, IsToldRun}
+use Rattle.transcript.specs.Leaving.{AreKnown, IsToldRun, IsWritten}
 use Rattle.transcript.specs.Watching.{HearsAll}
 use Rattle.leaf_moves.specs.Holds.{HasMet, Hold, berth_in}
 use Rattle.transcript_leaf.proofs.Lists.{within}
@@ -27,7 +28,8 @@ use Rattle.lane_play.specs.Shortened.{BeginsItem}
 use Rattle.play.specs.Cut.{IsShortened, PlaysSome}
 use Rattle.play.specs.Played.{leaves_in, soak_leaves}
 use Rattle.play.specs.Runs.{berths_in}
-use Rattle.play.specs.Shortened.{EndsShort, IfShort, RunShort, SoakEndsShort, StopsShort}
+use Rattle.play.specs.Outcome.{IsDone, IsShort}
+use Rattle.play.specs.Shortened.{IfShort, RunShort, StopsShort}
 use Rattle.play.proofs.Ends.{ToldBy, fleet_told, nothing_told, run_told}
 use Rattle.play.proofs.Lists.{front_at}
 use Rattle.play.proofs.Plays.{fleet_right}
@@ -46,12 +48,12 @@ begun_fleet (item.Burst lanes) (item.Burst wholes) ys xs begun = refl
 
 -- what was played, if anything was, has the fleet of all items
 fleet_begins : (items played : List Item) → PlaysSome items played → (played ≡ []) ⊎ (script_fleet played ≡ script_fleet items)
-fleet_begins items played (PlaysSome.whole (rest, is)) = subst (λ (all : List Item). (played ≡ []) ⊎ (script_fleet played ≡ script_fleet all)) (sym is) (by played)
+fleet_begins items played (inl (rest, is)) = subst (λ (all : List Item). (played ≡ []) ⊎ (script_fleet played ≡ script_fleet all)) (sym is) (by played)
   where
     by : (front : List Item) → (front ≡ []) ⊎ (script_fleet front ≡ script_fleet (front ++ rest))
     by [] = inl refl
     by (x ∷ xs) = inr (head_fleet x xs (xs ++ rest))
-fleet_begins items played (PlaysSome.within before last of behind is begins all) =
+fleet_begins items played (inr (before, behind, last, of, is, begins, all)) =
     inr (ap (λ (ps : List Item). script_fleet ps) all ∙ (by before ∙ ap (λ (ps : List Item). script_fleet ps) (sym is)))
   where
     by : (front : List Item) → script_fleet (front ++ last ∷ []) ≡ script_fleet (front ++ of ∷ behind)
@@ -108,7 +110,7 @@ module _ {B : Type 0} (meaning : B → Meaning) (first rest own : List B) (xs : 
       | inl none ↦ of_none known (none_played run.played none)
       | inr same ↦
           run_told meaning first rest own xs are count known watching watched (all_lines run.played) (map item_of run.played)
-          (subst (λ (f : Fleet). ToldBy meaning first rest own xs are count known watching watched (all_lines run.played) f (map item_of run.played)) (sym same)
+          (subst (λ (f : FleetShape). ToldBy meaning first rest own xs are count known watching watched (all_lines run.played) f (map item_of run.played)) (sym same)
           (fleet_told meaning first rest own xs are count known watching watched (script_fleet items) run.played size run.counted run.heard
           (fleet_right meaning (script_fleet items) known run.played first xs names (run.followed known here) (ended meaning first (script_fleet items) known run.played xs (run.session known here) met))))
     ];
@@ -127,19 +129,19 @@ module _ {B : Type 0} (meaning : B → Meaning) (first rest own : List B) (xs : 
 
 pub crew_shortened : {B : Type 0} (meaning : B → Meaning) (olds news own : List B) (old_xs xs : List (Hold B)) (leaves : ℕ) → leaves ≤ length olds → berths_in old_xs ≡ take leaves olds
     → map Some own ≡ map (λ (x : Hold B). berth_in x) xs → news ≡ own ++ drop leaves olds → length xs ≡ length (berths_in old_xs)
-    → (base : ℕ → Option NamedStates) (items : List Item) (fleet : Fleet) (was now : Option (List ℕ)) (watching watched : List Held) → script_fleet items ≡ fleet → leaf_count fleet ≡ leaves → AreNames fleet.names
+    → (base : ℕ → Option NamedStates) (items : List Item) (fleet : FleetShape) (was now : Option (List ℕ)) (watching watched : List Held) → script_fleet items ≡ fleet → leaf_count fleet ≡ leaves → AreNames fleet.names
     → RunShort base meaning fleet (berths_in old_xs) was now watching watched items xs → ((leaf : ℕ) (x : Hold B) → slice_get xs leaf ≡ Some x → HasMet meaning x)
     → IsShortened meaning olds news base items was now watching watched
 crew_shortened {B} meaning olds news own old_xs xs leaves enough had are has count base items fleet was now watching watched is size names run met =
     let sized : length (take leaves olds) ≡ leaves = length-take leaves olds ∙ omega (arith, enough) in
     let counted : length xs ≡ length (take leaves olds) = count ∙ ap (λ (bs : List B). length bs) had in
     let here : RunShort base meaning (script_fleet items) (take leaves olds) was now watching watched items xs =
-    subst (λ (f : Fleet). RunShort base meaning f (take leaves olds) was now watching watched items xs) (sym is)
+    subst (λ (f : FleetShape). RunShort base meaning f (take leaves olds) was now watching watched items xs) (sym is)
     (subst (λ (bs : List B). RunShort base meaning fleet bs was now watching watched items xs) had run) in
     subst (λ (bs : List B). IsShortened meaning bs news base items was now watching watched) (take-append-drop leaves olds)
     (subst (λ (bs : List B). IsShortened meaning (take leaves olds ++ drop leaves olds) bs base items was now watching watched) (sym has)
     (run_shortened meaning (take leaves olds) (drop leaves olds) own xs are counted base items was now watching watched
-    (ap (λ (f : Fleet). leaf_count f) is ∙ (size ∙ sym sized)) (subst (λ (f : Fleet). AreNames f.names) (sym is) names) here met))
+    (ap (λ (f : FleetShape). leaf_count f) is ∙ (size ∙ sym sized)) (subst (λ (f : FleetShape). AreNames f.names) (sym is) names) here met))
 
 -- what follows at a status that is short
 pub if_short : (status : Status) (P Q : Type 0) → (P → Q) → IfShort status P → IfShort status Q
@@ -152,7 +154,7 @@ if_short Status.ReadFault P Q f p = tt
 
 pub crew_short : {B : Type 0} (meaning : B → Meaning) (olds news own : List B) (old_xs xs : List (Hold B)) (leaves : ℕ) → leaves ≤ length olds → berths_in old_xs ≡ take leaves olds
     → map Some own ≡ map (λ (x : Hold B). berth_in x) xs → news ≡ own ++ drop leaves olds → length xs ≡ length (berths_in old_xs)
-    → (base : ℕ → Option NamedStates) (items played : List Item) (fleet : Fleet) (was now : Option (List ℕ)) (watching watched : List Held) → script_fleet items ≡ fleet → leaf_count fleet ≡ leaves → AreNames fleet.names → played ≡ items
+    → (base : ℕ → Option NamedStates) (items played : List Item) (fleet : FleetShape) (was now : Option (List ℕ)) (watching watched : List Held) → script_fleet items ≡ fleet → leaf_count fleet ≡ leaves → AreNames fleet.names → played ≡ items
     → ((leaf : ℕ) (x : Hold B) → slice_get xs leaf ≡ Some x → HasMet meaning x) → (status : Status)
     → IfShort status (RunShort base meaning fleet (berths_in old_xs) was now watching watched played xs)
     → IfShort status (StopsShort meaning olds news base items was now watching watched)
@@ -161,22 +163,35 @@ crew_short {B} meaning olds news own old_xs xs leaves enough had are has count b
     (λ r. inr (crew_shortened meaning olds news own old_xs xs leaves enough had are has count base items fleet was now watching watched is size names
     (subst (λ (its : List Item). RunShort base meaning fleet (berths_in old_xs) was now watching watched its xs) all r) met)) run
 
-pub ends_short : {B : Type 0} (base : ℕ → Option NamedStates) (meaning : B → Meaning) (before after was now : Option (List ℕ)) (olds news : List B) (watching watched : List Held) (text : List ℕ) (script : Script) (status : Status)
-    → ReadsAll before after text → script_of text ≡ Ok script → leaves_in script.items ≤ length olds → IfShort status (StopsShort meaning olds news base script.items was now watching watched)
-    → IfShort status (EndsShort base meaning before after was now olds news watching watched)
-ends_short {B} base meaning before after was now olds news watching watched text script status read is enough short =
-    if_short status (StopsShort meaning olds news base script.items was now watching watched) (EndsShort base meaning before after was now olds news watching watched) by short
-  where
-    by : StopsShort meaning olds news base script.items was now watching watched → EndsShort base meaning before after was now olds news watching watched
-    by (inl none) = EndsShort.nothing none.0 none.1 none.2
-    by (inr some) = EndsShort.some text script read is enough some
+-- ---- what the request for a play is told
 
-pub soak_ends_short : {B : Type 0} (base : ℕ → Option NamedStates) (meaning : B → Meaning) (seed rows : ℕ) (was now : Option (List ℕ)) (olds news : List B) (watching watched : List Held) (script : Script) (status : Status)
-    → script ≡ soak_script seed rows → soak_leaves ≤ length olds → IfShort status (StopsShort meaning olds news base script.items was now watching watched)
-    → IfShort status (SoakEndsShort base meaning seed rows was now olds news watching watched)
-soak_ends_short {B} base meaning seed rows was now olds news watching watched script status is enough short =
-    if_short status (StopsShort meaning olds news base script.items was now watching watched) (SoakEndsShort base meaning seed rows was now olds news watching watched) by short
-  where
-    by : StopsShort meaning olds news base script.items was now watching watched → SoakEndsShort base meaning seed rows was now olds news watching watched
-    by (inl none) = SoakEndsShort.nothing none.0 none.1 none.2
-    by (inr some) = SoakEndsShort.some enough (subst (λ (s : Script). IsShortened meaning olds news base s.items was now watching watched) is some)
+module _ {B : Type 0} (base : ℕ → Option NamedStates) (meaning : B → Meaning) (before after was now : Option (List ℕ)) (olds news : List B) (watching watched : List Held) (script : Script) where
+  abbrev All : Type 0
+  All = IsWritten meaning olds news base script.items was now watching watched
+
+  abbrev Part : Type 0
+  Part = StopsShort meaning olds news base script.items was now watching watched
+
+  -- a source that was read whole
+  module _ (text : List ℕ) (read : ReadsAll before after text) (is : script_of text ≡ Ok script) (enough : leaves_in script.items ≤ length olds) where
+    pub source_done : All → IsDone base meaning before after was now olds news watching watched (Some Play)
+    source_done all = (text, script, read, is, enough, all)
+
+    pub source_short : (status : Status) → IfShort status Part → IfShort status (IsShort base meaning before after was now olds news watching watched (Some Play))
+    source_short status short = if_short status Part (IsShort base meaning before after was now olds news watching watched (Some Play)) by short
+      where
+        by : Part → IsShort base meaning before after was now olds news watching watched (Some Play)
+        by (inl none) = inl none
+        by (inr some) = inr (text, script, read, is, enough, some)
+
+  -- a soak
+  module _ (seed rows : ℕ) (is : script ≡ soak_script seed rows) (enough : soak_leaves ≤ length olds) where
+    pub soak_done : All → IsDone base meaning before after was now olds news watching watched (Some (Soak seed rows))
+    soak_done all = (enough, subst (λ (s : Script). IsWritten meaning olds news base s.items was now watching watched) is all)
+
+    pub soak_short : (status : Status) → IfShort status Part → IfShort status (IsShort base meaning before after was now olds news watching watched (Some (Soak seed rows)))
+    soak_short status short = if_short status Part (IsShort base meaning before after was now olds news watching watched (Some (Soak seed rows))) by short
+      where
+        by : Part → IsShort base meaning before after was now olds news watching watched (Some (Soak seed rows))
+        by (inl none) = inl none
+        by (inr some) = inr (enough, subst (λ (s : Script). IsShortened meaning olds news base s.items was now watching watched) is some)

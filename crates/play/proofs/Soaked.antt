@@ -3,7 +3,7 @@ use Rattle.std.proofs.Common.{◌≡◌, ◌≤◌, ◌∙◌, ℕ, Bool, true, 
 use Rattle.std.specs.Prelude.{if◌then◌else◌}
 use Rattle.berth_face.specs.Streams.{TakesAtMost}
 use Rattle.script_text.specs.declared.script.Script.{Script}
-use Rattle.text_faults.specs.declared.fault.Why.TheVariants as why
+use Rattle.row_model.specs.declared.script_fault.Why.TheVariants as why
 use Rattle.soak.specs.Soak.{soak_script}
 use Rattle.run_ends.specs.Outcome.{IfScript, TakesText}
 use Rattle.run_ends.specs.Source.{longest_text}

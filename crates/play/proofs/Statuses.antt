@@ -1,6 +1,6 @@
 -- A run is done where nothing is at fault.
 use Rattle.std.proofs.Common.{◌≡◌, inl, inr, ◌∙◌, ℕ, refl}
-use Rattle.text_faults.specs.declared.fault.Why.{Why}
+use Rattle.row_model.specs.declared.script_fault.Why.{Why}
 use Rattle.run_ends.specs.declared.status.Status.TheVariants as status
 use Rattle.play.specs.Complete.{IsComplete}
 

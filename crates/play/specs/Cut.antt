@@ -15,13 +15,9 @@ use Rattle.transcript.specs.Leaving.{AreKnown, IsToldRun}
 -- ---- which commands were played
 
 -- A prefix of these items was played. Its last item may be a burst of which only prefixes of the lanes were.
-pub data PlaysSome (items played : List Item) : Type 0 where
-  whole : Begins played items → PlaysSome items played
-  within : (before : List Item) (last of : Item) (behind : List Item)
-      → items ≡ before ++ of ∷ behind
-      → BeginsItem last of
-      → played ≡ before ++ last ∷ []
-      → PlaysSome items played
+abbrev pub PlaysSome : List Item → List Item → Type 0
+PlaysSome items played = Begins played items
+    ⊎ ((before behind : List Item) × (last of : Item) × (items ≡ before ++ of ∷ behind) × BeginsItem last of × (played ≡ before ++ last ∷ []))
 
 -- ---- how much of their text was written
 

@@ -51,4 +51,4 @@ rests_empty m o there = record {
 pub is_fresh_base : (berth : MemBerth) → FreshOn [] [] berth → IsBase nothing_kept (meaning berth)
 is_fresh_base berth f =
     let there = stands berth.region.items berth.disk.items berth.calls.items berth.region_faults berth.disk_faults berth.disk_reads in
-    record { begins = (refl, (none_written, None, rests_empty (meaning berth) f.opened there)); is = λ name. refl }
+    record { begins = (refl, (none_written, None, rests_empty (meaning berth) f.opened there)); is = λ name. refl; least = λ name. inl refl }

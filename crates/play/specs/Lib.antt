@@ -3,8 +3,8 @@ pub mod Empty
 pub mod Played
 pub mod Inspected
 pub mod Runs
+pub mod Cut
 pub mod Outcome
 pub mod Complete
-pub mod Cut
 pub mod Shortened
 pub mod Ran

@@ -1,33 +1,52 @@
 -- What a run leaves, and which status words and text decide.
-use Rattle.std.specs.Prelude.{◌≡◌, ℕ, List, nat_le, nat_lt, if◌then◌else◌, Option, Some, None, Result, Ok, Err}
+use Rattle.std.specs.Prelude.{◌≡◌, ◌⊎◌, ℕ, ◌≤◌, List, [], length, nat_le, nat_lt, if◌then◌else◌, Option, Some, None, Result, Ok, Err, ⊤}
 use Rattle.berth_face.specs.Berth.{Meaning}
+use Rattle.berth_face.specs.Streams.{ReadsAll}
 use Rattle.crash_moments.specs.Left.{NamedStates}
 use Rattle.rollover_watch.specs.Watches.{Held}
-use Rattle.text_faults.specs.declared.fault.Why.{Why}
-use Rattle.text_faults.specs.declared.fault.Why.TheVariants as why
-use Rattle.text_faults.specs.declared.fault.ScriptFault.{ScriptFault}
-use Rattle.text_faults.specs.declared.fault.ScriptFault.TheVariants.{At, NoMemory}
+use Rattle.row_model.specs.declared.script_fault.Why.{Why}
+use Rattle.row_model.specs.declared.script_fault.Why.TheVariants as why
+use Rattle.row_model.specs.declared.script_fault.ScriptFault.{ScriptFault}
+use Rattle.row_model.specs.declared.script_fault.ScriptFault.TheVariants.{At, NoMemory}
+use Rattle.script_text.specs.declared.item.Item.{Item}
 use Rattle.script_text.specs.declared.script.Script.{Script}
 use Rattle.script_text.specs.Commands.{Fault}
 use Rattle.script_text.specs.Script.{script_of}
+use Rattle.soak.specs.Soak.{soak_script}
+use Rattle.transcript.specs.Leaving.{IsWritten}
 use Rattle.run_ends.specs.Outcome.{IsRefused, if_short}
 use Rattle.row_count.specs.Outcome.{IsCounted, count_verdict}
 use Rattle.row_count.specs.declared.count.Range.{Range}
 use Rattle.run_ends.specs.declared.status.Status.{Status}
-use Rattle.play.specs.Inspected.{IsInspected}
-use Rattle.play.specs.Played.{IsPlayed, IsSoaked, leaves_in, soak_leaves}
+use Rattle.play.specs.Inspected.{InspectEndsShort, IsInspected}
+use Rattle.play.specs.Cut.{IsShortened}
+use Rattle.play.specs.Played.{leaves_in, soak_leaves}
 use Rattle.run_words.specs.declared.words.Request.{Request}
 use Rattle.run_words.specs.declared.words.Request.TheVariants.{Count, Inspect, Play, Soak}
 
 -- ---- what was done
 
--- all that the request asks for was done
-abbrev pub IsDone : {B : Type 0} → (ℕ → Option NamedStates) → (B → Meaning) → Option Request → Option (List ℕ) → Option (List ℕ) → Option (List ℕ) → Option (List ℕ) → List B → List B → List Held → List Held → Type 0
-IsDone base meaning None before after was now old new watching watched = ⊥
-IsDone base meaning (Some (Count range)) before after was now old new watching watched = IsCounted range before after was now
-IsDone base meaning (Some Play) before after was now old new watching watched = IsPlayed base meaning before after was now old new watching watched
-IsDone base meaning (Some (Soak seed rows)) before after was now old new watching watched = (after ≡ before) × IsSoaked base meaning seed rows was now old new watching watched
-IsDone base meaning (Some (Inspect leaf)) before after was now old new watching watched = IsInspected meaning leaf was now old new
+module _ {B : Type 0} (base : ℕ → Option NamedStates) (meaning : B → Meaning) (before after was now : Option (List ℕ)) (old new : List B) (watching watched : List Held) where
+  -- The items that a request plays have this property, and the berths are enough for them. They are those of the
+  -- source's text, which was read to its end and is a script; or those of a soak, which reads nothing.
+  abbrev pub OfItems : Option Request → (List Item → Type 0) → Type 0
+  OfItems (Some Play) P = (text : List ℕ) × (script : Script) × ReadsAll before after text × (script_of text ≡ Ok script) × (leaves_in script.items ≤ length old) × P script.items
+  OfItems (Some (Soak seed rows)) P = (soak_leaves ≤ length old) × P (soak_script seed rows).items
+  OfItems _ P = ⊥
+
+  -- All that the request asks for was done. The text that was written is a transcript of what was played, and the
+  -- watches heard what that tells.
+  abbrev pub IsDone : Option Request → Type 0
+  IsDone (Some (Count range)) = IsCounted range before after was now
+  IsDone (Some (Inspect leaf)) = IsInspected meaning leaf old new was now
+  IsDone request = OfItems request (λ items. IsWritten meaning old new base items was now watching watched)
+
+  -- What was played and written, if the run stopped early: nothing, or some of the items. Clauses of their own say it
+  -- of a count.
+  abbrev pub IsShort : Option Request → Type 0
+  IsShort (Some (Count range)) = ⊤
+  IsShort (Some (Inspect leaf)) = InspectEndsShort meaning leaf old new was now
+  IsShort request = ((now ≡ was) × (new ≡ old) × (watched ≡ watching)) ⊎ OfItems request (λ items. IsShortened meaning old new base items was now watching watched)
 
 -- ---- which status the words and the text decide
 
@@ -65,10 +84,9 @@ verdict berths (Some (Inspect leaf)) text = inspect_verdict berths leaf
 
 -- why a request is refused; a soak and an inspect read no source
 abbrev pub IsTextRefused : ℕ → Option Request → Option (List ℕ) → Option (List ℕ) → ℕ → Why → Type 0
-IsTextRefused berths None before after line fault = ⊥
-IsTextRefused berths (Some (Soak seed rows)) before after line fault = soak_verdict berths ≡ Status.Script line fault
-IsTextRefused berths (Some (Inspect leaf)) before after line fault = inspect_verdict berths leaf ≡ Status.Script line fault
-IsTextRefused berths request before after line fault = IsRefused (verdict berths request) before after line fault
+IsTextRefused berths (Some (Count range)) before after line fault = IsRefused (count_verdict range) before after line fault
+IsTextRefused berths (Some Play) before after line fault = IsRefused (play_verdict berths) before after line fault
+IsTextRefused berths request before after line fault = verdict berths request [] ≡ Status.Script line fault
 
 -- ---- what holds at which status
 

@@ -12,9 +12,9 @@ use Rattle.run_ends.specs.declared.status.Status.{Status}
 use Rattle.row_count.specs.Outcome.{IsCutShort}
 use Rattle.run_words.specs.Words.{IfCount}
 use Rattle.run_words.specs.declared.words.Request.{Request}
-use Rattle.play.specs.Outcome.{IfInspect, IfUnread, IsDone, IsTextRefused, UnlessPlayed, verdict}
+use Rattle.play.specs.Outcome.{IfInspect, IfUnread, IsDone, IsShort, IsTextRefused, UnlessPlayed, verdict}
 use Rattle.play.specs.Played.{LeavesBerths, leaves_asked}
-use Rattle.play.specs.Shortened.{IfShort, IsShort}
+use Rattle.play.specs.Shortened.{IfShort}
 
 -- what a run is handed, at one moment: a source, a sink, the berths and the watches, with what the watches hold
 pub record Outside (S K B W : Type 0) : Type 0 where
@@ -39,9 +39,9 @@ sight left source_faults written sink_faults = record { left = left; source_faul
 
 -- a run over berths with these bases did what is asked for, or stopped for the cause that its status names
 pub record HasRun {S K B W : Type 0} (base : ℕ → Option NamedStates) (meaning : B → Meaning) (of : Sight S K) (request : Option Request) (status : Status) (old new : Outside S K B W) : Type 0 where
-  pub done : status ≡ Status.Done → IsDone base meaning request (of.left old.source) (of.left new.source) (of.written old.sink) (of.written new.sink) old.berths.items new.berths.items old.held new.held
+  pub done : status ≡ Status.Done → IsDone base meaning (of.left old.source) (of.left new.source) (of.written old.sink) (of.written new.sink) old.berths.items new.berths.items old.held new.held request
   -- after WriteFault and NoMemory: a prefix of the run was played and written, and this is what it left
-  pub short : IfShort status (IsShort base meaning request (of.left old.source) (of.left new.source) (of.written old.sink) (of.written new.sink) old.berths.items new.berths.items old.held new.held)
+  pub short : IfShort status (IsShort base meaning (of.left old.source) (of.left new.source) (of.written old.sink) (of.written new.sink) old.berths.items new.berths.items old.held new.held request)
   -- each other status has its cause, NoMemory excepted
   pub words : (status ≡ Status.Words) ↔ (request ≡ None)
   pub script : IfScript status (IsTextRefused (length old.berths.items) request (of.left old.source) (of.left new.source))

@@ -11,16 +11,16 @@ use Rattle.rollover_watch.specs.Watches.{Held}
 use Rattle.script_text.specs.declared.item.Item.{Item}
 use Rattle.script_text.specs.Fits.{AreLeaves}
 use Rattle.printed_lines.specs.Lines.{lines_text, name_at}
-use Rattle.script_text.specs.declared.fleet.Fleet.{Fleet}
+use Rattle.script_text.specs.declared.fleet.FleetShape.{FleetShape}
 use Rattle.transcript.specs.Pieces.{Piece, PlayedItem, all_lines, all_pieces, script_fleet, item_lines, item_of, plays_in, plays_of}
 use Rattle.transcript.specs.Counts.{CountsRose}
-use Rattle.transcript.specs.Transcript.{Known, grounds_of}
+use Rattle.transcript.specs.Transcript.{Known, base_states_of}
 use Rattle.transcript.specs.Telling.{AreTold}
 use Rattle.standing_feed.specs.declared.follower.Follower.{Follower}
 use Rattle.transcript_standing.specs.Followed.{FollowedAll, FollowsItem}
 use Rattle.transcript.specs.Leaving.{AreKnown}
 use Rattle.leaf_moves.specs.Stage.{Leaf}
-use Rattle.leaf_moves.specs.Holds.{GoOn, Hold, grounds_in, berth_in}
+use Rattle.leaf_moves.specs.Holds.{GoOn, Hold, base_states_in, berth_in}
 use Rattle.leaf_moves.specs.Lanes.{PlaysItem}
 use Rattle.transcript.specs.Watching.{HearsAll}
 use Rattle.transcript_fleet.specs.Session.{Session}
@@ -35,7 +35,7 @@ use Rattle.play.specs.Played.{KeepsCounts}
 -- the base of a table with this name, if the leaf's base is known
 abbrev pub table_base : Option NamedStates → List ℕ → Option TableBase
 table_base None name = None
-table_base (Some base) name = Some (record { writes = (base name).writes; flushed = (base name).flushed })
+table_base (Some base) name = Some (record { writes = (base name).writes; flushed = (base name).flushed; spare = (base name).spare })
 
 -- the base of each table of each leaf
 abbrev pub table_bases : (ℕ → Option NamedStates) → List (List ℕ) → ℕ → ℕ → Option TableBase
@@ -44,7 +44,7 @@ table_bases base names leaf table = table_base (base leaf) (name_at names table)
 -- ---- the leaves
 
 -- a fleet with these numbers of machines and leaves and these names
-abbrev pub fleet_named : ℕ → ℕ → List (List ℕ) → Fleet
+abbrev pub fleet_named : ℕ → ℕ → List (List ℕ) → FleetShape
 fleet_named machines per_machine names = record { machines = machines; per_machine = per_machine; names = names }
 
 -- the items make this fleet, and it may play all of them
@@ -76,7 +76,7 @@ AreCounted meaning olds xs pieces = AtHolds meaning olds xs (λ leaf old now. Co
 
 -- What holds after these items, of a fleet whose leaves had the berths `olds` when the run began, and what is held of
 -- each since: their lines were written, the watches heard of them, and the standing queries followed them.
-pub record RunSoFar {B : Type 0} (base : ℕ → Option NamedStates) (meaning : B → Meaning) (fleet : Fleet) (olds : List B) (was written : Option (List ℕ)) (watching watched : List Held) (items : List Item) (followers : List Follower) (xs : List (Hold B)) : Type 0 where
+pub record RunSoFar {B : Type 0} (base : ℕ → Option NamedStates) (meaning : B → Meaning) (fleet : FleetShape) (olds : List B) (was written : Option (List ℕ)) (watching watched : List Held) (items : List Item) (followers : List Follower) (xs : List (Hold B)) : Type 0 where
   pub played : List PlayedItem
   pub items_are : map item_of played ≡ items
   pub text : Appends was written (lines_text fleet.names (all_lines played))
@@ -85,25 +85,25 @@ pub record RunSoFar {B : Type 0} (base : ℕ → Option NamedStates) (meaning : 
   pub keeps : HoldsKeep meaning olds xs
   pub session : (known : ℕ → Option Known) → AreKnown meaning olds olds base known → Session meaning fleet known olds played xs
   pub followed : (known : ℕ → Option Known) → AreKnown meaning olds olds base known → (histories : ℕ → ℕ → List Entry) → GoOn xs histories
-      → FollowedAll fleet (grounds_of fleet known) histories played [] followers
+      → FollowedAll fleet (base_states_of fleet known) histories played [] followers
 
 -- one more item was played, and its lines were written
-pub record Advances {B : Type 0} (meaning : B → Meaning) (fleet : Fleet) (olds news : List Follower) (xs ys : List (Hold B)) (was written : Option (List ℕ)) (watching watched : List Held) (item : Item) : Type 0 where
+pub record Advances {B : Type 0} (meaning : B → Meaning) (fleet : FleetShape) (olds news : List Follower) (xs ys : List (Hold B)) (was written : Option (List ℕ)) (watching watched : List Held) (item : Item) : Type 0 where
   pub played : PlayedItem
   pub item_is : item_of played ≡ item
   pub plays : PlaysItem meaning fleet xs played ys
   pub text : Appends was written (lines_text fleet.names (item_lines played))
   pub heard : HearsAll fleet (plays_of played) watching watched
   pub counted : AllCounted meaning (all_pieces (played ∷ [])) xs ys
-  pub follows : (histories : ℕ → ℕ → List Entry) → GoOn ys histories → FollowsItem fleet (grounds_in ys) histories played olds news
+  pub follows : (histories : ℕ → ℕ → List Entry) → GoOn ys histories → FollowsItem fleet (base_states_in ys) histories played olds news
 
 -- the items are a transcript, and standing queries tell what they should
-pub record ToldFleet {B : Type 0} (meaning : B → Meaning) (fleet : Fleet) (known : ℕ → Option Known) (played : List PlayedItem) (olds : List B) (xs : List (Hold B)) : Type 0 where
+pub record ToldFleet {B : Type 0} (meaning : B → Meaning) (fleet : FleetShape) (known : ℕ → Option Known) (played : List PlayedItem) (olds : List B) (xs : List (Hold B)) : Type 0 where
   pub fleet_is : IsToldFleet meaning fleet known played olds xs
-  pub standing : AreTold fleet (grounds_of fleet known) fleet_is.transcript.histories fleet_is.transcript.played
+  pub standing : AreTold fleet (base_states_of fleet known) fleet_is.transcript.histories fleet_is.transcript.played
 
 -- a run of all items
-pub record IsRun {B : Type 0} (base : ℕ → Option NamedStates) (meaning : B → Meaning) (fleet : Fleet) (olds : List B) (was now : Option (List ℕ)) (watching watched : List Held) (items : List Item) (xs : List (Hold B)) : Type 0 where
+pub record IsRun {B : Type 0} (base : ℕ → Option NamedStates) (meaning : B → Meaning) (fleet : FleetShape) (olds : List B) (was now : Option (List ℕ)) (watching watched : List Held) (items : List Item) (xs : List (Hold B)) : Type 0 where
   pub played : List PlayedItem
   pub items_are : map item_of played ≡ items
   pub text : Appends was now (lines_text fleet.names (all_lines played))

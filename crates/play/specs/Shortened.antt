@@ -1,40 +1,33 @@
 -- A play that stops before all was played and written.
-use Rattle.std.specs.Prelude.{◌≡◌, ◌⊎◌, ℕ, ◌≤◌, List, [], ◌∷◌, length, map, Option, Some, Ok}
+use Rattle.std.specs.Prelude.{◌≡◌, ◌⊎◌, ℕ, ◌≤◌, List, [], ◌∷◌, length, map, Option}
 use Rattle.berth_face.specs.Berth.{Meaning}
-use Rattle.berth_face.specs.Streams.{ReadsAll, Written, WritesFront}
+use Rattle.berth_face.specs.Streams.{Written, WritesFront}
 use Rattle.leaf_history.specs.History.{Entry}
 use Rattle.crash_moments.specs.Left.{NamedStates}
 use Rattle.rollover_watch.specs.Watches.{Held}
 use Rattle.script_text.specs.declared.item.Item.{Item}
-use Rattle.script_text.specs.declared.script.Script.{Script}
-use Rattle.script_text.specs.Script.{script_of}
-use Rattle.soak.specs.Soak.{soak_script}
 use Rattle.printed_lines.specs.Lines.{lines_text}
-use Rattle.script_text.specs.declared.fleet.Fleet.{Fleet}
+use Rattle.script_text.specs.declared.fleet.FleetShape.{FleetShape}
 use Rattle.run_ends.specs.declared.status.Status.{Status}
 use Rattle.transcript.specs.Pieces.{PlayedItem, all_lines, all_pieces, item_lines, item_of, plays_in, plays_of}
-use Rattle.transcript.specs.Transcript.{Known, grounds_of}
+use Rattle.transcript.specs.Transcript.{Known, base_states_of}
 use Rattle.standing_feed.specs.declared.follower.Follower.{Follower}
 use Rattle.transcript_standing.specs.Followed.{DoesItself, FollowedSome}
 use Rattle.transcript.specs.Leaving.{AreKnown}
-use Rattle.leaf_moves.specs.Holds.{GoOn, Hold, grounds_in}
+use Rattle.leaf_moves.specs.Holds.{GoOn, Hold, base_states_in}
 use Rattle.leaf_moves.specs.Lanes.{PlaysItem}
 use Rattle.transcript.specs.Watching.{HearsAll}
 use Rattle.lane_play.specs.Shortened.{Begins, BeginsItem}
 use Rattle.play.specs.Cut.{IsShortened, PlaysSome, last_lines}
 use Rattle.player.specs.Crew.{AllCounted}
 use Rattle.transcript_fleet.specs.Session.{Session}
-use Rattle.play.specs.Inspected.{InspectEndsShort}
-use Rattle.play.specs.Played.{leaves_in, soak_leaves}
 use Rattle.play.specs.Runs.{AreCounted, HoldsKeep, berths_in}
-use Rattle.run_words.specs.declared.words.Request.{Request}
-use Rattle.run_words.specs.declared.words.Request.TheVariants.{Inspect, Play, Soak}
 
 -- ---- in the middle
 
 -- What holds if a play stops after some of these items, of whose text a prefix was written. Before the first item the
 -- leaves are as they were.
-pub record RunShort {B : Type 0} (base : ℕ → Option NamedStates) (meaning : B → Meaning) (fleet : Fleet) (olds : List B) (was written : Option (List ℕ)) (watching watched : List Held) (items : List Item) (xs : List (Hold B)) : Type 0 where
+pub record RunShort {B : Type 0} (base : ℕ → Option NamedStates) (meaning : B → Meaning) (fleet : FleetShape) (olds : List B) (was written : Option (List ℕ)) (watching watched : List Held) (items : List Item) (xs : List (Hold B)) : Type 0 where
   pub played : List PlayedItem
   pub some : PlaysSome items (map item_of played)
   pub rest : List ℕ
@@ -47,38 +40,13 @@ pub record RunShort {B : Type 0} (base : ℕ → Option NamedStates) (meaning : 
   pub untouched : played ≡ [] → berths_in xs ≡ olds
   pub session : (known : ℕ → Option Known) → AreKnown meaning olds olds base known → Session meaning fleet known olds played xs
   pub followed : (known : ℕ → Option Known) → AreKnown meaning olds olds base known → (histories : ℕ → ℕ → List Entry) → GoOn xs histories
-      → FollowedSome fleet (grounds_of fleet known) histories played []
+      → FollowedSome fleet (base_states_of fleet known) histories played []
 
 -- ---- at the end
 
 -- nothing was played or written, or some of these items were played
 abbrev pub StopsShort : {B : Type 0} → (B → Meaning) → List B → List B → (ℕ → Option NamedStates) → List Item → Option (List ℕ) → Option (List ℕ) → List Held → List Held → Type 0
 StopsShort meaning olds news base items was now watching watched = ((now ≡ was) × (news ≡ olds) × (watched ≡ watching)) ⊎ IsShortened meaning olds news base items was now watching watched
-
--- nothing was played or written, or some of a script whose text was read to its end
-pub data EndsShort {B : Type 0} (base : ℕ → Option NamedStates) (meaning : B → Meaning) (before after was now : Option (List ℕ)) (olds news : List B) (watching watched : List Held) : Type 0 where
-  nothing : now ≡ was → news ≡ olds → watched ≡ watching → EndsShort base meaning before after was now olds news watching watched
-  some : (text : List ℕ) (script : Script)
-      → ReadsAll before after text
-      → script_of text ≡ Ok script
-      → leaves_in script.items ≤ length olds
-      → IsShortened meaning olds news base script.items was now watching watched
-      → EndsShort base meaning before after was now olds news watching watched
-
--- the same of a soak, which reads nothing
-pub data SoakEndsShort {B : Type 0} (base : ℕ → Option NamedStates) (meaning : B → Meaning) (seed rows : ℕ) (was now : Option (List ℕ)) (olds news : List B) (watching watched : List Held) : Type 0 where
-  nothing : now ≡ was → news ≡ olds → watched ≡ watching → SoakEndsShort base meaning seed rows was now olds news watching watched
-  some : soak_leaves ≤ length olds
-      → IsShortened meaning olds news base (soak_script seed rows).items was now watching watched
-      → SoakEndsShort base meaning seed rows was now olds news watching watched
-
--- what was played and written of a request, at a status after which something may have been; clauses of their own say
--- it of a count
-abbrev pub IsShort : {B : Type 0} → (ℕ → Option NamedStates) → (B → Meaning) → Option Request → Option (List ℕ) → Option (List ℕ) → Option (List ℕ) → Option (List ℕ) → List B → List B → List Held → List Held → Type 0
-IsShort base meaning (Some Play) before after was now olds news watching watched = EndsShort base meaning before after was now olds news watching watched
-IsShort base meaning (Some (Soak seed rows)) before after was now olds news watching watched = SoakEndsShort base meaning seed rows was now olds news watching watched
-IsShort base meaning (Some (Inspect leaf)) before after was now olds news watching watched = InspectEndsShort meaning leaf was now olds news
-IsShort base meaning request before after was now olds news watching watched = Unit {0}
 
 -- the property holds, if the sink failed or memory ran out
 abbrev pub IfShort : Status → Type 0 → Type 0
@@ -89,7 +57,7 @@ IfShort _ P = Unit {0}
 -- ---- one item
 
 -- An item that was not played, or whose text was not all written.
-pub data StopsAt {B : Type 0} (meaning : B → Meaning) (fleet : Fleet) (olds : List Follower) (xs ys : List (Hold B)) (was written : Option (List ℕ)) (watching watched : List Held) (item : Item) : Type 0 where
+pub data StopsAt {B : Type 0} (meaning : B → Meaning) (fleet : FleetShape) (olds : List Follower) (xs ys : List (Hold B)) (was written : Option (List ℕ)) (watching watched : List Held) (item : Item) : Type 0 where
   unplayed : ys ≡ xs → written ≡ was → watched ≡ watching → StopsAt meaning fleet olds xs ys was written watching watched item
   short : (played : PlayedItem)
       → BeginsItem (item_of played) item
@@ -97,5 +65,5 @@ pub data StopsAt {B : Type 0} (meaning : B → Meaning) (fleet : Fleet) (olds : 
       → AllCounted meaning (all_pieces (played ∷ [])) xs ys
       → HearsAll fleet (plays_of played) watching watched
       → ((item_of played ≡ item) × WritesFront was written (lines_text fleet.names (item_lines played))) ⊎ (written ≡ was)
-      → ((histories : ℕ → ℕ → List Entry) → GoOn ys histories → (between : List Follower) × DoesItself fleet (grounds_in ys) histories played olds between)
+      → ((histories : ℕ → ℕ → List Entry) → GoOn ys histories → (between : List Follower) × DoesItself fleet (base_states_in ys) histories played olds between)
       → StopsAt meaning fleet olds xs ys was written watching watched item

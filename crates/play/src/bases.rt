@@ -1,9 +1,9 @@
 // What is known of the berths of a run, by leaf. Only contracts see it.
 use std::marker::Brand;
 
-/// The base of each leaf's berth, if it is known: for each name of a table the writes that a crash may leave in its
-/// log, and how many of them every crash leaves. A leaf with that base may begin over the berth. No program can find a
-/// base out, as no read tells what a crash would leave.
+/// The base of each leaf's berth, if it is known: for each table's name the writes that a crash may leave in its log,
+/// and how many of them every crash leaves. A leaf with that base may begin over the berth. No program can compute a
+/// base: no read tells what a crash would leave.
 pub trait Bases {
     ghost use Rattle.std.specs.Prelude.{ℕ, Option};
     ghost use Rattle.crash_moments.specs.Left.{NamedStates};

@@ -25,7 +25,7 @@ use player::Crew;
 use printed_lines::{Line, put_lines};
 use rollover_watch::Watch;
 use run_ends::{Status, write_all};
-use script_text::{Command, Fleet, Item, Items};
+use script_text::{Command, FleetShape, Item, Items};
 use standing_feed::Followers;
 use std::alloc::{AllocError, Global};
 use std::collections::VecDeque;
@@ -62,10 +62,11 @@ pub fn leaf_count(items: &Items) -> usize
 }
 
 /// The fleet of these items. None if there is no item.
-fn plan_of(items: &Items) -> Result<Option<Fleet>, AllocError>
+fn plan_of(items: &Items) -> Result<Option<FleetShape>, AllocError>
     requires { AreItems items.now }
     ensures none { IfOk result (λ found. found ≡ None → items.now ≡ []) }
-    ensures plan { IfOk result (λ found. IfSome found (λ plan. IsFleetOf items.now plan.machines plan.per_machine plan.names)) }
+    ensures plan { IfOk result (λ found. IfSome found
+        (λ plan. IsFleetOf items.now plan.machines plan.per_machine plan.names)) }
 {
     match items.as_slice() {
         [
@@ -77,7 +78,7 @@ fn plan_of(items: &Items) -> Result<Option<Fleet>, AllocError>
                 },
             ),
             ..
-        ] => Ok(Some(Fleet {
+        ] => Ok(Some(FleetShape {
             machines: *machines,
             per_machine: *per_machine,
             names: tables.copy()?,
@@ -101,9 +102,11 @@ pub fn play_items<N: Bases, R: Wait + Threads + Sync, K: Sink, B: Berth, G: Gate
     requires few { declared_in items ≤ 16 }
     requires enough { leaves_in items ≤ length berths.old.items }
     requires bases { AreBases N.base B.meaning berths.old.items }
-    ensures done { result ≡ Status.Done → IsWritten B.meaning berths.old.items berths.new.items N.base items (K.written sink.old) (K.written sink.new)
+    ensures done { result ≡ Status.Done
+        → IsWritten B.meaning berths.old.items berths.new.items N.base items (K.written sink.old) (K.written sink.new)
         (map (λ watch. held watch) watches.old.items) (map (λ watch. held watch) watches.new.items) }
-    ensures short { IfShort result (StopsShort B.meaning berths.old.items berths.new.items N.base items (K.written sink.old) (K.written sink.new)
+    ensures short { IfShort result (StopsShort B.meaning berths.old.items berths.new.items N.base items
+        (K.written sink.old) (K.written sink.new)
         (map (λ watch. held watch) watches.old.items) (map (λ watch. held watch) watches.new.items)) }
     ensures ends { IsEnd result }
     ensures write_fault { result ≡ Status.WriteFault → Rose (K.faults sink.old) (K.faults sink.new) }
@@ -122,7 +125,7 @@ pub fn play_items<N: Bases, R: Wait + Threads + Sync, K: Sink, B: Berth, G: Gate
 fn play_over<N: Bases, R: Wait + Threads + Sync, K: Sink, B: Berth, G: Gate>(
     rt: &R,
     alloc: Global,
-    plan: &Fleet,
+    plan: &FleetShape,
     items: Items,
     sink: &mut K,
     berths: &mut Vec<B>,
@@ -134,9 +137,11 @@ fn play_over<N: Bases, R: Wait + Threads + Sync, K: Sink, B: Berth, G: Gate>(
     requires few { declared_in items ≤ 16 }
     requires enough { leaves_in items ≤ length berths.old.items }
     requires bases { AreBases N.base B.meaning berths.old.items }
-    ensures done { result ≡ Status.Done → IsWritten B.meaning berths.old.items berths.new.items N.base items (K.written sink.old) (K.written sink.new)
+    ensures done { result ≡ Status.Done
+        → IsWritten B.meaning berths.old.items berths.new.items N.base items (K.written sink.old) (K.written sink.new)
         (map (λ watch. held watch) watches.old.items) (map (λ watch. held watch) watches.new.items) }
-    ensures short { IfShort result (StopsShort B.meaning berths.old.items berths.new.items N.base items (K.written sink.old) (K.written sink.new)
+    ensures short { IfShort result (StopsShort B.meaning berths.old.items berths.new.items N.base items
+        (K.written sink.old) (K.written sink.new)
         (map (λ watch. held watch) watches.old.items) (map (λ watch. held watch) watches.new.items)) }
     ensures ends { IsEnd result }
     ensures write_fault { result ≡ Status.WriteFault → Rose (K.faults sink.old) (K.faults sink.new) }
@@ -197,12 +202,18 @@ fn play_all<'t, N: Bases, R: Wait + Threads + Sync, K: Sink, B: Berth, G: Gate>(
     requires told { TellAbove 0 items.items }
     requires few { declared_in items.items ≤ 16 }
     requires all { HasAll crew.old.fleet crew.old.holds }
-    requires begun { RunSoFar N.base B.meaning crew.old.fleet (berths_in crew.old.holds) (K.written sink.old) (K.written sink.old)
-        (map (λ watch. held watch) watches.old.items) (map (λ watch. held watch) watches.old.items) [] [] crew.old.holds }
-    ensures done { result ≡ Status.Done → (followers : List Follower) × RunSoFar N.base B.meaning crew.old.fleet (berths_in crew.old.holds) (K.written sink.old) (K.written sink.new)
-        (map (λ watch. held watch) watches.old.items) (map (λ watch. held watch) watches.new.items) items.items followers crew.new.holds }
-    ensures short { IfShort result (RunShort N.base B.meaning crew.old.fleet (berths_in crew.old.holds) (K.written sink.old) (K.written sink.new)
-        (map (λ watch. held watch) watches.old.items) (map (λ watch. held watch) watches.new.items) items.items crew.new.holds) }
+    requires begun { RunSoFar N.base B.meaning crew.old.fleet (berths_in crew.old.holds) (K.written sink.old)
+        (K.written sink.old)
+        (map (λ watch. held watch) watches.old.items) (map (λ watch. held watch) watches.old.items) [] []
+        crew.old.holds }
+    ensures done { result ≡ Status.Done → (followers : List Follower)
+        × RunSoFar N.base B.meaning crew.old.fleet (berths_in crew.old.holds) (K.written sink.old) (K.written sink.new)
+        (map (λ watch. held watch) watches.old.items) (map (λ watch. held watch) watches.new.items) items.items
+        followers crew.new.holds }
+    ensures short { IfShort result (RunShort N.base B.meaning crew.old.fleet (berths_in crew.old.holds)
+        (K.written sink.old) (K.written sink.new)
+        (map (λ watch. held watch) watches.old.items) (map (λ watch. held watch) watches.new.items) items.items
+        crew.new.holds) }
     ensures ends { IsEnd result }
     ensures write_fault { result ≡ Status.WriteFault → Rose (K.faults sink.old) (K.faults sink.new) }
     ensures keeps { HoldsKeep B.meaning (berths_in crew.old.holds) crew.new.holds }
@@ -258,9 +269,11 @@ fn play_next<'t, R: Wait + Threads + Sync, K: Sink, B: Berth, G: Gate>(
     requires followers { AreFollowers crew.old.fleet followers.old.list.items }
     requires few { length followers.old.list.items + declared_by item ≤ 16 }
     requires all { HasAll crew.old.fleet crew.old.holds }
-    ensures played { OnOk result (Advances B.meaning crew.old.fleet followers.old.list.items followers.new.list.items crew.old.holds crew.new.holds (K.written sink.old) (K.written sink.new)
+    ensures played { OnOk result (Advances B.meaning crew.old.fleet followers.old.list.items followers.new.list.items
+        crew.old.holds crew.new.holds (K.written sink.old) (K.written sink.new)
         (map (λ watch. held watch) watches.old.items) (map (λ watch. held watch) watches.new.items) item) }
-    ensures stops { OnErr result (StopsAt B.meaning crew.old.fleet followers.old.list.items crew.old.holds crew.new.holds (K.written sink.old) (K.written sink.new)
+    ensures stops { OnErr result (StopsAt B.meaning crew.old.fleet followers.old.list.items crew.old.holds
+        crew.new.holds (K.written sink.old) (K.written sink.new)
         (map (λ watch. held watch) watches.old.items) (map (λ watch. held watch) watches.new.items) item) }
     ensures fleet { crew.new.fleet ≡ crew.old.fleet }
     ensures followers { AreFollowers crew.old.fleet followers.new.list.items }
@@ -283,8 +296,10 @@ fn write_lines<K: Sink>(
 ) -> Result<(), WriteError>
     requires { IfOk lines (λ lines. AllByRecursion (IsOf names.now) lines.items) }
     ensures made { OnOk result (IsOk lines) }
-    ensures written { OnOk result (IfOk lines (λ lines. Appends (K.written sink.old) (K.written sink.new) (lines_text names.now lines.items))) }
-    ensures front { IfOk lines (λ lines. WritesFront (K.written sink.old) (K.written sink.new) (lines_text names.now lines.items)) }
+    ensures written { OnOk result
+        (IfOk lines (λ lines. Appends (K.written sink.old) (K.written sink.new) (lines_text names.now lines.items))) }
+    ensures front { IfOk lines (λ lines. WritesFront (K.written sink.old) (K.written sink.new)
+        (lines_text names.now lines.items)) }
     ensures none { told_lines lines ≡ None → K.written sink.new ≡ K.written sink.old }
     ensures failed { IsErrOf result WriteError.Failed → Rose (K.faults sink.old) (K.faults sink.new) }
     ensures later { K.faults sink.old ≤ K.faults sink.new }

@@ -3,7 +3,7 @@ ghost use Rattle.std.specs.Prelude.{◌≡◌, ◌≢◌, ◌<◌, ◌+◌, leng
 ghost use Rattle.std.specs.Io.KnownBytes.{Appends};
 ghost use Rattle.berth_face.specs.Causes.{Rose};
 ghost use Rattle.berth_face.specs.Streams.{WritesFront};
-ghost use Rattle.region_reading.specs.declared.fault.LookFault.TheVariants as fault;
+ghost use Rattle.region_reading.specs.declared.fault.AdoptFault.TheVariants as fault;
 ghost use Rattle.region_inspect.specs.Lines.{region_text};
 ghost use Rattle.run_ends.specs.Outcome.{IfScript, UnlessCutOff};
 ghost use Rattle.play.specs.Inspected.{InspectEndsShort, IsInspected, IsLookedAt, IsSeen};
@@ -14,7 +14,7 @@ ghost use Rattle.play.specs.Shortened.{IfShort};
 
 use berth_face::{Berth, Sink};
 use region_inspect::{Seen, inspect, region_lines};
-use region_reading::LookFault;
+use region_reading::AdoptFault;
 use run_ends::{Status, write_all};
 use script_text::Why;
 use std::alloc::Global;
@@ -27,10 +27,13 @@ pub fn play_inspect<K: Sink, B: Berth>(
     sink: &mut K,
     berths: &mut Vec<B>,
 ) -> Status
-    ensures done { result ≡ Status.Done → IsInspected B.meaning leaf (K.written sink.old) (K.written sink.new) berths.old.items berths.new.items }
-    ensures short { IfShort result (InspectEndsShort B.meaning leaf (K.written sink.old) (K.written sink.new) berths.old.items berths.new.items) }
+    ensures done { result ≡ Status.Done
+        → IsInspected B.meaning leaf berths.old.items berths.new.items (K.written sink.old) (K.written sink.new) }
+    ensures short { IfShort result (InspectEndsShort B.meaning leaf berths.old.items berths.new.items
+        (K.written sink.old) (K.written sink.new)) }
     ensures known_words { result ≢ Status.Words }
-    ensures script { IfScript result (λ line why. inspect_verdict (length berths.old.items) leaf ≡ Status.Script line why) }
+    ensures script { IfScript result (λ line why. inspect_verdict (length berths.old.items) leaf
+        ≡ Status.Script line why) }
     ensures unread { result ≢ Status.ReadFault }
     ensures write_fault { result ≡ Status.WriteFault → Rose (K.faults sink.old) (K.faults sink.new) }
     ensures exact { UnlessCutOff result (result ≡ inspect_verdict (length berths.old.items) leaf) }
@@ -46,13 +49,13 @@ pub fn play_inspect<K: Sink, B: Berth>(
     }
     match look_at(alloc, leaf, berths) {
         Ok(seen) => tell_region(alloc, leaf, Some(&seen), sink),
-        Err(LookFault::RegionFault) => tell_region(alloc, leaf, None, sink),
-        Err(LookFault::NoMemory) => Status::NoMemory,
+        Err(AdoptFault::RegionFault) => tell_region(alloc, leaf, None, sink),
+        Err(AdoptFault::NoMemory) => Status::NoMemory,
     }
 }
 
 /// Reads the region of a leaf's berth. There is such a berth.
-fn look_at<B: Berth>(alloc: Global, leaf: u32, berths: &mut Vec<B>) -> Result<Seen, LookFault>
+fn look_at<B: Berth>(alloc: Global, leaf: u32, berths: &mut Vec<B>) -> Result<Seen, AdoptFault>
     requires { leaf < length berths.old.items }
     ensures seen { IfOk result (λ seen. IsSeen B.meaning leaf berths.old.items berths.new.items (Some seen)) }
     ensures failed { result ≡ Err fault.RegionFault → IsSeen B.meaning leaf berths.old.items berths.new.items None }
@@ -64,8 +67,11 @@ fn look_at<B: Berth>(alloc: Global, leaf: u32, berths: &mut Vec<B>) -> Result<Se
 /// Writes the lines of a leaf's region, or that its berth failed.
 fn tell_region<K: Sink>(alloc: Global, leaf: u32, seen: Option<&Seen>, sink: &mut K) -> Status
     ensures ends { IsEnd result }
-    ensures done { result ≡ Status.Done → Appends (K.written sink.old) (K.written sink.new) (region_text leaf (option_map (λ s. s.now) seen.entry)) }
-    ensures cut_short { result ≡ Status.WriteFault → WritesFront (K.written sink.old) (K.written sink.new) (region_text leaf (option_map (λ s. s.now) seen.entry)) }
+    ensures done { result ≡ Status.Done
+        → Appends (K.written sink.old) (K.written sink.new) (region_text leaf (option_map (λ s. s.now) seen.entry)) }
+    ensures cut_short { result ≡ Status.WriteFault
+        → WritesFront (K.written sink.old) (K.written sink.new)
+        (region_text leaf (option_map (λ s. s.now) seen.entry)) }
     ensures unwritten { result ≡ Status.NoMemory → sink.new ≡ sink.old }
     ensures cause { result ≡ Status.WriteFault → Rose (K.faults sink.old) (K.faults sink.new) }
 {

@@ -32,7 +32,8 @@ pub fn run<N: Bases, R: Wait + Threads + Sync, S: Source, K: Sink, B: Berth, G: 
     requires bases { AreBases N.base B.meaning berths.old.items }
 
     // What was done, or why it was not.
-    ensures { HasRun N.base B.meaning (sight S.left S.faults K.written K.faults) (request_of (map string_bytes words.now)) result
+    ensures { HasRun N.base B.meaning (sight S.left S.faults K.written K.faults)
+        (request_of (map string_bytes words.now)) result
         (outside source.old sink.old berths.old watches.old (map (λ watch. held watch) watches.old.items))
         (outside source.new sink.new berths.new watches.new (map (λ watch. held watch) watches.new.items)) }
 {

@@ -4,15 +4,16 @@ ghost use Rattle.berth_face.specs.Causes.{Rose};
 ghost use Rattle.berth_face.specs.Streams.{TakesAtMost};
 ghost use Rattle.run_ends.specs.Outcome.{IsRefused, IfScript, UnlessCutOff, TakesText};
 ghost use Rattle.run_ends.specs.Source.{most_taken};
-ghost use Rattle.play.specs.Outcome.{UnlessPlayed, play_verdict, status_of_fault};
-ghost use Rattle.play.specs.Shortened.{EndsShort, IfShort};
-ghost use Rattle.play.specs.Played.{AreBases, IsPlayed, LeavesBerths, leaves_told};
+ghost use Rattle.run_words.specs.declared.words.Request.TheVariants.{Play};
+ghost use Rattle.play.specs.Outcome.{IsDone, IsShort, UnlessPlayed, play_verdict, status_of_fault};
+ghost use Rattle.play.specs.Shortened.{IfShort};
+ghost use Rattle.play.specs.Played.{AreBases, LeavesBerths, leaves_told};
 
 use crate::bases::Bases;
 use crate::berths::{leaf_count, play_items};
 use berth_face::{Berth, Gate, Sink, Source};
 use rollover_watch::Watch;
-use run_ends::{ReadError, Status, read_all};
+use run_ends::{SourceError, Status, read_all};
 use script_text::{ScriptFault, Why, parse};
 use std::alloc::Global;
 use std::sync::Wait;
@@ -29,15 +30,20 @@ pub fn play_source<N: Bases, R: Wait + Threads + Sync, S: Source, K: Sink, B: Be
     watches: &mut Vec<Box<dyn Watch>>,
 ) -> Status
     requires { AreBases N.base B.meaning berths.old.items }
-    ensures done { result ≡ Status.Done → IsPlayed N.base B.meaning (S.left source.old) (S.left source.new) (K.written sink.old) (K.written sink.new) berths.old.items berths.new.items
-        (map (λ watch. held watch) watches.old.items) (map (λ watch. held watch) watches.new.items) }
-    ensures short { IfShort result (EndsShort N.base B.meaning (S.left source.old) (S.left source.new) (K.written sink.old) (K.written sink.new) berths.old.items berths.new.items
-        (map (λ watch. held watch) watches.old.items) (map (λ watch. held watch) watches.new.items)) }
+    ensures done { result ≡ Status.Done
+        → IsDone N.base B.meaning (S.left source.old) (S.left source.new) (K.written sink.old) (K.written sink.new)
+        berths.old.items berths.new.items
+        (map (λ watch. held watch) watches.old.items) (map (λ watch. held watch) watches.new.items) (Some Play) }
+    ensures short { IfShort result (IsShort N.base B.meaning (S.left source.old) (S.left source.new)
+        (K.written sink.old) (K.written sink.new) berths.old.items berths.new.items
+        (map (λ watch. held watch) watches.old.items) (map (λ watch. held watch) watches.new.items) (Some Play)) }
     ensures known_words { result ≢ Status.Words }
-    ensures script { IfScript result (IsRefused (play_verdict (length berths.old.items)) (S.left source.old) (S.left source.new)) }
+    ensures script { IfScript result (IsRefused (play_verdict (length berths.old.items)) (S.left source.old)
+        (S.left source.new)) }
     ensures read_fault { result ≡ Status.ReadFault → Rose (S.faults source.old) (S.faults source.new) }
     ensures write_fault { result ≡ Status.WriteFault → Rose (K.faults sink.old) (K.faults sink.new) }
-    ensures exact { IfSome (S.left source.old) (λ text. UnlessCutOff result (result ≡ play_verdict (length berths.old.items) text)) }
+    ensures exact { IfSome (S.left source.old)
+        (λ text. UnlessCutOff result (result ≡ play_verdict (length berths.old.items) text)) }
     ensures takes { TakesAtMost (S.left source.old) (S.left source.new) most_taken }
     ensures too_long { TakesText result (S.left source.old) (S.left source.new) }
     ensures unwritten { UnlessPlayed result (sink.new ≡ sink.old) }
@@ -47,14 +53,14 @@ pub fn play_source<N: Bases, R: Wait + Threads + Sync, S: Source, K: Sink, B: Be
 {
     let text = match read_all(alloc, source) {
         Ok(text) => text,
-        Err(ReadError::Failed) => return Status::ReadFault,
-        Err(ReadError::TooLong) => {
+        Err(SourceError::Failed) => return Status::ReadFault,
+        Err(SourceError::TooLong) => {
             return Status::Script {
                 line: 0,
                 why: Why::TooLong,
             };
         }
-        Err(ReadError::NoMemory) => return Status::NoMemory,
+        Err(SourceError::NoMemory) => return Status::NoMemory,
     };
     let script = match parse(rt, alloc, text.as_slice()) {
         Ok(script) => script,

@@ -1,10 +1,11 @@
 // Plays the script of a soak.
-ghost use Rattle.std.specs.Prelude.{◌≡◌, ◌≢◌, ◌≤◌, length, map};
+ghost use Rattle.std.specs.Prelude.{◌≡◌, ◌≢◌, ◌≤◌, length, map, Some, None};
 ghost use Rattle.berth_face.specs.Causes.{Rose};
 ghost use Rattle.run_ends.specs.Outcome.{IfScript, UnlessCutOff};
-ghost use Rattle.play.specs.Outcome.{UnlessPlayed, soak_verdict};
-ghost use Rattle.play.specs.Shortened.{IfShort, SoakEndsShort};
-ghost use Rattle.play.specs.Played.{AreBases, IsSoaked, LeavesBerths, soak_leaves};
+ghost use Rattle.run_words.specs.declared.words.Request.TheVariants.{Soak};
+ghost use Rattle.play.specs.Outcome.{IsDone, IsShort, UnlessPlayed, soak_verdict};
+ghost use Rattle.play.specs.Shortened.{IfShort};
+ghost use Rattle.play.specs.Played.{AreBases, LeavesBerths, soak_leaves};
 
 use crate::bases::Bases;
 use crate::berths::play_items;
@@ -33,10 +34,14 @@ pub fn play_soak<N: Bases, R: Wait + Threads + Sync, K: Sink, B: Berth, G: Gate>
 ) -> Status
     requires rows { (8 ≤ rows) × (rows ≤ 800000) }
     requires bases { AreBases N.base B.meaning berths.old.items }
-    ensures done { result ≡ Status.Done → IsSoaked N.base B.meaning seed rows (K.written sink.old) (K.written sink.new) berths.old.items berths.new.items
-        (map (λ watch. held watch) watches.old.items) (map (λ watch. held watch) watches.new.items) }
-    ensures short { IfShort result (SoakEndsShort N.base B.meaning seed rows (K.written sink.old) (K.written sink.new) berths.old.items berths.new.items
-        (map (λ watch. held watch) watches.old.items) (map (λ watch. held watch) watches.new.items)) }
+    ensures done { result ≡ Status.Done
+        → IsDone N.base B.meaning None None (K.written sink.old) (K.written sink.new) berths.old.items berths.new.items
+        (map (λ watch. held watch) watches.old.items) (map (λ watch. held watch) watches.new.items)
+        (Some (Soak seed rows)) }
+    ensures short { IfShort result (IsShort N.base B.meaning None None (K.written sink.old) (K.written sink.new)
+        berths.old.items berths.new.items
+        (map (λ watch. held watch) watches.old.items) (map (λ watch. held watch) watches.new.items)
+        (Some (Soak seed rows))) }
     ensures known_words { result ≢ Status.Words }
     ensures script { IfScript result (λ line why. soak_verdict (length berths.old.items) ≡ Status.Script line why) }
     ensures unread { result ≢ Status.ReadFault }

@@ -6,30 +6,31 @@ ghost use Rattle.printed_lines.specs.declared.line.Line.TheVariants.{Declared};
 ghost use Rattle.script_text.specs.declared.command.Command.TheVariants.{Standing, Tell};
 ghost use Rattle.script_text.specs.declared.item.Item.TheVariants.{One};
 ghost use Rattle.script_text.specs.Fits.{TellsDeclared, declared_by};
+ghost use Rattle.script_text.specs.Orders.{run_command};
 ghost use Rattle.standing_query.specs.Spread.{spread};
-ghost use Rattle.standing_feed.specs.Following.{new_follower, place_of};
+ghost use Rattle.standing_feed.specs.Following.{new_follower, table_place_of};
 ghost use Rattle.transcript.specs.Pieces.{place_among};
 ghost use Rattle.transcript_standing.specs.Followed.{AreFollowers, IsFollower, TellsState};
 ghost use Rattle.player.specs.Asked.{AreGroups, IfGroups};
 ghost use Rattle.player.specs.Crew.{AllPass, HasAll};
 ghost use Rattle.lane_play.specs.Went.{OrNothing, told_lines};
-ghost use Rattle.play.specs.Standing.{DoesSo, FollowsLines, IsBefore, ItemDid, MayRun, MayRunAlone, PlaysOwn, SettlesBy, TellsBy, TellsLine, TellsSo, is_of_run};
+ghost use Rattle.play.specs.Standing.{DoesSo, FollowsLines, IsBefore, ItemDid, MayRun, MayRunAlone, PlaysOwn, SettlesBy, TellsBy, TellsLine, TellsSo};
 
 use berth_face::{Berth, Gate};
-use bursts::play_item;
+use bursts::{play_burst, play_one};
 use leaf_model::Query;
 use leaf_table::Reply;
 use player::Crew;
 use printed_lines::{Line, WhyUntold};
 use rollover_watch::Watch;
-use script_text::{Command, Item};
+use script_text::{Item, Part, RunOrder};
 use standing_feed::{Follower, Followers};
 use std::alloc::{AllocError, Global};
 use std::sync::Wait;
 use std::thread::Threads;
 
-/// Plays an item, and lets each standing query follow its lines. Gives the lines. After Err, which is want of memory,
-/// all leaves, seats and watches are still back.
+/// Plays an item, and lets each standing query follow its lines. Gives the lines. Err if memory runs out: all leaves,
+/// seats and watches are back.
 pub fn play_followed<'t, R: Wait + Threads + Sync, B: Berth, G: Gate>(
     rt: &R,
     alloc: Global,
@@ -44,7 +45,11 @@ pub fn play_followed<'t, R: Wait + Threads + Sync, B: Berth, G: Gate>(
     requires followers { AreFollowers crew.old.fleet followers.old.list.items }
     requires few { length followers.old.list.items + declared_by item ≤ 16 }
     requires all { HasAll crew.old.fleet crew.old.holds }
-    ensures did { OrNothing (ItemDid B.meaning crew.old.fleet item (FollowsLines item followers.old.list.items followers.new.list.items) followers.old.list.items crew.old.holds (map (λ watch. held watch) watches.old.items) (told_lines result) crew.new.holds (map (λ watch. held watch) watches.new.items)) crew.old.holds (map (λ watch. held watch) watches.old.items) (told_lines result) crew.new.holds (map (λ watch. held watch) watches.new.items) }
+    ensures did { OrNothing (ItemDid B.meaning crew.old.fleet item
+        (FollowsLines item followers.old.list.items followers.new.list.items) followers.old.list.items crew.old.holds
+        (map (λ watch. held watch) watches.old.items) (told_lines result) crew.new.holds
+        (map (λ watch. held watch) watches.new.items)) crew.old.holds (map (λ watch. held watch) watches.old.items)
+        (told_lines result) crew.new.holds (map (λ watch. held watch) watches.new.items) }
     ensures fleet { (crew.new.fleet ≡ crew.old.fleet) × (crew.new.tables ≡ crew.old.tables) }
     ensures all { HasAll crew.new.fleet crew.new.holds }
     ensures time { AllPass B.meaning crew.old.holds crew.new.holds }
@@ -73,7 +78,11 @@ fn play_any<'t, R: Wait + Threads + Sync, B: Berth, G: Gate>(
     requires followers { AreFollowers crew.old.fleet followers.old.list.items }
     requires few { length followers.old.list.items + declared_by item ≤ 16 }
     requires all { HasAll crew.old.fleet crew.old.holds }
-    ensures did { OrNothing (ItemDid B.meaning crew.old.fleet item (IsBefore followers.new.list.items) followers.old.list.items crew.old.holds (map (λ watch. held watch) watches.old.items) (told_lines result) crew.new.holds (map (λ watch. held watch) watches.new.items)) crew.old.holds (map (λ watch. held watch) watches.old.items) (told_lines result) crew.new.holds (map (λ watch. held watch) watches.new.items) }
+    ensures did { OrNothing (ItemDid B.meaning crew.old.fleet item (IsBefore followers.new.list.items)
+        followers.old.list.items crew.old.holds (map (λ watch. held watch) watches.old.items) (told_lines result)
+        crew.new.holds (map (λ watch. held watch) watches.new.items)) crew.old.holds
+        (map (λ watch. held watch) watches.old.items) (told_lines result) crew.new.holds
+        (map (λ watch. held watch) watches.new.items) }
     ensures fleet { (crew.new.fleet ≡ crew.old.fleet) × (crew.new.tables ≡ crew.old.tables) }
     ensures all { HasAll crew.new.fleet crew.new.holds }
     ensures time { AllPass B.meaning crew.old.holds crew.new.holds }
@@ -83,22 +92,12 @@ fn play_any<'t, R: Wait + Threads + Sync, B: Berth, G: Gate>(
     ensures refused { OnErr result (length followers.new.list.items ≡ length followers.old.list.items) }
 {
     match item {
-        Item::One(command) => {
-            if is_of_run(&command) {
-                play_own(rt, alloc, gate, crew, followers, command)
-            } else {
-                play_item(rt, alloc, gate, crew, watches, Item::One(command))
-            }
-        }
-        Item::Burst(lanes) => play_item(rt, alloc, gate, crew, watches, Item::Burst(lanes)),
+        Item::One(command) => match command.split() {
+            Part::Leaves(order) => play_one(rt, alloc, gate, crew, watches, order),
+            Part::Run(order) => play_own(rt, alloc, gate, crew, followers, order),
+        },
+        Item::Burst(lanes) => play_burst(rt, alloc, gate, crew, watches, lanes.into_inner()),
     }
-}
-
-// Whether the run itself plays the command.
-fn is_of_run(command: &Command) -> bool
-    ensures { result ≡ is_of_run command.now }
-{
-    matches!(command, Command::Standing { .. } | Command::Tell(_))
 }
 
 // Declares a standing query, or lets one tell.
@@ -108,36 +107,27 @@ fn play_own<'t, R: Wait + Threads + Sync, B: Berth, G: Gate>(
     gate: &G,
     crew: &mut Crew<'t, B>,
     followers: &mut Followers,
-    command: Command,
+    order: RunOrder,
 ) -> Result<Vec<Line>, AllocError>
-    requires own { is_of_run command ≡ true }
-    requires may { MayRunAlone crew.old.fleet command }
-    requires told { TellsDeclared (length followers.old.list.items) (One command) }
+    requires may { MayRunAlone crew.old.fleet (run_command order) }
+    requires told { TellsDeclared (length followers.old.list.items) (One (run_command order)) }
     requires followers { AreFollowers crew.old.fleet followers.old.list.items }
-    requires few { length followers.old.list.items + declared_by (One command) ≤ 16 }
+    requires few { length followers.old.list.items + declared_by (One (run_command order)) ≤ 16 }
     requires all { HasAll crew.old.fleet crew.old.holds }
-    ensures plays { PlaysOwn B.meaning crew.old.fleet command (DoesSo crew.old.fleet command followers.old.list.items result followers.new.list.items) crew.old.holds result crew.new.holds }
+    ensures plays { PlaysOwn B.meaning crew.old.fleet (run_command order)
+        (DoesSo crew.old.fleet (run_command order) followers.old.list.items result followers.new.list.items)
+        crew.old.holds result crew.new.holds }
     ensures fleet { (crew.new.fleet ≡ crew.old.fleet) × (crew.new.tables ≡ crew.old.tables) }
     ensures all { HasAll crew.new.fleet crew.new.holds }
     ensures time { AllPass B.meaning crew.old.holds crew.new.holds }
     ensures followers { AreFollowers crew.old.fleet followers.new.list.items }
-    ensures count { OnOk result (length followers.new.list.items ≡ length followers.old.list.items + declared_by (One command)) }
+    ensures count { OnOk result (length followers.new.list.items ≡ length followers.old.list.items
+        + declared_by (One (run_command order))) }
     ensures refused { OnErr result (length followers.new.list.items ≡ length followers.old.list.items) }
 {
-    match command {
-        Command::Standing { leaf, query } => declare(alloc, crew, followers, leaf, query),
-        Command::Tell(standing) => tell(rt, alloc, gate, crew, followers, standing),
-        Command::Fleet { .. }
-        | Command::Add { .. }
-        | Command::Expire { .. }
-        | Command::Keep { .. }
-        | Command::Query(_)
-        | Command::Tail { .. }
-        | Command::Flush { .. }
-        | Command::Drain { .. }
-        | Command::Kill(_)
-        | Command::Start(_)
-        | Command::Rollover(_) => unreachable!(),
+    match order {
+        RunOrder::Declare { leaf, query } => declare(alloc, crew, followers, leaf, query),
+        RunOrder::Tell(standing) => tell(rt, alloc, gate, crew, followers, standing),
     }
 }
 
@@ -153,7 +143,8 @@ fn declare<'t, B: Berth>(
     requires followers { AreFollowers crew.now.fleet followers.old.list.items }
     requires few { length followers.old.list.items + 1 ≤ 16 }
     ensures lines { IfOk result (λ lines. lines.items ≡ Declared (length followers.old.list.items) ∷ []) }
-    ensures declared { OnOk result (followers.new.list.items ≡ followers.old.list.items ++ new_follower leaf (place_among query.table crew.now.fleet.names) query ∷ []) }
+    ensures declared { OnOk result (followers.new.list.items ≡ followers.old.list.items
+        ++ new_follower leaf (place_among query.table crew.now.fleet.names) query ∷ []) }
     ensures followers { AreFollowers crew.now.fleet followers.new.list.items }
     ensures count { OnOk result (length followers.new.list.items ≡ length followers.old.list.items + 1) }
     ensures refused { OnErr result (length followers.new.list.items ≡ length followers.old.list.items) }
@@ -178,7 +169,9 @@ fn tell<'t, R: Wait + Threads + Sync, B: Berth, G: Gate>(
     requires there { standing < length followers.old.list.items }
     requires followers { AreFollowers crew.old.fleet followers.old.list.items }
     requires all { HasAll crew.old.fleet crew.old.holds }
-    ensures plays { PlaysOwn B.meaning crew.old.fleet (Tell standing) (DoesSo crew.old.fleet (Tell standing) followers.old.list.items result followers.new.list.items) crew.old.holds result crew.new.holds }
+    ensures plays { PlaysOwn B.meaning crew.old.fleet (Tell standing)
+        (DoesSo crew.old.fleet (Tell standing) followers.old.list.items result followers.new.list.items) crew.old.holds
+        result crew.new.holds }
     ensures fleet { (crew.new.fleet ≡ crew.old.fleet) × (crew.new.tables ≡ crew.old.tables) }
     ensures all { HasAll crew.new.fleet crew.new.holds }
     ensures time { AllPass B.meaning crew.old.holds crew.new.holds }
@@ -233,11 +226,12 @@ fn tell_stale<'t, R: Wait + Threads + Sync, B: Berth, G: Gate>(
     requires stale { follower.old.standing.stale ≡ true }
     requires is { IsFollower crew.old.fleet follower.old }
     requires all { HasAll crew.old.fleet crew.old.holds }
-    ensures plays { PlaysOwn B.meaning crew.old.fleet (Tell standing) (TellsSo crew.old.fleet standing follower.old result follower.new) crew.old.holds result crew.new.holds }
+    ensures plays { PlaysOwn B.meaning crew.old.fleet (Tell standing)
+        (TellsSo crew.old.fleet standing follower.old result follower.new) crew.old.holds result crew.new.holds }
     ensures fleet { (crew.new.fleet ≡ crew.old.fleet) × (crew.new.tables ≡ crew.old.tables) }
     ensures all { HasAll crew.new.fleet crew.new.holds }
     ensures time { AllPass B.meaning crew.old.holds crew.new.holds }
-    ensures place { place_of follower.new ≡ place_of follower.old }
+    ensures place { table_place_of follower.new ≡ table_place_of follower.old }
 {
     let (line, reply) = crew.ask_leaf(
         rt,
@@ -259,7 +253,7 @@ fn told_behind(
 ) -> Result<Line, AllocError>
     requires stale { follower.old.standing.stale ≡ true }
     requires groups { IfGroups reply (AreGroups (spread follower.old.standing.query)) }
-    ensures place { place_of follower.new ≡ place_of follower.old }
+    ensures place { table_place_of follower.new ≡ table_place_of follower.old }
     ensures told { TellsBy standing follower.old reply result follower.new }
 {
     match settle(follower, reply) {
@@ -272,7 +266,7 @@ fn told_behind(
 fn settle(follower: &mut Follower, reply: Reply) -> Result<(), WhyUntold>
     requires stale { follower.old.standing.stale ≡ true }
     requires groups { IfGroups reply (AreGroups (spread follower.old.standing.query)) }
-    ensures place { place_of follower.new ≡ place_of follower.old }
+    ensures place { table_place_of follower.new ≡ table_place_of follower.old }
     ensures settles { SettlesBy reply follower.old result follower.new }
 {
     match reply {

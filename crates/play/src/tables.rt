@@ -30,7 +30,8 @@ pub fn new_tables<N: Bases>(
 ) -> Result<NewTables, AllocError>
     requires leaves { leaves ≤ 256 }
     requires names { AreNames names.now }
-    ensures { IfOk result (λ made. IsNewFleet (table_bases N.base names.now) leaves names.now 65536 made.tables made.stewards made.callers) }
+    ensures { IfOk result (λ made. IsNewFleet (table_bases N.base names.now) leaves names.now 65536 made.tables
+        made.stewards made.callers) }
 {
     let (tables, stewards, callers) = FleetTables::new::<Brand>(alloc, leaves, names, SHARE)?;
     Ok(NewTables {

@@ -20,13 +20,13 @@ use Rattle.leaf_words.specs.declared.ways.Way.{Way}
 use Rattle.leaf_words.specs.declared.ways.Way.TheVariants.{Memory, Disk}
 use Rattle.leaf_opening.specs.Starts.{IsWayOf}
 use Rattle.crash_moments.specs.Left.{NamedStates, RegionLeft, closed, other_version, image}
-use Rattle.crash_states.specs.Standing.{Rests, tables_of}
+use Rattle.crash_states.specs.Standing.{Rests, states_of_tables}
 use Rattle.crash_states.specs.Beginning.{BeginsAgain}
 use Rattle.rollover_watch.specs.Watches.{Held}
 use Rattle.script_text.specs.declared.item.Item.{Item}
 use Rattle.printed_lines.specs.declared.line.Line.{Line}
-use Rattle.transcript.specs.Base.{watched_with}
-use Rattle.script_text.specs.declared.fleet.Fleet.{Fleet}
+use Rattle.transcript.specs.Base.{watched_from}
+use Rattle.script_text.specs.declared.fleet.FleetShape.{FleetShape}
 use Rattle.script_text.specs.Commands.{leaf_count}
 use Rattle.transcript.specs.Pieces.{all_lines, item_of, no_fleet, script_fleet}
 use Rattle.transcript.specs.Leaving.{AreKnown, IsKnown, IsToldRun}
@@ -34,10 +34,10 @@ use Rattle.transcript.specs.Transcript.{Known}
 use Rattle.transcript_leaf.proofs.Lists.{element_at, same_some, within}
 use Rattle.play.proofs.Lists.{choose_each}
 use Rattle.play_again.proofs.Listing.{front_same, list_kept}
-use Rattle.play.specs.Played.{AreBases, IsBase, IsPlayed}
-use Rattle.play_again.specs.Keeping.{IsKeptOf, KeepsBy, KeepsEach, KeepsOne, KeepsSame, Kept, LeavesKnown, base_kept, bases_of, tables_left}
-use Rattle.play.specs.Outcome.{IsDone, UnlessPlayed}
-use Rattle.play.specs.Shortened.{EndsShort, IfShort, IsShort}
+use Rattle.play.specs.Played.{AreBases, IsBase}
+use Rattle.play_again.specs.Keeping.{IsKeptOf, KeepsBy, KeepsEach, KeepsOne, KeepsSame, KeptName, LeavesKnown, base_kept, bases_of, tables_left}
+use Rattle.play.specs.Outcome.{IsDone, IsShort, UnlessPlayed}
+use Rattle.play.specs.Shortened.{IfShort}
 use Rattle.run_ends.specs.declared.status.Status.{Status}
 use Rattle.run_words.specs.declared.words.Request.{Request}
 use Rattle.run_words.specs.declared.words.Request.TheVariants.{Play}
@@ -73,7 +73,7 @@ known_of base m is =
     let least : List ℕ → List Write = is.begins.1.0 in
     let next : Option LogRecord = is.begins.1.1 in
     let rests : Rests [] base least next m = is.begins.1.2 in
-    known_by base m (way_of (tables_of base [] m) m.held (rests.region m.held rests.stands.reads)) (log_of least (with_writes next least) m.held.disk (rests.logs m.held rests.stands.reads))
+    known_by base m (way_of (states_of_tables base [] m) m.held (rests.region m.held rests.stands.reads)) (log_of least (with_writes next least) m.held.disk (rests.logs m.held rests.stands.reads))
 
 known_where : (base : Option NamedStates) (m : Meaning) → IfSome base (λ states. IsBase states m) → (known : Option Known) × IsKnown base m known
 known_where None m is = (None, tt)
@@ -94,15 +94,15 @@ all_known base meaning old new are = (
 
 -- ---- what is kept
 
-kept_behind : (tables : NamedStates) (m : Meaning) → BeginsAgain tables m → (kept : List Kept) × IsKeptOf tables m kept
-kept_behind tables m again = list_kept tables again.base m (record { begins = again.begins; is = again.is }) again.front
+kept_behind : (tables : NamedStates) (m : Meaning) → BeginsAgain tables m → (kept : List KeptName) × IsKeptOf tables m kept
+kept_behind tables m again = list_kept tables again.base m (record { begins = again.begins; is = again.is; least = again.least }) again.front
 
 -- where nothing was done there is such a base too
-kept_same : (base : NamedStates) (m : Meaning) → IsBase base m → (kept : List Kept) × IsKeptOf base m kept
+kept_same : (base : NamedStates) (m : Meaning) → IsBase base m → (kept : List KeptName) × IsKeptOf base m kept
 kept_same base m is = list_kept base base m is (λ name. front_same (base name))
 
 -- the base that is known is one
-base_known : (base : Option NamedStates) (m : Meaning) (known : Option Known) (k : Known) → known ≡ Some k → IsKnown base m known → IfSome base (λ states. IsBase states m) → IsBase k.base m
+pub base_known : (base : Option NamedStates) (m : Meaning) (known : Option Known) (k : Known) → known ≡ Some k → IsKnown base m known → IfSome base (λ states. IsBase states m) → IsBase k.base m
 base_known base m known k e is has = by base (subst (IsKnown base m) e is) has
   where
     by : (o : Option NamedStates) → IsKnown o m (Some k) → IfSome o (λ states. IsBase states m) → IsBase k.base m
@@ -111,11 +111,11 @@ base_known base m known k e is has = by base (subst (IsKnown base m) e is) has
 
 -- ---- of one berth
 
-below_there : (a b : ℕ) → nat_lt a b ≡ true → a < b
+pub below_there : (a b : ℕ) → nat_lt a b ≡ true → a < b
 below_there a b e = grind (arith, nat_tests)
 
 -- a berth behind those of the leaves
-same_dropped : {B : Type 0} (n : ℕ) (olds news : List B) (leaf : ℕ) (old new : B) → n ≤ leaf → drop n news ≡ drop n olds → slice_get olds leaf ≡ Some old → slice_get news leaf ≡ Some new → old ≡ new
+pub same_dropped : {B : Type 0} (n : ℕ) (olds news : List B) (leaf : ℕ) (old new : B) → n ≤ leaf → drop n news ≡ drop n olds → slice_get olds leaf ≡ Some old → slice_get news leaf ≡ Some new → old ≡ new
 same_dropped zero olds news leaf old new past same at now = same_some old new (sym at ∙ (ap (λ bs. slice_get bs leaf) (sym same) ∙ now))
 same_dropped (suc n) [] news leaf old new past same at now = absurd cc
 same_dropped (suc n) (o ∷ os) [] leaf old new past same at now = absurd cc
@@ -128,41 +128,41 @@ module _ {B : Type 0} (base : ℕ → Option NamedStates) (meaning : B → Meani
   abbrev histories : ℕ → ℕ → List Entry
   histories = told.transcript.histories
 
-  abbrev fleet : Fleet
+  abbrev fleet : FleetShape
   fleet = script_fleet items
 
   -- of a leaf of the fleet
   kept_of_some : (leaf : ℕ) (new : B) (k : Known) → slice_get news leaf ≡ Some new → known leaf ≡ Some k → leaf < leaf_count fleet
-      → (kept : List Kept) × IsKeptOf (tables_of k.base (watched_with fleet.names k.base (histories leaf)) (meaning new)) (meaning new) kept
+      → (kept : List KeptName) × IsKeptOf (states_of_tables k.base (watched_from 0 fleet.names k.base (histories leaf)) (meaning new)) (meaning new) kept
   kept_of_some leaf new k now is below =
       let old = places leaf new now in
-      kept_behind (tables_of k.base (watched_with fleet.names k.base (histories leaf)) (meaning new)) (meaning new) (told.leaves leaf k below is old.0 new old.1 now).begins
+      kept_behind (states_of_tables k.base (watched_from 0 fleet.names k.base (histories leaf)) (meaning new)) (meaning new) (told.leaves leaf k below is old.0 new old.1 now).begins
 
   -- of a berth that no leaf uses
-  kept_of_none : (leaf : ℕ) (new : B) (k : Known) → slice_get news leaf ≡ Some new → known leaf ≡ Some k → leaf_count fleet ≤ leaf → (kept : List Kept) × IsKeptOf k.base (meaning new) kept
+  kept_of_none : (leaf : ℕ) (new : B) (k : Known) → slice_get news leaf ≡ Some new → known leaf ≡ Some k → leaf_count fleet ≤ leaf → (kept : List KeptName) × IsKeptOf k.base (meaning new) kept
   kept_of_none leaf new k now is past =
       let old = places leaf new now in
       let was : IsBase k.base (meaning old.0) = base_known (base leaf) (meaning old.0) (known leaf) k is (are_known leaf old.0 old.1) (are leaf old.0 old.1) in
       kept_same k.base (meaning new) (subst (λ (b : B). IsBase k.base (meaning b)) (same_dropped (leaf_count fleet) olds news leaf old.0 new past told.others old.1 now) was)
 
-  kept_of_known : (leaf : ℕ) (new : B) (k : Known) → slice_get news leaf ≡ Some new → known leaf ≡ Some k → (kept : List Kept) × IsKeptOf (tables_left fleet leaf k.base (histories leaf) (meaning new)) (meaning new) kept
+  kept_of_known : (leaf : ℕ) (new : B) (k : Known) → slice_get news leaf ≡ Some new → known leaf ≡ Some k → (kept : List KeptName) × IsKeptOf (tables_left fleet leaf k.base (histories leaf) (meaning new)) (meaning new) kept
   kept_of_known leaf new k now is = by (nat_lt leaf (leaf_count fleet)) refl
     where
       by : (b : Bool) → nat_lt leaf (leaf_count fleet) ≡ b
-          → (kept : List Kept) × IsKeptOf (if b then tables_of k.base (watched_with fleet.names k.base (histories leaf)) (meaning new) else k.base) (meaning new) kept
+          → (kept : List KeptName) × IsKeptOf (if b then states_of_tables k.base (watched_from 0 fleet.names k.base (histories leaf)) (meaning new) else k.base) (meaning new) kept
       by true e = kept_of_some leaf new k now is (below_there leaf (leaf_count fleet) e)
       by false e = kept_of_none leaf new k now is (ltb-false leaf (leaf_count fleet) e)
 
-  kept_one : (leaf : ℕ) (new : B) → slice_get news leaf ≡ Some new → (next : Option (List Kept)) × KeepsOne fleet leaf (known leaf) (histories leaf) (meaning new) next
+  kept_one : (leaf : ℕ) (new : B) → slice_get news leaf ≡ Some new → (next : Option (List KeptName)) × KeepsOne fleet leaf (known leaf) (histories leaf) (meaning new) next
   kept_one leaf new now = by (known leaf) refl
     where
-      by : (k : Option Known) → known leaf ≡ k → (next : Option (List Kept)) × KeepsOne fleet leaf k (histories leaf) (meaning new) next
+      by : (k : Option Known) → known leaf ≡ k → (next : Option (List KeptName)) × KeepsOne fleet leaf k (histories leaf) (meaning new) next
       by None e = (None, refl)
       by (Some k) e =
           let kept = kept_of_known leaf new k now e in
           (Some kept.0, kept.1)
 
-  pub keeps_each : (next : List (Option (List Kept))) × KeepsEach meaning news fleet known histories next
+  pub keeps_each : (next : List (Option (List KeptName))) × KeepsEach meaning news fleet known histories next
   keeps_each =
       let all = choose_each (λ leaf (new : B) next. KeepsOne fleet leaf (known leaf) (histories leaf) (meaning new) next) news kept_one in
       (all.0, record { as_many = all.1; each = all.2 })
@@ -170,7 +170,7 @@ module _ {B : Type 0} (base : ℕ → Option NamedStates) (meaning : B → Meani
 -- so a run leaves this known of its berths, whatever items were played
 keeps_by : {B : Type 0} (base : ℕ → Option NamedStates) (meaning : B → Meaning) (old new : List B) (items : List Item) (lines : List Line) (watching watched : List Held)
     (told : (known : ℕ → Option Known) → AreKnown meaning old new base known → IsToldRun meaning old new items known lines watching watched) → AreBases base meaning old → length new ≡ length old
-    → (next : List (Option (List Kept))) × KeepsBy meaning old new base items lines watching watched told next
+    → (next : List (Option (List KeptName))) × KeepsBy meaning old new base items lines watching watched told next
 keeps_by base meaning old new items lines watching watched told are as_many =
     let known = all_known base meaning old new are in
     let next = keeps_each base meaning old new items known.0 lines watching watched are known.1 (λ leaf b at. element_at old leaf (omega (arith, within new leaf b at, as_many))) (told known.0 known.1) in
@@ -187,24 +187,24 @@ module _ {B : Type 0} (base : ℕ → Option NamedStates) (meaning : B → Meani
           absurd (omega (arith, below))
       by false e = refl
 
-  same_one : (leaf : ℕ) (b : B) → slice_get olds leaf ≡ Some b → (next : Option (List Kept)) × KeepsOne no_fleet leaf (known leaf) (λ table. []) (meaning b) next
+  same_one : (leaf : ℕ) (b : B) → slice_get olds leaf ≡ Some b → (next : Option (List KeptName)) × KeepsOne no_fleet leaf (known leaf) (λ table. []) (meaning b) next
   same_one leaf b at = by (known leaf) refl
     where
-      by : (k : Option Known) → known leaf ≡ k → (next : Option (List Kept)) × KeepsOne no_fleet leaf k (λ table. []) (meaning b) next
+      by : (k : Option Known) → known leaf ≡ k → (next : Option (List KeptName)) × KeepsOne no_fleet leaf k (λ table. []) (meaning b) next
       by None e = (None, refl)
       by (Some k) e =
           let kept = kept_same k.base (meaning b) (base_known (base leaf) (meaning b) (known leaf) k e (are_known leaf b at) (are leaf b at)) in
-          (Some kept.0, subst (λ (x : Bool). IsKeptOf (if x then tables_of k.base (watched_with (no_fleet).names k.base (λ table. [])) (meaning b) else k.base) (meaning b) kept.0) (sym (none_below leaf)) kept.1)
+          (Some kept.0, subst (λ (x : Bool). IsKeptOf (if x then states_of_tables k.base (watched_from 0 (no_fleet).names k.base (λ table. [])) (meaning b) else k.base) (meaning b) kept.0) (sym (none_below leaf)) kept.1)
 
-  same_each : (next : List (Option (List Kept))) × KeepsEach meaning olds no_fleet known (λ leaf table. []) next
+  same_each : (next : List (Option (List KeptName))) × KeepsEach meaning olds no_fleet known (λ leaf table. []) next
   same_each =
       let all = choose_each (λ leaf (b : B) next. KeepsOne no_fleet leaf (known leaf) (λ table. []) (meaning b) next) olds same_one in
       (all.0, record { as_many = all.1; each = all.2 })
 
 keeps_same : {B : Type 0} (base : ℕ → Option NamedStates) (meaning : B → Meaning) (old new : List B) → AreBases base meaning old → new ≡ old
-    → (next : List (Option (List Kept))) × KeepsSame meaning old new base next
+    → (next : List (Option (List KeptName))) × KeepsSame meaning old new base next
 keeps_same base meaning old new are same =
-    subst (λ bs. (next : List (Option (List Kept))) × KeepsSame meaning old bs base next) (sym same)
+    subst (λ bs. (next : List (Option (List KeptName))) × KeepsSame meaning old bs base next) (sym same)
     (let known = all_known base meaning old old are in
     let next = same_each base meaning old known.0 are known.1 in
     (next.0, record { known = known.0; are_known = known.1; keeps = next.1 }))
@@ -213,26 +213,26 @@ keeps_same base meaning old new are same =
 
 module _ {B : Type 0} (base : ℕ → Option NamedStates) (meaning : B → Meaning) (before after was now : Option (List ℕ)) (old new : List B) (watching watched : List Held) (are : AreBases base meaning old) (as_many : length new ≡ length old) where
   abbrev Left : Status → Type 0
-  Left status = (next : List (Option (List Kept))) × LeavesKnown status base meaning before after was now old new next
+  Left status = (next : List (Option (List KeptName))) × LeavesKnown status base meaning before after was now old new next
 
-  left_done : IsPlayed base meaning before after was now old new watching watched → Left Status.Done
-  left_done played =
-      let next = keeps_by base meaning old new played.script.items played.written.lines watching watched played.written.told are as_many in
-      (next.0, LeavesKnown.done watching watched played refl next.1)
+  left_done : IsDone base meaning before after was now old new watching watched (Some Play) → Left Status.Done
+  left_done (text, script, read, is_script, enough, written) =
+      let next = keeps_by base meaning old new script.items written.lines watching watched written.told are as_many in
+      (next.0, LeavesKnown.done watching watched text script written refl read is_script enough next.1)
 
   left_same : (status : Status) → status ≢ Status.Done → now ≡ was → new ≡ old → Left status
   left_same status not_done unwritten unplayed =
       let next = keeps_same base meaning old new are unplayed in
       (next.0, LeavesKnown.nothing not_done unwritten unplayed next.1)
 
-  left_short : (status : Status) → status ≢ Status.Done → EndsShort base meaning before after was now old new watching watched → Left status
-  left_short status not_done (EndsShort.nothing unwritten unplayed unwatched) = left_same status not_done unwritten unplayed
-  left_short status not_done (EndsShort.some text script read is_script enough shortened) =
+  left_short : (status : Status) → status ≢ Status.Done → IsShort base meaning before after was now old new watching watched (Some Play) → Left status
+  left_short status not_done (inl (unwritten, unplayed, unwatched)) = left_same status not_done unwritten unplayed
+  left_short status not_done (inr (text, script, read, is_script, enough, shortened)) =
       let next = keeps_by base meaning old new (map item_of shortened.played) (all_lines shortened.played) watching watched shortened.told are as_many in
       (next.0, LeavesKnown.short watching watched text script shortened not_done read is_script next.1)
 
   -- what the contract of a run says of a play, at each status
-  pub left_by : (status : Status) → (status ≡ Status.Done → IsPlayed base meaning before after was now old new watching watched) → IfShort status (EndsShort base meaning before after was now old new watching watched)
+  pub left_by : (status : Status) → (status ≡ Status.Done → IsDone base meaning before after was now old new watching watched (Some Play)) → IfShort status (IsShort base meaning before after was now old new watching watched (Some Play))
       → UnlessPlayed status (now ≡ was) → UnlessPlayed status (new ≡ old) → Left status
   left_by Status.Done played ends unwritten unplayed = left_done (played refl)
   left_by Status.Words played ends unwritten unplayed = left_same Status.Words (λ e. absurd cc) unwritten unplayed
@@ -244,35 +244,35 @@ module _ {B : Type 0} (base : ℕ → Option NamedStates) (meaning : B → Meani
 -- the same, where what the source, the sink and the berths were is told by other values
 pub leaves_kept : {B S K : Type 0} (base : ℕ → Option NamedStates) (meaning : B → Meaning) (left : S → Option (List ℕ)) (written : K → Option (List ℕ)) (source said_source next_source : S) (sink said_sink next_sink : K) (old said_old new : List B) (status : Status)
     → said_source ≡ source → said_sink ≡ sink → said_old ≡ old
-    → ((next : List (Option (List Kept))) × LeavesKnown status base meaning (left source) (left next_source) (written sink) (written next_sink) old new next)
-    → (next : List (Option (List Kept))) × LeavesKnown status base meaning (left said_source) (left next_source) (written said_sink) (written next_sink) said_old new next
+    → ((next : List (Option (List KeptName))) × LeavesKnown status base meaning (left source) (left next_source) (written sink) (written next_sink) old new next)
+    → (next : List (Option (List KeptName))) × LeavesKnown status base meaning (left said_source) (left next_source) (written said_sink) (written next_sink) said_old new next
 leaves_kept base meaning left written source said_source next_source sink said_sink next_sink old said_old new status e f h leaves = rw (e, f, h) leaves
 
 -- ---- what is kept serves the next run
 
 -- a kept base is one where its list has it
-pub base_there : {B : Type 0} (meaning : B → Meaning) (b : B) (next : List (Option (List Kept))) (leaf : ℕ)
-    → ((kept : Option (List Kept)) → slice_get next leaf ≡ Some kept → IfSome (base_kept kept) (λ states. IsBase states (meaning b))) → IfSome (bases_of next leaf) (λ states. IsBase states (meaning b))
+pub base_there : {B : Type 0} (meaning : B → Meaning) (b : B) (next : List (Option (List KeptName))) (leaf : ℕ)
+    → ((kept : Option (List KeptName)) → slice_get next leaf ≡ Some kept → IfSome (base_kept kept) (λ states. IsBase states (meaning b))) → IfSome (bases_of next leaf) (λ states. IsBase states (meaning b))
 base_there meaning b [] leaf each = tt
 base_there meaning b (kept ∷ more) zero each = each kept refl
 base_there meaning b (kept ∷ more) (suc leaf) each = base_there meaning b more leaf each
 
-kept_is_base : (fleet : Fleet) (leaf : ℕ) (known : Option Known) (histories : ℕ → List Entry) (m : Meaning) (kept : Option (List Kept)) → KeepsOne fleet leaf known histories m kept
+kept_is_base : (fleet : FleetShape) (leaf : ℕ) (known : Option Known) (histories : ℕ → List Entry) (m : Meaning) (kept : Option (List KeptName)) → KeepsOne fleet leaf known histories m kept
     → IfSome (base_kept kept) (λ states. IsBase states m)
 kept_is_base fleet leaf None histories m None keeps = tt
 kept_is_base fleet leaf None histories m (Some kept) keeps = absurd cc
 kept_is_base fleet leaf (Some k) histories m None keeps = tt
 kept_is_base fleet leaf (Some k) histories m (Some kept) keeps = keeps.is_base
 
-keeps_bases : {B : Type 0} (meaning : B → Meaning) (new : List B) (fleet : Fleet) (known : ℕ → Option Known) (histories : ℕ → ℕ → List Entry) (next : List (Option (List Kept)))
+keeps_bases : {B : Type 0} (meaning : B → Meaning) (new : List B) (fleet : FleetShape) (known : ℕ → Option Known) (histories : ℕ → ℕ → List Entry) (next : List (Option (List KeptName)))
     → KeepsEach meaning new fleet known histories next → AreBases (bases_of next) meaning new
 keeps_bases meaning new fleet known histories next keeps = λ leaf b at.
     base_there meaning b next leaf (λ kept is. kept_is_base fleet leaf (known leaf) (histories leaf) (meaning b) kept (keeps.each leaf b kept at is))
 
-pub bases_left : {B : Type 0} (status : Status) (base : ℕ → Option NamedStates) (meaning : B → Meaning) (before after was now : Option (List ℕ)) (old new : List B) (next : List (Option (List Kept)))
+pub bases_left : {B : Type 0} (status : Status) (base : ℕ → Option NamedStates) (meaning : B → Meaning) (before after was now : Option (List ℕ)) (old new : List B) (next : List (Option (List KeptName)))
     → LeavesKnown status base meaning before after was now old new next → AreBases (bases_of next) meaning new
-bases_left status base meaning before after was now old new next (LeavesKnown.done watching watched played ended keeps) =
-    keeps_bases meaning new (script_fleet played.script.items) keeps.known (played.written.told keeps.known keeps.are_known).transcript.histories next keeps.keeps
+bases_left status base meaning before after was now old new next (LeavesKnown.done watching watched text script written ended read is_script enough keeps) =
+    keeps_bases meaning new (script_fleet script.items) keeps.known (written.told keeps.known keeps.are_known).transcript.histories next keeps.keeps
 bases_left status base meaning before after was now old new next (LeavesKnown.short watching watched text script shortened ended read is_script keeps) =
     keeps_bases meaning new (script_fleet (map item_of shortened.played)) keeps.known (shortened.told keeps.known keeps.are_known).transcript.histories next keeps.keeps
 bases_left status base meaning before after was now old new next (LeavesKnown.nothing ended unwritten unplayed keeps) = keeps_bases meaning new no_fleet keeps.known (λ leaf table. []) next keeps.keeps
@@ -280,8 +280,8 @@ bases_left status base meaning before after was now old new next (LeavesKnown.no
 -- ---- a play
 
 pub is_played : {B : Type 0} (base : ℕ → Option NamedStates) (meaning : B → Meaning) (request : Option Request) (before after was now : Option (List ℕ)) (old new : List B) (watching watched : List Held)
-    → request ≡ Some Play → IsDone base meaning request before after was now old new watching watched → IsPlayed base meaning before after was now old new watching watched
-is_played base meaning request before after was now old new watching watched e done = subst (λ (r : Option Request). IsDone base meaning r before after was now old new watching watched) e done
+    → request ≡ Some Play → IsDone base meaning before after was now old new watching watched request → IsDone base meaning before after was now old new watching watched (Some Play)
+is_played base meaning request before after was now old new watching watched e done = subst (λ (r : Option Request). IsDone base meaning before after was now old new watching watched r) e done
 
 -- what follows of what holds where nothing is played
 pub unless_then : (status : Status) (P Q : Type 0) → (P → Q) → UnlessPlayed status P → UnlessPlayed status Q
@@ -294,5 +294,5 @@ unless_then Status.NoMemory P Q follows holds = tt
 
 -- what is short of a play
 pub is_short : {B : Type 0} (base : ℕ → Option NamedStates) (meaning : B → Meaning) (request : Option Request) (status : Status) (before after was now : Option (List ℕ)) (old new : List B) (watching watched : List Held)
-    → request ≡ Some Play → IfShort status (IsShort base meaning request before after was now old new watching watched) → IfShort status (EndsShort base meaning before after was now old new watching watched)
-is_short base meaning request status before after was now old new watching watched e ends = subst (λ (r : Option Request). IfShort status (IsShort base meaning r before after was now old new watching watched)) e ends
+    → request ≡ Some Play → IfShort status (IsShort base meaning before after was now old new watching watched request) → IfShort status (IsShort base meaning before after was now old new watching watched (Some Play))
+is_short base meaning request status before after was now old new watching watched e ends = subst (λ (r : Option Request). IfShort status (IsShort base meaning before after was now old new watching watched r)) e ends

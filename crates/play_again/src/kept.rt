@@ -1,6 +1,6 @@
 // A token of what is known of berths. Only contracts see what; a proof chooses it when the token is made.
 ghost use Rattle.std.specs.Prelude.{◌≡◌, List, Option, IfOk};
-ghost use Rattle.play_again.specs.Keeping.{Kept};
+ghost use Rattle.play_again.specs.Keeping.{KeptName};
 
 use atomic_table::{Play, Seat, Table, TableRule};
 use std::alloc::{AllocError, Global};
@@ -14,19 +14,19 @@ pub struct KeptTables {
 
 impl Model for KeptTables {
     ghost use Rattle.std.specs.Prelude.{List, Option, []};
-    ghost use Rattle.play_again.specs.Keeping.{Kept};
+    ghost use Rattle.play_again.specs.Keeping.{KeptName};
 
-    ghost Value = { List (Option (List Kept)) };
+    ghost Value = { List (Option (List KeptName)) };
 
     ghost view = { λ _. [] };
 }
 
-/// What may be chosen.
+/// The values that a token may stand for.
 pub trait Choice {
     ghost use Rattle.std.specs.Prelude.{List, Option};
-    ghost use Rattle.play_again.specs.Keeping.{Kept};
+    ghost use Rattle.play_again.specs.Keeping.{KeptName};
 
-    ghost fits: { List (Option (List Kept)) → Type 0 };
+    ghost fits: { List (Option (List KeptName)) → Type 0 };
 }
 
 impl Choice for Brand {
@@ -62,9 +62,9 @@ pub struct KnownBerths {
 
 impl Model for KnownBerths {
     ghost use Rattle.std.specs.Prelude.{List, Option};
-    ghost use Rattle.play_again.specs.Keeping.{Kept};
+    ghost use Rattle.play_again.specs.Keeping.{KeptName};
 
-    ghost Value = { List (Option (List Kept)) };
+    ghost Value = { List (Option (List KeptName)) };
 
     ghost view = { λ known. known.seat.me.0 };
 }
@@ -73,7 +73,7 @@ impl KnownBerths {
     /// Makes a token of a value that fits, if there is one. It takes the memory of one word, and gives it back at once.
     /// Err if there is none.
     pub fn choose<N: Choice>(alloc: Global) -> Result<KnownBerths, AllocError>
-        requires { (known : List (Option (List Kept))) × N.fits known }
+        requires { (known : List (Option (List KeptName))) × N.fits known }
         ensures { IfOk result (λ known. N.fits known) }
     {
         let (table, mut seat) = Table::<(), KeptTables, (), Anything, Global>::of_words(

@@ -1,6 +1,7 @@
 // What a run leaves known of its berths, and runs over that.
 ghost use Rattle.std.specs.Prelude.{◌≡◌, List, Option, Some, IfOk, IfSome, map, string_bytes};
-ghost use Rattle.play_again.specs.Keeping.{IsKeptBase, Kept, LeavesKnown, RanTwice, bases_of, states_of};
+ghost use Rattle.play_again.specs.Keeping.{IsKeptBase, KeptName, LeavesKnown, RanTwice, bases_of, states_of};
+ghost use Rattle.play_again.specs.Over.{NamedHaveBases};
 ghost use Rattle.play.specs.Played.{AreBases, IsBase};
 ghost use Rattle.play.specs.Ran.{HasRun, outside, sight};
 ghost use Rattle.run_words.specs.Words.{request_of};
@@ -17,10 +18,10 @@ use std::snapshot::Snapshot;
 use std::sync::Wait;
 use std::thread::Threads;
 
-/// Keeps a base of this berth, as that of leaf 0, if it has one that can be kept. Nothing is then known of other
-/// berths. Err if memory runs out.
+/// Keeps the base of this berth, as that of leaf 0, if it has one that can be kept. It knows nothing of other berths.
+/// Err if memory runs out.
 pub fn keep<B: Berth>(alloc: Global, berth: &B) -> Result<KnownBerths, AllocError>
-    requires { (kept : List Kept) × IsBase (states_of kept) (B.meaning berth.now) }
+    requires { (kept : List KeptName) × IsBase (states_of kept) (B.meaning berth.now) }
     ensures { IfOk result (λ known. IsKeptBase (B.meaning berth.now) known) }
 {
     keep_base::<Brand, B>(alloc, berth)
@@ -28,13 +29,13 @@ pub fn keep<B: Berth>(alloc: Global, berth: &B) -> Result<KnownBerths, AllocErro
 
 // Keeps what N chooses of this berth.
 fn keep_base<N: Choice, B>(alloc: Global, _berth: &B) -> Result<KnownBerths, AllocError>
-    requires { (known : List (Option (List Kept))) × N.fits known }
+    requires { (known : List (Option (List KeptName))) × N.fits known }
     ensures { IfOk result (λ known. N.fits known) }
 {
     KnownBerths::choose::<N>(alloc)
 }
 
-/// Runs the program over berths of which this is known.
+/// Runs the program over berths whose bases the token knows.
 pub fn run_known<R: Wait + Threads + Sync, S: Source, K: Sink, B: Berth, G: Gate>(
     rt: &R,
     alloc: Global,
@@ -47,7 +48,8 @@ pub fn run_known<R: Wait + Threads + Sync, S: Source, K: Sink, B: Berth, G: Gate
     known: &KnownBerths,
 ) -> Status
     requires bases { AreBases (bases_of known.now) B.meaning berths.old.items }
-    ensures { HasRun (bases_of known.now) B.meaning (sight S.left S.faults K.written K.faults) (request_of (map string_bytes words.now)) result
+    ensures { HasRun (bases_of known.now) B.meaning (sight S.left S.faults K.written K.faults)
+        (request_of (map string_bytes words.now)) result
         (outside source.old sink.old berths.old watches.old (map (λ watch. held watch) watches.old.items))
         (outside source.new sink.new berths.new watches.new (map (λ watch. held watch) watches.new.items)) }
 {
@@ -67,7 +69,8 @@ fn run_for<N: Bases, R: Wait + Threads + Sync, S: Source, K: Sink, B: Berth, G: 
     _known: &KnownBerths,
 ) -> Status
     requires bases { AreBases N.base B.meaning berths.old.items }
-    ensures { HasRun N.base B.meaning (sight S.left S.faults K.written K.faults) (request_of (map string_bytes words.now)) result
+    ensures { HasRun N.base B.meaning (sight S.left S.faults K.written K.faults)
+        (request_of (map string_bytes words.now)) result
         (outside source.old sink.old berths.old watches.old (map (λ watch. held watch) watches.old.items))
         (outside source.new sink.new berths.new watches.new (map (λ watch. held watch) watches.new.items)) }
 {
@@ -88,10 +91,15 @@ pub fn run_keeping<N: Bases, R: Wait + Threads + Sync, S: Source, K: Sink, B: Be
 ) -> (Status, Option<KnownBerths>)
     requires words { request_of (map string_bytes words.now) ≡ Some Play }
     requires bases { AreBases N.base B.meaning berths.old.items }
-    ensures ran { HasRun N.base B.meaning (sight S.left S.faults K.written K.faults) (request_of (map string_bytes words.now)) result.0
+    ensures ran { HasRun N.base B.meaning (sight S.left S.faults K.written K.faults)
+        (request_of (map string_bytes words.now)) result.0
         (outside source.old sink.old berths.old watches.old (map (λ watch. held watch) watches.old.items))
         (outside source.new sink.new berths.new watches.new (map (λ watch. held watch) watches.new.items)) }
-    ensures known { IfSome result.1 (λ known. LeavesKnown result.0 N.base B.meaning (S.left source.old) (S.left source.new) (K.written sink.old) (K.written sink.new) berths.old.items berths.new.items known) }
+    ensures known { IfSome result.1 (λ known. LeavesKnown result.0 N.base B.meaning (S.left source.old)
+        (S.left source.new) (K.written sink.old) (K.written sink.new) berths.old.items berths.new.items known) }
+
+    // A leaf may begin again over each berth whose base was named, and over what a crash at any moment of the play left.
+    ensures again { NamedHaveBases N.base B.meaning berths.old.items berths.new.items }
 {
     let source_was = Snapshot::of(&*source);
     let sink_was = Snapshot::of(&*sink);
@@ -124,7 +132,7 @@ fn keep_left<N: Choice, S, K, B>(
     _sink: &K,
     _berths: &Vec<B>,
 ) -> Result<KnownBerths, AllocError>
-    requires { (known : List (Option (List Kept))) × N.fits known }
+    requires { (known : List (Option (List KeptName))) × N.fits known }
     ensures { IfOk result (λ known. N.fits known) }
 {
     KnownBerths::choose::<N>(alloc)
@@ -148,8 +156,10 @@ pub fn run_twice<N: Bases, R: Wait + Threads + Sync, S: Source, K: Sink, B: Bert
     requires bases { AreBases N.base B.meaning berths.old.items }
 
     // The first run was over the bases of N, and the second over bases that the first left, however it ended.
-    ensures { RanTwice N.base B.meaning (sight S.left S.faults K.written K.faults) (request_of (map string_bytes words.now)) result.0 result.1
-        (outside source.old sink.old berths.old watches.old (map (λ watch. held watch) watches.old.items)) source.new sink.new next_source.old next_sink.old
+    ensures { RanTwice N.base B.meaning (sight S.left S.faults K.written K.faults)
+        (request_of (map string_bytes words.now)) result.0 result.1
+        (outside source.old sink.old berths.old watches.old (map (λ watch. held watch) watches.old.items)) source.new
+        sink.new next_source.old next_sink.old
         (outside next_source.new next_sink.new berths.new watches.new (map (λ watch. held watch) watches.new.items)) }
 {
     let (status, known) = run_keeping::<N, R, S, K, B, G>(

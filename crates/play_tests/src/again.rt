@@ -36,7 +36,7 @@ const EMPTY_LINES: &str =
     "0 events #1 opened 0\nstart 0 disk nohead\n0 events #2 asked\nanswer named 1 of 1 lines 0\n";
 
 /// The word of a play.
-fn play_words(alloc: Global) -> Result<Vec<String>, AllocError>
+pub fn play_words(alloc: Global) -> Result<Vec<String>, AllocError>
     ensures { IfOk result (λ words. request_of (map string_bytes words.items) ≡ Some Play) }
 {
     let mut words = Vec::new(alloc);
@@ -60,11 +60,13 @@ fn fresh_berths(alloc: Global) -> Result<Vec<MemBerth>, AllocError>
     Ok(berths)
 }
 
-fn source_of(alloc: Global, script: &str) -> Result<MemSource, AllocError> {
+/// A source of this script.
+pub fn source_of(alloc: Global, script: &str) -> Result<MemSource, AllocError> {
     Ok(MemSource::new(script.as_bytes().to_vec(alloc)?))
 }
 
-fn has_written(sink: &MemSink, lines: &str) -> bool {
+/// Whether just these lines were written.
+pub fn has_written(sink: &MemSink, lines: &str) -> bool {
     sink.bytes() == lines.as_bytes()
 }
 
@@ -97,7 +99,7 @@ fn twice<R: Wait + Threads + Sync>(
     )
 }
 
-/// A play over a berth of which is known that it holds nothing.
+/// A play over a berth that is known to hold nothing.
 fn over_known<R: Wait + Threads + Sync>(
     rt: &R,
     alloc: Global,

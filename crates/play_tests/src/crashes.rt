@@ -6,8 +6,9 @@ use std::sync::Wait;
 use std::test::*;
 use std::thread::Threads;
 
-/// The commands of a leaf's life, each with the fewest and the most writes that a crash leaves from the end of the
-/// command before it to its own end: what was flushed by then is never lost, and what was not accepted never there.
+/// The commands of a leaf's life. With each, the fewest and the most writes that a crash leaves between the end of the
+/// command before it and its own end: a write that was flushed by then is never lost, and one that was not accepted is
+/// never there.
 const LIFE: [(&str, u8, u8); 10] = [
     ("fleet 1 1 errors\n", 0, 0),
     ("add 0 errors 1\n{\"time\":1}\n", 0, 0),
@@ -21,7 +22,7 @@ const LIFE: [(&str, u8, u8); 10] = [
     ("kill 0\n", 3, 3),
 ];
 
-/// With how many writes a new leaf opens its table over this berth, where its start has no fault.
+/// The number of writes with which a new leaf opens its table over this berth. None if its start has a fault.
 fn writes_opened<R: Wait + Threads + Sync>(
     rt: &R,
     alloc: Global,
@@ -34,7 +35,7 @@ fn writes_opened<R: Wait + Threads + Sync>(
 }
 
 /// With how many writes the table is opened, where these lines are of a start without a fault.
-fn opened(lines: &[u8]) -> Option<u8> {
+pub fn opened(lines: &[u8]) -> Option<u8> {
     let behind = lines.strip_prefix(b"0 errors #1 opened ")?;
     let (digit, start) = behind.split_first()?;
     if start.starts_with(b"\nstart 0 memory\n") || start.starts_with(b"\nstart 0 disk ") {
@@ -44,8 +45,8 @@ fn opened(lines: &[u8]) -> Option<u8> {
     }
 }
 
-/// The fewest and the most writes with which a new leaf opens its table over what a crash leaves from that moment on;
-/// none where a start has a fault.
+/// The fewest and the most writes with which a new leaf opens its table over what a crash leaves from that moment on.
+/// None if a start has a fault.
 fn writes_left<R: Wait + Threads + Sync>(
     rt: &R,
     alloc: Global,
@@ -86,7 +87,7 @@ fn a_crash_at_any_moment_leaves_what_was_flushed(rt: HostRuntime) -> Result<(), 
     Ok(())
 }
 
-/// The lines of a play over a berth that holds the same, of which the first call of that method fails.
+/// The lines of a play over a berth that holds the same and fails its first call of that method.
 fn lines_failing<R: Wait + Threads + Sync>(
     rt: &R,
     alloc: Global,
@@ -103,8 +104,8 @@ fn lines_failing<R: Wait + Threads + Sync>(
     }
 }
 
-/// Whether a new leaf opens its table with one write over all that a crash now leaves: from memory, or where the region
-/// is lost from the log.
+/// Whether a new leaf opens its table with one write, whatever a crash now leaves: from memory, or from the log if the
+/// region is lost.
 fn is_there_twice<R: Wait + Threads + Sync>(
     rt: &R,
     alloc: Global,
@@ -167,12 +168,12 @@ fn a_drained_leaf_is_adopted_by_the_next_run(rt: HostRuntime) -> Result<(), Fail
 const DRAINED: &str =
     "fleet 1 1 errors\nadd 0 errors 1\n{\"time\":1,\"code\":7}\ndrain 0 stop 7\nstart 0\nquery SELECT COUNT(*) FROM errors WHERE time >= 0 AND time <= 9\n";
 
-/// What it prints where no call fails.
+/// The lines that it prints if no call fails.
 const LINES: &str =
     "0 errors #1 opened 0\nstart 0 disk nohead\n0 errors #2 added 1 late 0\n0 errors #3 closed 1\n0 errors #4 flushed 1\n0 errors #5 handed\ndrain 0 done\n0 errors #6 opened 1\nstart 0 memory\n0 errors #7 asked\nanswer named 1 of 1 lines 1\n1\n";
 
-/// The lines of that life over a berth that lets so many calls pass, and with how many writes a new leaf then opens its
-/// table.
+/// The lines of that life over a berth that fails after so many calls, and the number of writes with which a new leaf
+/// then opens its table.
 fn fused<R: Wait + Threads + Sync>(
     rt: &R,
     alloc: Global,

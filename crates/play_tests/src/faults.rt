@@ -6,7 +6,7 @@ use std::sync::Wait;
 use std::test::*;
 use std::thread::Threads;
 
-/// The log of a flush of one row with the time 1 in the table errors, which is of one accepted write.
+/// The log of the table `errors` after a flush of its one write: a row with the time 1.
 const LOG: [u8; 41] = [
     1, // an open gate
     31, 0, 0, 0, 0, 0, 0, 0, // length of the record
@@ -17,7 +17,7 @@ const LOG: [u8; 41] = [
     0, // a gate that is not open
 ];
 
-/// The berth that a play of the script over an empty one leaves of which that call fails, and its lines.
+/// A play of the script over an empty berth that fails that call: the berth that it leaves, and its lines.
 fn played_failing<R: Wait + Threads + Sync>(
     rt: &R,
     alloc: Global,

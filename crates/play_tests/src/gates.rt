@@ -5,7 +5,7 @@ use std::sync::atomic::{AtomicU64, Ordering};
 use std::test::*;
 use std::thread::yield_now;
 
-/// How often a caller looks for the other one before it gives up: some seconds.
+/// The number of looks for the other caller before a caller gives up: some seconds.
 const LOOKS: u64 = 4_000_000;
 
 /// A gate that holds a caller inside a turn of leaf 0 until another is inside one of leaf 1, and the other way round.

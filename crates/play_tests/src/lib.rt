@@ -1,5 +1,5 @@
-//! Tests of whole runs: over streams and berths that fail, over what a crash or the run before left, over two leaves
-//! that are asked at once, with rollovers, and of soaks.
+//! Tests of whole runs: over streams and berths that fail, over what a crash or the run before left, also of files,
+//! over two leaves that are asked at once, with rollovers, and of soaks.
 #![tactic(auto)]
 
 #[cfg(test)]
@@ -8,6 +8,8 @@ mod again;
 mod crashes;
 #[cfg(test)]
 mod faults;
+#[cfg(test)]
+mod files;
 #[cfg(test)]
 mod gates;
 #[cfg(test)]

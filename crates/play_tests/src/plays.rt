@@ -34,7 +34,7 @@ pub fn run_line<R: Wait + Threads + Sync, S: Source, K: Sink>(
     ))
 }
 
-/// The berth that a play of the script over this one leaves, and its lines; none where the play is not done.
+/// The berth that a play of the script over this one leaves, and its lines. None if the play is not done.
 pub fn played<R: Wait + Threads + Sync>(
     rt: &R,
     alloc: Global,
@@ -55,8 +55,7 @@ pub fn played<R: Wait + Threads + Sync>(
     }
 }
 
-/// The lines that a play of the script over so many empty berths prints, with this gate; none where the play is not
-/// done.
+/// The lines that a play of the script prints over `berths` empty berths, with this gate. None if the play is not done.
 pub fn lines_of<R: Wait + Threads + Sync, G: Gate>(
     rt: &R,
     alloc: Global,
@@ -106,7 +105,7 @@ pub fn empty_berth(alloc: Global) -> MemBerth {
     MemBerth::new(Vec::new(alloc), Vec::new(alloc))
 }
 
-/// That one call, for a list of the calls that fail.
+/// A list of failing calls with that one call.
 pub fn only(alloc: Global, method: Method, count: u64) -> Result<Fails, AllocError> {
     Ok(Fails::of(vec![in alloc; Fail { method, count }]?))
 }

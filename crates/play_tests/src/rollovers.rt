@@ -125,7 +125,7 @@ fn a_halt_lets_its_wave_finish(rt: HostRuntime) -> Result<(), Fail> {
     Ok(())
 }
 
-/// How many of the lines have these words.
+/// The number of lines with these words.
 fn count_of(lines: &str, words: &str) -> usize {
     let mut count = 0usize;
     for line in lines.lines() {

@@ -7,7 +7,7 @@ use std::sync::Wait;
 use std::test::*;
 use std::thread::Threads;
 
-/// How a soak of eight rows over so many empty berths ends, and what it writes.
+/// The status of a soak of eight rows over empty berths, and its output.
 fn soaked<R: Wait + Threads + Sync>(
     rt: &R,
     alloc: Global,

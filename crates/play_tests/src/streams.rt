@@ -27,10 +27,10 @@ impl Sink for NarrowSink {
 /// A row whose time is in the range of the counts.
 const ROW: &str = "{\"time\":1}";
 
-/// What is said where the source fails.
+/// The message of a source that fails.
 const READ: &str = "the input could not be read";
 
-/// What is said where the sink fails.
+/// The message of a sink that fails.
 const WRITE: &str = "the output could not be written";
 
 /// A leaf that takes a row.
@@ -44,8 +44,8 @@ fn ending(alloc: Global, status: &Status) -> Result<String, AllocError> {
     Ok(fault_text(alloc, status)?.into_inner())
 }
 
-/// How a run ends over a source of the text and a sink of one byte a call, of which these calls fail, and what it
-/// wrote. Call 0 is never made.
+/// A run over a source of the text and a sink of one byte a call that fail these calls: how it ends, and its output.
+/// Call 0 is never made.
 fn run_failing<R: Wait + Threads + Sync>(
     rt: &R,
     alloc: Global,

@@ -3,10 +3,10 @@ use Rattle.std.proofs.Common.{◌≡◌, ℕ, zero, suc, ◌+◌, ◌-◌, ◌�
 use Rattle.std.proofs.lemmas.List.{take-append-le}
 use Rattle.std.specs.Prelude.{slice_get}
 use Rattle.std.specs.List.{flat_map}
-use Rattle.leaf_model.specs.declared.rows.Row.{Row}
+use Rattle.row_model.specs.declared.rows.Row.{Row}
 use Rattle.leaf_history.specs.Calls as call
 use Rattle.leaf_history.specs.Replies as reply
-use Rattle.leaf_history.specs.History.{Entry, after, held}
+use Rattle.leaf_history.specs.History.{Entry, after, contents_held}
 use Rattle.leaf_table.specs.declared.base.TableBase.{TableBase}
 use Rattle.leaf_table.specs.declared.replies.Reply.{Reply}
 use Rattle.leaf_table.specs.declared.replies.Reply.TheVariants as told
@@ -16,8 +16,8 @@ use Rattle.aggregator.specs.declared.lists.Named.{Named}
 use Rattle.aggregator.specs.Sorts.{by_leaf, named_of}
 use Rattle.aggregator.specs.Partial as fan
 use Rattle.aggregator.specs.Partial.{rows_of_all}
-use Rattle.transcript.specs.Histories.{Ground, rows_before}
-use Rattle.leaf_moves.specs.Holds.{Hold, caller_in, ground_at, grounds_in, histories_of, seen_by, seen_in, steward_in}
+use Rattle.transcript.specs.Histories.{BaseState, rows_before}
+use Rattle.leaf_moves.specs.Holds.{Hold, caller_in, base_state_at, base_states_in, histories_of, seen_by, seen_in, steward_in}
 use Rattle.player.proofs.AskLines.{number_named, numbered, named_numbered}
 use Rattle.player.proofs.AskSteps.{paired, paired_of}
 use Rattle.player.proofs.Columns.{same_some}
@@ -60,10 +60,10 @@ seen_is : (v c : Option SeatView) (w : SeatView) → c ≡ Some w → seen_by v 
 seen_is None c w is = ap (seen_by None) is
 seen_is (Some v) c w is = ap (seen_by (Some v)) is
 
-ground_is : (tables : List Shared) (table : ℕ) (t : Shared) → slice_get tables table ≡ Some t → ground_at tables table ≡ record { founded = is_founded (base_seen t); base = start_of (base_seen t) }
-ground_is [] table t at = absurd cc
-ground_is (u ∷ us) zero t at = ap (λ (s : Shared). record { founded = is_founded (base_seen s); base = start_of (base_seen s) }) (same_some u t at)
-ground_is (u ∷ us) (suc table) t at = ground_is us table t at
+base_state_is : (tables : List Shared) (table : ℕ) (t : Shared) → slice_get tables table ≡ Some t → base_state_at tables table ≡ record { founded = is_founded (base_seen t); base = start_of (base_seen t) }
+base_state_is [] table t at = absurd cc
+base_state_is (u ∷ us) zero t at = ap (λ (s : Shared). record { founded = is_founded (base_seen s); base = start_of (base_seen s) }) (same_some u t at)
+base_state_is (u ∷ us) (suc table) t at = base_state_is us table t at
 
 module _ {B : Type 0} where
   pub histories_at : (ys : List (Hold B)) (leaf table : ℕ) (y : Hold B) (w : SeatView) → slice_get ys leaf ≡ Some y → slice_get y.callers table ≡ Some (Some w) → histories_of ys leaf table ≡ seen_of w
@@ -71,14 +71,14 @@ module _ {B : Type 0} where
   histories_at (x ∷ xs) zero table y w at there = ap (λ (h : Hold B). seen_in h table) (same_some x y at) ∙ seen_is (steward_in y.held table) (caller_in y.callers table) w (caller_is y.callers table w there)
   histories_at (x ∷ xs) (suc leaf) table y w at there = histories_at xs leaf table y w at there
 
-  pub grounds_at : (ys : List (Hold B)) (leaf table : ℕ) (y : Hold B) (t : Shared) → slice_get ys leaf ≡ Some y → slice_get y.tables table ≡ Some t
-      → grounds_in ys leaf table ≡ record { founded = is_founded (base_seen t); base = start_of (base_seen t) }
-  grounds_at [] leaf table y t at there = absurd cc
-  grounds_at (x ∷ xs) zero table y t at there = ap (λ (h : Hold B). ground_at h.tables table) (same_some x y at) ∙ ground_is y.tables table t there
-  grounds_at (x ∷ xs) (suc leaf) table y t at there = grounds_at xs leaf table y t at there
+  pub base_states_at : (ys : List (Hold B)) (leaf table : ℕ) (y : Hold B) (t : Shared) → slice_get ys leaf ≡ Some y → slice_get y.tables table ≡ Some t
+      → base_states_in ys leaf table ≡ record { founded = is_founded (base_seen t); base = start_of (base_seen t) }
+  base_states_at [] leaf table y t at there = absurd cc
+  base_states_at (x ∷ xs) zero table y t at there = ap (λ (h : Hold B). base_state_at h.tables table) (same_some x y at) ∙ base_state_is y.tables table t there
+  base_states_at (x ∷ xs) (suc leaf) table y t at there = base_states_at xs leaf table y t at there
 
 -- the number of an answer's entry is how much its seat has seen
-told_number : (n : ℕ) (made : reply.Reply) (number : ℕ) (x : Reply) → IsToldAs n made x → number_named x ≡ Some number → number ≡ n
+told_number : (n : ℕ) (made : reply.EntryReply) (number : ℕ) (x : Reply) → IsToldAs n made x → number_named x ≡ Some number → number ≡ n
 told_number n (reply.Groups gs) number x is named = same_some number n (sym named ∙ ap number_named is)
 told_number n (reply.Added kept late) number x is named = absurd (clash (sym named ∙ ap number_named is))
   where
@@ -113,8 +113,8 @@ number_is base v c (told.Full n) w number answered named = absurd cc
 number_is base v c (told.NoMemory n) w number answered named = absurd cc
 
 -- the rows before an entry that a seat has seen, however its history goes on
-pub rows_stay : (g : Ground) (base : Option TableBase) (entries seen more : List Entry) (n : ℕ) → g ≡ record { founded = is_founded base; base = start_of base } → entries ≡ seen ++ more → n - 1 ≤ length seen
-    → rows_before g entries n ≡ fan.rows_before base seen n
-rows_stay g base entries seen more n ground goes few =
-    ap₂ (λ (h : Ground) (es : List Entry). (held (after h.founded h.base es)).rows) ground
+pub rows_stay : (g : BaseState) (base : Option TableBase) (entries seen more : List Entry) (n : ℕ) → g ≡ record { founded = is_founded base; base = start_of base } → entries ≡ seen ++ more → n - 1 ≤ length seen
+    → rows_before g entries n ≡ fan.rows_seen_before base seen n
+rows_stay g base entries seen more n base_state goes few =
+    ap₂ (λ (h : BaseState) (es : List Entry). (contents_held (after h.founded h.base es)).rows) base_state
     (ap (λ (es : List Entry). take (n - 1) es) goes ∙ take-append-le (n - 1) seen more few)

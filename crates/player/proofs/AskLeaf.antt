@@ -8,7 +8,7 @@ use Rattle.leaf_model.specs.Groups.{groups}
 use Rattle.berth_face.specs.Berth.{Meaning}
 use Rattle.leaf_history.specs.Calls as call
 use Rattle.leaf_history.specs.Replies as reply
-use Rattle.leaf_history.specs.History.{Entry, HistoryState, after, held}
+use Rattle.leaf_history.specs.History.{Entry, HistoryState, after, contents_held}
 use Rattle.table_state.specs.Tables.{IsHeld}
 use Rattle.leaf_table.specs.declared.base.TableBase.{TableBase}
 use Rattle.leaf_table.specs.declared.replies.Reply.{Reply}
@@ -20,17 +20,17 @@ use Rattle.leaf_table.specs.Lists.{lists_in, row}
 use Rattle.leaf_steward.proofs.Seating.{set_get}
 use Rattle.script_text.specs.Commands.{leaf_count}
 use Rattle.printed_lines.specs.declared.line.Line.{Line}
-use Rattle.transcript.specs.Histories.{Ground}
-use Rattle.leaf_moves.specs.Holds.{Hold, grounds_in, histories_of}
+use Rattle.transcript.specs.Histories.{BaseState}
+use Rattle.leaf_moves.specs.Holds.{Hold, base_states_in, histories_of}
 use Rattle.leaf_deeds.specs.declared.leaf.OneLeaf.{OneLeaf}
 use Rattle.player.specs.declared.members.Members.{Members}
 use Rattle.player.specs.Crew.{AllPass, StillHas, column}
-use Rattle.player.specs.Rows.{Called, Calls, OnlyColumn, called_at}
+use Rattle.player.specs.Rows.{SeatRow, CallsTable, OnlyColumn, called_at}
 use Rattle.player.specs.Stage.{hold_at}
 use Rattle.player.specs.Lines.{reply_line}
 use Rattle.player.specs.Members.{AreMembers, GoesWith, fleet_in, holds_in}
 use Rattle.player.specs.Asked.{AreGroups, AreGroupsThen, AsksLeaf, IfGroups}
-use Rattle.player.proofs.AskKnown.{grounds_at, histories_at}
+use Rattle.player.proofs.AskKnown.{base_states_at, histories_at}
 use Rattle.player.proofs.CallPieces.{OneAsk, call_prints, one_ask}
 use Rattle.player.proofs.Columns.{element_at}
 use Rattle.player.proofs.HoldLists.{holds_at}
@@ -56,13 +56,13 @@ record ToldGroups (base : Option TableBase) (q : Query) (number : ℕ) (gs : Lis
   entry : Entry
   seen : seen_of w ≡ before ++ entry ∷ []
   last : number ≡ length w.seen
-  stands : IsHeld (held (state_of base before))
-  are : gs ≡ groups q (held (state_of base before)).rows
+  stands : IsHeld (contents_held (state_of base before))
+  are : gs ≡ groups q (contents_held (state_of base before)).rows
 
 told_groups : (base : Option TableBase) (v w : SeatView) (q : Query) (number : ℕ) (gs : List Group) → Answered base v (call.Ask q) (told.Groups number gs) w → ToldGroups base q number gs w
 told_groups base v w q number gs answered = by answered.1 answered.2 answered.3
   where
-    by : (r : reply.Reply) → Made base 0 v (call.Ask q) r w → IsToldAs (length w.seen) r (told.Groups number gs) → ToldGroups base q number gs w
+    by : (r : reply.EntryReply) → Made base 0 v (call.Ask q) r w → IsToldAs (length w.seen) r (told.Groups number gs) → ToldGroups base q number gs w
     by (reply.Groups hs) made is = record {
       before = seen_of v ++ made.between;
       entry = record { caller = v.id; call = call.Ask q; reply = reply.Groups hs; clock = 0 };
@@ -94,21 +94,21 @@ module _ {base : Option TableBase} {q : Query} {number : ℕ} {gs : List Group} 
   groups_are : AreGroups q number gs
   groups_are = record {
     some = omega (arith, place_is);
-    rows = (held (state_of base t.before)).rows;
+    rows = (contents_held (state_of base t.before)).rows;
     few = t.stands.few;
     are = t.are;
   }
 
   -- however the history goes on
-  groups_then : (g : Ground) (entries more : List Entry) → g ≡ record { founded = is_founded base; base = start_of base } → entries ≡ seen_of w ++ more → AreGroupsThen g entries q number gs
-  groups_then g entries more ground goes =
+  groups_then : (g : BaseState) (entries more : List Entry) → g ≡ record { founded = is_founded base; base = start_of base } → entries ≡ seen_of w ++ more → AreGroupsThen g entries q number gs
+  groups_then g entries more base_state goes =
       let count : number - 1 ≡ length t.before = omega (arith, place_is) in
       let taken : take (number - 1) entries ≡ t.before =
       ap₂ (λ (n : ℕ) (es : List Entry). take n es) count (goes ∙ ap (λ (es : List Entry). es ++ more) t.seen) ∙ first_part t.before t.entry more in
-      let same : after g.founded g.base (take (number - 1) entries) ≡ state_of base t.before = ap₂ (λ (h : Ground) (es : List Entry). after h.founded h.base es) ground taken in
+      let same : after g.founded g.base (take (number - 1) entries) ≡ state_of base t.before = ap₂ (λ (h : BaseState) (es : List Entry). after h.founded h.base es) base_state taken in
       record {
-        held = subst (λ (s : HistoryState). IsHeld (held s)) (sym same) t.stands;
-        are = t.are ∙ ap (λ (s : HistoryState). groups q (held s).rows) (sym same);
+        held = subst (λ (s : HistoryState). IsHeld (contents_held s)) (sym same) t.stands;
+        are = t.are ∙ ap (λ (s : HistoryState). groups q (contents_held s).rows) (sym same);
       }
 
 -- ---- whatever was told
@@ -122,24 +122,24 @@ of_some base v w q (told.Full number) answered = tt
 of_some base v w q (told.NoMemory number) answered = tt
 of_some base v w q told.Worn answered = tt
 
-of_then : (base : Option TableBase) (v w : SeatView) (q : Query) (answer : Reply) (g : Ground) (entries more : List Entry) → Answered base v (call.Ask q) answer w
+of_then : (base : Option TableBase) (v w : SeatView) (q : Query) (answer : Reply) (g : BaseState) (entries more : List Entry) → Answered base v (call.Ask q) answer w
     → g ≡ record { founded = is_founded base; base = start_of base } → entries ≡ seen_of w ++ more → IfGroups answer (AreGroupsThen g entries q)
-of_then base v w q (told.Groups number gs) g entries more answered ground goes = groups_then (told_groups base v w q number gs answered) g entries more ground goes
-of_then base v w q (told.Added number kept late) g entries more answered ground goes = tt
-of_then base v w q (told.Removed number rows) g entries more answered ground goes = tt
-of_then base v w q (told.Shut number) g entries more answered ground goes = tt
-of_then base v w q (told.Full number) g entries more answered ground goes = tt
-of_then base v w q (told.NoMemory number) g entries more answered ground goes = tt
-of_then base v w q told.Worn g entries more answered ground goes = tt
+of_then base v w q (told.Groups number gs) g entries more answered base_state goes = groups_then (told_groups base v w q number gs answered) g entries more base_state goes
+of_then base v w q (told.Added number kept late) g entries more answered base_state goes = tt
+of_then base v w q (told.Removed number rows) g entries more answered base_state goes = tt
+of_then base v w q (told.Shut number) g entries more answered base_state goes = tt
+of_then base v w q (told.Full number) g entries more answered base_state goes = tt
+of_then base v w q (told.NoMemory number) g entries more answered base_state goes = tt
+of_then base v w q told.Worn g entries more answered base_state goes = tt
 
 -- ---- the leaf of a crew
 
 module _ {B : Type 0} (x : Members B) (number table : ℕ) (q : Query) (answer : Reply) (rows : Vec (Vec SeatView Global) Global) (are : AreMembers x) (within : number < leaf_count (fleet_in x))
     (only : OnlyColumn number (lists_in x.rows.items) (lists_in rows.items)) (below : table < length x.names)
-    (tables : List Shared) (own : tables ≡ row x.tables.now number) (made : Calls table (call.Ask q) (called_at number tables (lists_in x.rows.items)) answer (called_at number tables (lists_in rows.items)))
+    (tables : List Shared) (own : tables ≡ row x.tables.now number) (made : CallsTable table (call.Ask q) (called_at number tables (lists_in x.rows.items)) answer (called_at number tables (lists_in rows.items)))
     (meaning : B → Meaning) where
-  calls : Calls table (call.Ask q) (called_at number (row x.tables.now number) (lists_in x.rows.items)) answer (called_at number (row x.tables.now number) (lists_in rows.items))
-  calls = subst (λ (ts : List Shared). Calls table (call.Ask q) (called_at number ts (lists_in x.rows.items)) answer (called_at number ts (lists_in rows.items))) own made
+  calls : CallsTable table (call.Ask q) (called_at number (row x.tables.now number) (lists_in x.rows.items)) answer (called_at number (row x.tables.now number) (lists_in rows.items))
+  calls = subst (λ (ts : List Shared). CallsTable table (call.Ask q) (called_at number ts (lists_in x.rows.items)) answer (called_at number ts (lists_in rows.items))) own made
 
   abbrev ys : List (Hold B)
   ys = holds_in (with_parts x x.leaves rows)
@@ -155,13 +155,13 @@ module _ {B : Type 0} (x : Members B) (number table : ℕ) (q : Query) (answer :
 
   seat_then : slice_get (column number (lists_in rows.items)) table ≡ Some (Some calls.after)
   seat_then =
-      ap (λ (c : Called). slice_get c.seats table) calls.now ∙ set_get (column number (lists_in x.rows.items)) table (Some calls.before) (Some calls.after) calls.was
+      ap (λ (c : SeatRow). slice_get c.seats table) calls.now ∙ set_get (column number (lists_in x.rows.items)) table (Some calls.before) (Some calls.after) calls.was
 
   seen_then : histories_of ys number table ≡ seen_of calls.after
   seen_then = histories_at ys number table then calls.after stands seat_then
 
-  ground_then : grounds_in ys number table ≡ record { founded = is_founded (base_seen calls.shared); base = start_of (base_seen calls.shared) }
-  ground_then = grounds_at ys number table then calls.shared stands calls.at
+  base_state_then : base_states_in ys number table ≡ record { founded = is_founded (base_seen calls.shared); base = start_of (base_seen calls.shared) }
+  base_state_then = base_states_at ys number table then calls.shared stands calls.at
 
   asked : OneAsk x.names number table q (called_at number (row x.tables.now number) (lists_in x.rows.items)) answer (called_at number (row x.tables.now number) (lists_in rows.items))
   asked = one_ask x.names number table q (called_at number (row x.tables.now number) (lists_in x.rows.items)) (called_at number (row x.tables.now number) (lists_in rows.items)) answer calls below
@@ -187,7 +187,7 @@ module _ {B : Type 0} (x : Members B) (number table : ℕ) (q : Query) (answer :
     groups_are = of_some (base_seen calls.shared) calls.before calls.after q answer calls.answered;
     over = λ histories go.
         let more = go number table in
-        of_then (base_seen calls.shared) calls.before calls.after q answer (grounds_in ys number table) (histories number table) more.0 calls.answered ground_then
+        of_then (base_seen calls.shared) calls.before calls.after q answer (base_states_in ys number table) (histories number table) more.0 calls.answered base_state_then
         (more.1 ∙ ap (λ (es : List Entry). es ++ more.0) seen_then);
   }
 

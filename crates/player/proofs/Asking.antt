@@ -5,7 +5,7 @@ use Rattle.std.specs.List.{AllByRecursion, range_with_len}
 use Rattle.std.proofs.lemmas.List.{append-nil, length-map}
 use Rattle.std.proofs.lemmas.Option.{slice_get_within}
 use Rattle.std.proofs.lemmas.Result.{IfOk-from_err, IfOk-weaker}
-use Rattle.leaf_model.specs.declared.rows.Row.{Row}
+use Rattle.row_model.specs.declared.rows.Row.{Row}
 use Rattle.leaf_model.specs.declared.queries.Query.{Query}
 use Rattle.leaf_model.specs.declared.groups.Group.{Group}
 use Rattle.leaf_model.specs.Groups.{groups}
@@ -13,7 +13,7 @@ use Rattle.answer_text.specs.Answer.{answer_lines}
 use Rattle.berth_face.specs.Berth.{Meaning}
 use Rattle.leaf_history.specs.Calls as call
 use Rattle.leaf_history.specs.Replies as reply
-use Rattle.leaf_history.specs.History.{Entry, after, held}
+use Rattle.leaf_history.specs.History.{Entry, after, contents_held}
 use Rattle.leaf_table.specs.declared.base.TableBase.{TableBase}
 use Rattle.leaf_table.specs.declared.replies.Reply.{Reply}
 use Rattle.leaf_table.specs.declared.replies.Reply.TheVariants as told
@@ -40,8 +40,8 @@ use Rattle.transcript.specs.Pieces.{Piece, Says, lines_in, place_among}
 use Rattle.transcript.specs.Shapes.{named, named_in}
 use Rattle.transcript.specs.Counts.{deeds_in}
 use Rattle.transcript.specs.Histories.{rows_before}
-use Rattle.transcript.specs.Answers.{AnswerIs, partial}
-use Rattle.leaf_moves.specs.Holds.{GoOn, Hold, caller_in, grounds_in, histories_of}
+use Rattle.transcript.specs.Answers.{AnswerIs, rows_of_named}
+use Rattle.leaf_moves.specs.Holds.{GoOn, Hold, caller_in, base_states_in, histories_of}
 use Rattle.leaf_moves.specs.Stage.{Leaf}
 use Rattle.leaf_moves.specs.Plays as going
 use Rattle.leaf_moves.specs.Plays.{Goes}
@@ -52,7 +52,7 @@ use Rattle.player.specs.Rows.{AreCalled, AreRows, HasSeat, IsColumn, called_at}
 use Rattle.player.specs.Stage.{held_of, hold_at}
 use Rattle.player.specs.Members.{AreMembers, fleet_in, holds_from, holds_in}
 use Rattle.player.specs.Commands.{AsksAll, AsksRow, query_lines}
-use Rattle.player.proofs.AskKnown.{grounds_at, histories_at, named_count, number_is, over_named, rows_stay}
+use Rattle.player.proofs.AskKnown.{base_states_at, histories_at, named_count, number_is, over_named, rows_stay}
 use Rattle.player.proofs.AskLines.{asked_are, number_named, reply_lines}
 use Rattle.player.proofs.AskSteps.{AreAsked, AreAt, AskedAt, ask_calm, ask_fit, ask_lines, ask_named, ask_pieces, ask_prints, ask_silent, asked_at, asked_counts, asked_holds, asks_go, paired_of}
 use Rattle.player.proofs.Calling.{called_on}
@@ -214,7 +214,7 @@ module _ {B : Type 0} (x : Members B) (table : ℕ) (are : AreMembers x) (within
     seen leaf = histories_of ys leaf table
 
     abbrev rows_of : ℕ → ℕ → List Row
-    rows_of leaf number = fan.rows_before (bases_in fleet table leaf) (seen leaf) number
+    rows_of leaf number = fan.rows_seen_before (bases_in fleet table leaf) (seen leaf) number
 
     -- the rows that it is over
     abbrev over : List Row
@@ -223,7 +223,7 @@ module _ {B : Type 0} (x : Members B) (table : ℕ) (are : AreMembers x) (within
     record Behind (leaf : ℕ) : Type 0 where
       know : AtLeaf leaf
       sees : histories_of ys leaf table ≡ seen_of know.asking.after
-      ground : grounds_in ys leaf table ≡ record { founded = is_founded (bases_in fleet table leaf); base = start_of (bases_in fleet table leaf) }
+      base_state : base_states_in ys leaf table ≡ record { founded = is_founded (bases_in fleet table leaf); base = start_of (bases_in fleet table leaf) }
 
     behind : (leaf : ℕ) → leaf < count → Behind leaf
     behind leaf below =
@@ -237,12 +237,12 @@ module _ {B : Type 0} (x : Members B) (table : ℕ) (are : AreMembers x) (within
         record {
           know = know;
           sees = histories_at ys leaf table b know.asking.after at there;
-          ground = grounds_at ys leaf table b know.asking.asked.shared at know.asking.asked.stands
+          base_state = base_states_at ys leaf table b know.asking.asked.shared at know.asking.asked.stands
               ∙ ap (λ (o : Option TableBase). record { founded = is_founded o; base = start_of o }) (sym base);
         }
 
     -- as the seats have seen them
-    pub seen_go_on : fan.GoOn seats seen
+    pub seen_go_on : fan.SeatsGoOn seats seen
     seen_go_on = λ leaf w at.
         let b : Behind leaf = behind leaf (omega (arith, slice_get_within seats leaf w at, sizes.1, size)) in
         let same : b.know.asking.after ≡ w = same_at seats leaf b.know.asking.after w b.know.asking.there at in
@@ -250,9 +250,9 @@ module _ {B : Type 0} (x : Members B) (table : ℕ) (are : AreMembers x) (within
 
     -- however the histories go on
     rows_same : (histories : ℕ → ℕ → List Entry) → GoOn ys histories
-        → partial (λ leaf. grounds_in ys leaf table) (λ leaf. histories leaf table) (by_leaf paired_of 0 rs) ≡ over
+        → rows_of_named (λ leaf. base_states_in ys leaf table) (λ leaf. histories leaf table) (by_leaf paired_of 0 rs) ≡ over
     rows_same histories go =
-        over_named (λ l. rows_before (grounds_in ys l.0 table) (histories l.0 table) l.1) rows_of 0 rs
+        over_named (λ l. rows_before (base_states_in ys l.0 table) (histories l.0 table) l.1) rows_of 0 rs
         (λ i leaf r n is there number.
         let below : leaf < count = omega (arith, is, slice_get_within rs i r there, sizes.0, size) in
         let same : leaf ≡ i = omega (arith, is) in
@@ -262,7 +262,7 @@ module _ {B : Type 0} (x : Members B) (table : ℕ) (are : AreMembers x) (within
         let last : n ≡ length w.seen = number_is (base_seen b.know.asking.asked.shared) b.know.seat (call.Ask q) b.know.asking.reply w n b.know.asking.asked.answered (ap number_named told_is ∙ number) in
         let length_is : length (seen leaf) ≡ length w.seen = ap (λ (es : List Entry). length es) b.sees ∙ length-map w.seen turns.told in
         let more = go leaf table in
-        rows_stay (grounds_in ys leaf table) (bases_in fleet table leaf) (histories leaf table) (seen leaf) more.0 n b.ground more.1 (omega (arith, last, length_is)))
+        rows_stay (base_states_in ys leaf table) (bases_in fleet table leaf) (histories leaf table) (seen leaf) more.0 n b.base_state more.1 (omega (arith, last, length_is)))
 
     -- ---- all of it
 
@@ -312,9 +312,9 @@ module _ {B : Type 0} (x : Members B) (table : ℕ) (are : AreMembers x) (within
           (subst (AllByRecursion (IsOf x.names)) (sym lines_are) (all_more (IsOf x.names) (reply_lines 0 table rs) (answer ∷ []) (ask_fit x.names 0 table q rs within) (tt, tt)))
           (IfOk-weaker result _ (λ lines. lines.items ≡ lines_in pieces) (λ lines h. h.3 ∙ told_lines h.0 h.1 h.2) told);
       answers = λ histories go.
-          let R : List Row = partial (λ leaf. grounds_in ys leaf table) (λ leaf. histories leaf table) (named pieces) in
-          let same : R ≡ over = ap (partial (λ leaf. grounds_in ys leaf table) (λ leaf. histories leaf table)) named_are ∙ rows_same histories go in
-          subst (λ (t : ℕ). AllByRecursion (AnswerIs q (partial (λ leaf. grounds_in ys leaf t) (λ leaf. histories leaf t) (named pieces))) pieces) is
+          let R : List Row = rows_of_named (λ leaf. base_states_in ys leaf table) (λ leaf. histories leaf table) (named pieces) in
+          let same : R ≡ over = ap (rows_of_named (λ leaf. base_states_in ys leaf table) (λ leaf. histories leaf table)) named_are ∙ rows_same histories go in
+          subst (λ (t : ℕ). AllByRecursion (AnswerIs q (rows_of_named (λ leaf. base_states_in ys leaf t) (λ leaf. histories leaf t) (named pieces))) pieces) is
           (all_more (AnswerIs q R) (ask_pieces 0 table q rs) (Says answer ∷ []) (ask_silent 0 table q R rs) (ap (λ (rs : List Row). answer_lines q (groups q rs)) (sym same), tt));
     }
 
@@ -349,7 +349,7 @@ module _ {B F : Type 0} (x : Members B) (table : ℕ) (q : Query) (now : Vec (Ve
 pub asks_told : {B E F : Type 0} (x : Members B) (table : ℕ) (q : Query) (now : Vec (Vec SeatView Global) Global) (asked : Result Fanned F) (are : AreMembers x) (within : table < length x.names) (has : HasSeats (holds_in x) table)
     (asks : AsksRow q x.tables.now table (lists_in x.rows.items) asked (lists_in now.items)) (meaning : B → Meaning) (result : Result (Vec Line Global) E) (is : table ≡ place_among q.table x.names)
     (f : Fanned) → asked ≡ Ok f
-    → ((histories : ℕ → List Entry) → fan.GoOn (row (lists_in now.items) table) histories → IfOk asked (λ g. g.groups ≡ groups q (fan.partial (bases_in x.tables.now table) histories g.named)))
+    → ((histories : ℕ → List Entry) → fan.SeatsGoOn (row (lists_in now.items) table) histories → IfOk asked (λ g. g.groups ≡ groups q (fan.partial (bases_in x.tables.now table) histories g.named)))
     → IfOk result (λ lines. lines.items ≡ query_lines (leaf_count (fleet_in x)) table q f)
     → AsksAll meaning q x result (with_parts x x.leaves now) ⊎ (IsErr result × (holds_in (with_parts x x.leaves now) ≡ holds_in x))
 asks_told {B} {E} {F} x table q now asked are within has asks meaning result is f ok answered told =
@@ -357,7 +357,7 @@ asks_told {B} {E} {F} x table q now asked are within has asks meaning result is 
     (λ histories go. subst (λ (r : Result Fanned F). IfOk r (λ g. g.groups ≡ groups q (fan.partial (bases_in x.tables.now table) histories g.named))) ok (answered histories go))
   where
     by : AsksRow {E = F} q x.tables.now table (lists_in x.rows.items) (Ok f) (lists_in now.items)
-        → ((histories : ℕ → List Entry) → fan.GoOn (row (lists_in now.items) table) histories → f.groups ≡ groups q (fan.partial (bases_in x.tables.now table) histories f.named))
+        → ((histories : ℕ → List Entry) → fan.SeatsGoOn (row (lists_in now.items) table) histories → f.groups ≡ groups q (fan.partial (bases_in x.tables.now table) histories f.named))
         → AsksAll meaning q x result (with_parts x x.leaves now) ⊎ (IsErr result × (holds_in (with_parts x x.leaves now) ≡ holds_in x))
     by (inl h) over = absurd (true≢false (sym h.0))
     by (inr h) over =
@@ -366,8 +366,8 @@ asks_told {B} {E} {F} x table q now asked are within has asks meaning result is 
         let seen : ℕ → List Entry = λ leaf. histories_of (holds_in (with_parts x x.leaves now)) leaf table in
         let row_now : row (lists_in now.items) table ≡ h.0 =
         ap (λ (ls : List (List SeatView)). row ls table) h.2 ∙ get_or-set_same (lists_in x.rows.items) table h.0 [] (omega (arith, within, are.rows.count)) in
-        let go : fan.GoOn (row (lists_in now.items) table) seen =
-        subst (λ (vs : List SeatView). fan.GoOn vs seen) (sym row_now) (seen_go_on x table are within has q h.0 rs now h.2 h.1.asked) in
+        let go : fan.SeatsGoOn (row (lists_in now.items) table) seen =
+        subst (λ (vs : List SeatView). fan.SeatsGoOn vs seen) (sym row_now) (seen_go_on x table are within has q h.0 rs now h.2 h.1.asked) in
         let groups_are = over seen go ∙ ap (λ (ns : List Named). groups q (fan.partial (bases_in x.tables.now table) seen ns)) sorts.named in
         inl (asks_all x table are within has q h.0 rs now h.2 h.1.asked meaning result is
         (IfOk-weaker result _ _ (λ lines lines_are. (f, sorts, groups_are, lines_are)) told))

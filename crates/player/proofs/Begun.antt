@@ -17,7 +17,7 @@ use Rattle.leaf_steward.specs.Seated.{Seated, AreAlike, AreFounded, AtEach, IsUn
 use Rattle.leaf_steward.proofs.Seating.{same_at}
 use Rattle.crash_states.specs.Beginning.{MayBegin}
 use Rattle.script_text.specs.Commands.{leaf_count}
-use Rattle.leaf_moves.specs.Stage.{Leaf, IsDown, Stands, seated_of}
+use Rattle.leaf_moves.specs.Stage.{Leaf, IsDown, LeafStands, seated_of}
 use Rattle.leaf_moves.specs.Holds.{Hold, caller_in}
 use Rattle.leaf_deeds.specs.declared.leaf.OneLeaf.{OneLeaf}
 use Rattle.player.specs.declared.members.Members.{Members}
@@ -25,7 +25,7 @@ use Rattle.player.specs.Crew.{HasLeaf, HasSeats, column, new_holds, seated_at}
 use Rattle.player.specs.Rows.{AreRows, IsCallersAt, IsColumn}
 use Rattle.player.specs.Stage.{held_of, hold_at}
 use Rattle.player.specs.Members.{AreMembers, IsLeafOf, fleet_in, holds_from}
-use Rattle.player.specs.Beginning.{AreBegun, BeginsWith, IsBegun, IsReady}
+use Rattle.player.specs.Beginning.{AreBegun, BeginsWith, IsBegun, LeafIsReady}
 use Rattle.player.proofs.Columns.{caller_at, column_back, column_count, element_at, same_some}
 use Rattle.player.proofs.HoldLists.{holds_back}
 
@@ -123,14 +123,14 @@ module _ {B : Type 0} (meaning : B → Meaning) (names : List (List ℕ)) (table
 
   pub begun_stands : (count : ℕ) (leaves : List (Option (OneLeaf B))) (callers : List (List SeatView)) → AreBegun meaning names tables stewards berths count leaves
       → (leaf : ℕ) (h : Hold B) (l : Leaf) (b : B) (states : NamedStates) → slice_get (holds_from 0 tables leaves callers) leaf ≡ Some h → h.held ≡ Some (l, b) → AreFounded (seated_of l)
-      → MayBegin states (meaning b) → BeginsWith states (seated_of l) → Stands states l (meaning b)
+      → MayBegin states (meaning b) → BeginsWith states (seated_of l) → LeafStands states l (meaning b)
   begun_stands count leaves callers begun leaf h l b states at held =
       let back = holds_back 0 leaf leaf tables leaves h callers (omega arith) at in
       let here = begun.each leaf back.0 back.1 in
       let is : Some (IsDown (seated_at names tables stewards leaf), here.0) ≡ Some (l, b) =
       sym (ap (λ (g : Hold B). g.held) back.2 ∙ ap (λ (z : Option (OneLeaf B)). held_of z) here.2.is) ∙ held in
       let same : (IsDown (seated_at names tables stewards leaf), here.0) ≡ (l, b) = same_some _ (l, b) is in
-      subst (λ (p : Leaf × B). AreFounded (seated_of p.0) → MayBegin states (meaning p.1) → BeginsWith states (seated_of p.0) → Stands states p.0 (meaning p.1)) same
+      subst (λ (p : Leaf × B). AreFounded (seated_of p.0) → MayBegin states (meaning p.1) → BeginsWith states (seated_of p.0) → LeafStands states p.0 (meaning p.1)) same
       (λ founded may begins. here.2.stands states founded may begins)
 
   -- each is held
@@ -165,7 +165,7 @@ module _ (base : ℕ → ℕ → Option TableBase) (count : ℕ) (names : List (
 
   pub ready_at : {B : Type 0} (meaning : B → Meaning) (berths : List B) (leaf : ℕ) → leaf < count → AreAlike (seated_at names tables stewards leaf)
       → ((b : B) → slice_get berths leaf ≡ Some b → AreFounded (seated_at names tables stewards leaf) → (states : NamedStates) × MayBegin states (meaning b) × BeginsWith states (seated_at names tables stewards leaf))
-      → IsReady meaning names tables stewards berths leaf
+      → LeafIsReady meaning names tables stewards berths leaf
   ready_at meaning berths leaf below alike ready = record {
     named = named;
     names_are = names_are leaf below;
@@ -244,7 +244,7 @@ pub record StepReady {B : Type 0} (meaning : B → Meaning) (copy : List (List �
   pub ready : AreFounded (record { names = copy; tables = tables; seats = seats }) → (states : NamedStates) × MayBegin states (meaning b) × BeginsWith states (record { names = copy; tables = tables; seats = seats })
 
 pub step_ready : {B : Type 0} (meaning : B → Meaning) (names copy : List (List ℕ)) (tables : List (List Shared)) (stewards : List (List SeatView)) (berths : List B) (k : ℕ) (tabs : List Shared) (seats : List SeatView) (b : B)
-    → copy ≡ names → tabs ≡ row tables k → seats ≡ row stewards k → slice_get berths k ≡ Some b → IsReady meaning names tables stewards berths k → StepReady meaning copy tabs seats b
+    → copy ≡ names → tabs ≡ row tables k → seats ≡ row stewards k → slice_get berths k ≡ Some b → LeafIsReady meaning names tables stewards berths k → StepReady meaning copy tabs seats b
 step_ready {B} meaning names copy tables stewards berths k tabs seats b named tabs_are seats_are at is =
     subst (λ (n : List (List ℕ)). StepReady meaning n tabs seats b) (sym named)
     (subst (λ (ts : List Shared). StepReady meaning names ts seats b) (sym tabs_are)

@@ -20,7 +20,7 @@ use Rattle.transcript.specs.Pieces.{Piece, lines_in, piece_lines}
 use Rattle.transcript.specs.Shapes.{CallPiece}
 use Rattle.transcript.specs.Counts.{deeds_in}
 use Rattle.leaf_moves.specs.Steps.{CallStep, IsReplyPiece}
-use Rattle.player.specs.Rows.{Called, Calls}
+use Rattle.player.specs.Rows.{SeatRow, CallsTable}
 use Rattle.player.specs.Lines.{CallsWith, reply_line}
 use Rattle.player.proofs.CommandLines.{one_piece}
 
@@ -62,7 +62,7 @@ reply_piece leaf table c told.Worn = record {
 
 -- ---- one call
 
-pub call_step : (leaf table : ℕ) (c : Call) (x y : Called) (r : Reply) (p : Piece) → Calls table c x r y → IsReplyPiece leaf table c r p → CallStep leaf table c x.tables x.seats p y.seats
+pub call_step : (leaf table : ℕ) (c : Call) (x y : SeatRow) (r : Reply) (p : Piece) → CallsTable table c x r y → IsReplyPiece leaf table c r p → CallStep leaf table c x.tables x.seats p y.seats
 call_step leaf table c x y r p calls says = record {
   shared = calls.shared;
   before = calls.before;
@@ -71,12 +71,12 @@ call_step leaf table c x y r p calls says = record {
   at = calls.at;
   was = calls.was;
   answered = calls.answered;
-  now = ap (λ (z : Called). z.seats) calls.now;
+  now = ap (λ (z : SeatRow). z.seats) calls.now;
   says = says;
 }
 
-pub one_call : {E : Type 0} (names : List (List ℕ)) (leaf table : ℕ) (c : Call) (x y : Called) (r : Reply) (result : Result (Vec Line Global) E)
-    → Calls table c x r y → table < length names → IfOk result (λ lines. lines.items ≡ reply_line leaf table r ∷ [])
+pub one_call : {E : Type 0} (names : List (List ℕ)) (leaf table : ℕ) (c : Call) (x y : SeatRow) (r : Reply) (result : Result (Vec Line Global) E)
+    → CallsTable table c x r y → table < length names → IfOk result (λ lines. lines.items ≡ reply_line leaf table r ∷ [])
     → CallsWith names leaf table c x.tables x.seats result y.seats
 one_call names leaf table c x y r result calls within told =
     let p : ReplyPiece leaf table c r = reply_piece leaf table c r in
@@ -90,12 +90,12 @@ one_call names leaf table c x y r result calls within told =
     }
 
 -- an ask that had this reply, without the list of its line
-pub record OneAsk (names : List (List ℕ)) (leaf table : ℕ) (q : Query) (x : Called) (r : Reply) (y : Called) : Type 0 where
+pub record OneAsk (names : List (List ℕ)) (leaf table : ℕ) (q : Query) (x : SeatRow) (r : Reply) (y : SeatRow) : Type 0 where
   pub calls : CallsWith {E = Unit {0}} names leaf table (call.Ask q) x.tables x.seats (Err tt) y.seats
   pub line_is : lines_in (calls.piece ∷ []) ≡ reply_line leaf table r ∷ []
   pub fits : IsOf names (reply_line leaf table r)
 
-pub one_ask : (names : List (List ℕ)) (leaf table : ℕ) (q : Query) (x y : Called) (r : Reply) → Calls table (call.Ask q) x r y → table < length names → OneAsk names leaf table q x r y
+pub one_ask : (names : List (List ℕ)) (leaf table : ℕ) (q : Query) (x y : SeatRow) (r : Reply) → CallsTable table (call.Ask q) x r y → table < length names → OneAsk names leaf table q x r y
 one_ask names leaf table q x y r calls within =
     let p : ReplyPiece leaf table (call.Ask q) r = reply_piece leaf table (call.Ask q) r in
     let lines_are : lines_in (p.piece ∷ []) ≡ reply_line leaf table r ∷ [] = one_piece p.piece ∙ p.line_is in

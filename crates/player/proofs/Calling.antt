@@ -4,7 +4,7 @@ use Rattle.std.specs.Prelude.{slice_get, slice_set, slice_index_or}
 use Rattle.std.proofs.lemmas.Option.{slice_get_read}
 use Rattle.leaf_history.specs.Calls.{Call}
 use Rattle.leaf_history.specs.History.{LegalFrom}
-use Rattle.turnstile.specs.Seats.{AreIds, IsSeatOf, LearnsOthers, Told}
+use Rattle.turnstile.specs.Seats.{AreIds, IsSeatOf, LearnsOthers, SeesAlso}
 use Rattle.leaf_table.specs.declared.replies.Reply.{Reply}
 use Rattle.leaf_table.specs.declared.replies.Reply.TheVariants as told
 use Rattle.leaf_table.specs.Turns.{Shared, is_founded, start_of}
@@ -12,7 +12,7 @@ use Rattle.leaf_table.specs.Calls.{SeatView, Answered, SameSeat, base_seen, seen
 use Rattle.leaf_steward.specs.Seated.{Seated, AtPlace}
 use Rattle.leaf_steward.proofs.Seating.{same_at, set_either, some_same}
 use Rattle.leaf_moves.specs.Stage.{Leaf, seated_of, with_seats}
-use Rattle.player.specs.Rows.{Called, AreCalled, Calls, IsCallersAt}
+use Rattle.player.specs.Rows.{SeatRow, AreCalled, CallsTable, IsCallersAt}
 use Rattle.player.specs.Meeting.{MeetsAt}
 use Rattle.leaf_deeds.proofs.Meetings.{IsMetSeat, IsThere, is_there}
 
@@ -25,7 +25,7 @@ stands_at xs place x within is = slice_get_read xs (length xs) place x refl with
 -- ---- a seat and its table
 
 -- the same seats but for one are callers' seats still
-pub called_with : (x : Called) (table : ℕ) (t : Shared) (c : SeatView) → AreCalled x → slice_get x.tables table ≡ Some t → IsCallersAt t c
+pub called_with : (x : SeatRow) (table : ℕ) (t : Shared) (c : SeatView) → AreCalled x → slice_get x.tables table ≡ Some t → IsCallersAt t c
     → AreCalled (record { tables = x.tables; seats = slice_set x.seats table (Some c) })
 called_with x table t c are at here = record {
   count = length-set x.seats table (Some c) ∙ are.count;
@@ -59,7 +59,7 @@ callers_after t v c reply w is seat same answered = record {
 }
 
 -- the seat v at the table t
-module _ (x : Called) (table : ℕ) (t : Shared) (v : SeatView) (are : AreCalled x) (at : slice_get x.tables table ≡ Some t) (was : slice_get x.seats table ≡ Some (Some v)) where
+module _ (x : SeatRow) (table : ℕ) (t : Shared) (v : SeatView) (are : AreCalled x) (at : slice_get x.tables table ≡ Some t) (was : slice_get x.seats table ≡ Some (Some v)) where
   pub is_called : IsCallersAt t v
   is_called = are.each table t v at was
 
@@ -67,27 +67,27 @@ module _ (x : Called) (table : ℕ) (t : Shared) (v : SeatView) (are : AreCalled
       → AreCalled (record { tables = x.tables; seats = slice_set x.seats table (Some w) })
   called_on c reply w seats same answered = called_with x table t w are at (callers_after t v c reply w is_called seats same answered)
 
-  pub calls : (c : Call) (reply : Reply) (w : SeatView) → Answered (base_seen t) v c reply w → Calls table c x reply (record { tables = x.tables; seats = slice_set x.seats table (Some w) })
+  pub calls : (c : Call) (reply : Reply) (w : SeatView) → Answered (base_seen t) v c reply w → CallsTable table c x reply (record { tables = x.tables; seats = slice_set x.seats table (Some w) })
   calls c reply w answered = record { shared = t; before = v; after = w; at = at; was = was; answered = answered; now = refl }
 
 -- ---- meetings
 
 -- the seat in that place is a seat of the leaf's table
-pub meets_legal : (x self : Called) (y : Seated) (table : ℕ) (c : SeatView) → AreCalled x → x ≡ self → self.tables ≡ y.tables → table < length self.tables → slice_get x.seats table ≡ Some (Some c)
+pub meets_legal : (x self : SeatRow) (y : Seated) (table : ℕ) (c : SeatView) → AreCalled x → x ≡ self → self.tables ≡ y.tables → table < length self.tables → slice_get x.seats table ≡ Some (Some c)
     → AtPlace (λ t v. IsSeatOf c t.site × LegalFrom (is_founded (base_seen t)) (start_of (base_seen t)) (seen_of c)) y table
 meets_legal x self y table c are is same within read = λ t v at seat.
-    let tables : x.tables ≡ y.tables = ap (λ (z : Called). z.tables) is ∙ same in
+    let tables : x.tables ≡ y.tables = ap (λ (z : SeatRow). z.tables) is ∙ same in
     let here : IsCallersAt t c = are.each table t c (subst (λ (ts : List Shared). slice_get ts table ≡ Some t) (sym tables) at) read in
     (here.seat, here.legal)
 
-module _ (x self : Called) (leaf : Leaf) (table : ℕ) (c c' : SeatView) (are : AreCalled x) (is : x ≡ self) (same : self.tables ≡ (seated_of leaf).tables)
+module _ (x self : SeatRow) (leaf : Leaf) (table : ℕ) (c c' : SeatView) (are : AreCalled x) (is : x ≡ self) (same : self.tables ≡ (seated_of leaf).tables)
     (count : length (seated_of leaf).seats ≡ length (seated_of leaf).tables) (within : table < length self.tables) (the_seat : slice_get x.seats table ≡ Some (Some c))
     (met : AtPlace (IsMetSeat c c') (seated_of leaf) table) where
   there : IsThere (seated_of leaf) table
   there = is_there (seated_of leaf) table (subst (λ (ts : List Shared). table < length ts) same within) count
 
   the_table : slice_get x.tables table ≡ Some there.shared
-  the_table = subst (λ (ts : List Shared). slice_get ts table ≡ Some there.shared) (sym (ap (λ (z : Called). z.tables) is ∙ same)) there.at
+  the_table = subst (λ (ts : List Shared). slice_get ts table ≡ Some there.shared) (sym (ap (λ (z : SeatRow). z.tables) is ∙ same)) there.at
 
   pub called_met : AreCalled (record { tables = x.tables; seats = slice_set x.seats table (Some c') })
   called_met =
@@ -97,7 +97,7 @@ module _ (x self : Called) (leaf : Leaf) (table : ℕ) (c c' : SeatView) (are : 
       (record { seat = seat.0; caller = subst (λ (n : ℕ). 0 < n) (sym (ap (λ (s : SeatView). s.id) seat.1.view)) before.caller; legal = seat.3 })
 
   pub meets_at : (leaf' : Leaf) → AreIds c'.seen
-      → AtPlace (λ t v. (w : SeatView) × (leaf' ≡ with_seats leaf (slice_set (seated_of leaf).seats table w)) × Told v c w × LearnsOthers v w) (seated_of leaf) table
+      → AtPlace (λ t v. (w : SeatView) × (leaf' ≡ with_seats leaf (slice_set (seated_of leaf).seats table w)) × SeesAlso v c w × LearnsOthers v w) (seated_of leaf) table
       → MeetsAt table leaf self.seats leaf' (slice_set x.seats table (Some c'))
   meets_at leaf' ids learns =
       let seat = met there.shared there.seat there.at there.was in
@@ -108,8 +108,8 @@ module _ (x self : Called) (leaf : Leaf) (table : ℕ) (c c' : SeatView) (are : 
         steward_then = learned.0;
         caller_then = Some c';
         was = there.was;
-        was_caller = subst (λ (z : Called). slice_get z.seats table ≡ Some (Some c)) is the_seat;
+        was_caller = subst (λ (z : SeatRow). slice_get z.seats table ≡ Some (Some c)) is the_seat;
         meets = record { steward = learned.2; caller = seat.1; steward_learns = learned.3; caller_learns = seat.2; ids = ids };
         leaf_is = learned.1;
-        callers_are = ap (λ (z : Called). slice_set z.seats table (Some c')) is;
+        callers_are = ap (λ (z : SeatRow). slice_set z.seats table (Some c')) is;
       }

@@ -13,14 +13,14 @@ use Rattle.printed_lines.specs.declared.line.Line.{Line}
 use Rattle.printed_lines.specs.Lines.{IsOf}
 use Rattle.printed_lines.specs.declared.line.Deed.{Deed}
 use Rattle.transcript.specs.Pieces.{Acted, Called, Piece, Says, Worn, lines_in, piece_lines}
-use Rattle.transcript.specs.Counts.{Counted, CountsRose, deeds_in, is_disk_fault, is_region_fault, reads_disk}
+use Rattle.transcript.specs.Counts.{CountRose, CountsRose, deeds_in, is_disk_fault, is_region_fault, reads_disk}
 use Rattle.leaf_moves.specs.Holds.{Hold, caller_in, with_callers, with_leaf}
 use Rattle.leaf_moves.specs.Steps as step
 use Rattle.leaf_moves.specs.Plays as going
 use Rattle.leaf_moves.specs.Steps.{noted_all}
 use Rattle.leaf_moves.specs.Plays.{Goes}
 use Rattle.leaf_moves.specs.Stage.{Leaf}
-use Rattle.player.specs.declared.answer.Answer.{Answer}
+use Rattle.player.specs.declared.answer.DeedOutcome.{DeedOutcome}
 use Rattle.player.specs.Crew.{AllPass, CountedIf, PassesIf, StillHas}
 use Rattle.player.specs.Lines.{AreJoined, CallsWith}
 use Rattle.player.specs.Members.{GoesWith}
@@ -53,8 +53,8 @@ deeds_more test leaf (Says l ∷ ps) qs = deeds_more test leaf ps qs
 bounded : (top b m n c d : ℕ) → min (b + c) top ≤ m → min (m + d) top ≤ n → min (b + (c + d)) top ≤ n
 bounded top b m n c d first second = omega (arith, first, second)
 
-counted_on : (b m n c d all : ℕ) → all ≡ c + d → Counted b m c → Counted m n d → Counted b n all
-counted_on b m n c d all is first second = subst (Counted b n) (sym is) (bounded (2 ^ 64 - 1) b m n c d first second)
+counted_on : (b m n c d all : ℕ) → all ≡ c + d → CountRose b m c → CountRose m n d → CountRose b n all
+counted_on b m n c d all is first second = subst (CountRose b n) (sym is) (bounded (2 ^ 64 - 1) b m n c d first second)
 
 pub counted_more : (leaf : ℕ) (ps qs : List Piece) (m n o : Meaning) → CountsRose leaf ps m n → CountsRose leaf qs n o → CountsRose leaf (ps ++ qs) m o
 counted_more leaf ps qs m n o first second = record {
@@ -148,7 +148,7 @@ module _ {B : Type 0} (meaning : B → Meaning) where
 
   -- a deed
   pub one_act : {E : Type 0} (names : List (List ℕ)) (xs ys : List (Hold B)) (number : ℕ) (deed : Deed) (x : Hold B) (l l' : Leaf) (b b' : B) (callers : List (Option SeatView))
-      (answer : Answer) (result : Result (Vec Line Global) E) → slice_get xs number ≡ Some x → x.held ≡ Some (l, b) → ys ≡ slice_set xs number (with_leaf x l' b' callers)
+      (answer : DeedOutcome) (result : Result (Vec Line Global) E) → slice_get xs number ≡ Some x → x.held ≡ Some (l, b) → ys ≡ slice_set xs number (with_leaf x l' b' callers)
       → ((table : ℕ) → is_some (caller_in callers table) ≡ is_some (caller_in x.callers table))
       → (acts : ActsWith meaning names number deed l x.callers b answer result l' callers b') → Passes (meaning b) (meaning b')
       → GoesWith meaning names xs result (acts.piece ∷ []) ys

@@ -13,7 +13,7 @@ use Rattle.printed_lines.specs.declared.line.Line.TheVariants as line
 use Rattle.printed_lines.specs.Lines.{EndsOf, IsOf}
 use Rattle.printed_lines.specs.declared.line.Deed.{Deed}
 use Rattle.transcript.specs.Pieces.{Piece, Acted, Noted, lines_in, piece_lines}
-use Rattle.transcript.specs.Counts.{Counted, CountsRose, deeds_in, is_disk_fault, is_region_fault, reads_disk}
+use Rattle.transcript.specs.Counts.{CountRose, CountsRose, deeds_in, is_disk_fault, is_region_fault, reads_disk}
 use Rattle.leaf_moves.specs.Steps.{noted_all}
 use Rattle.player.specs.Lines.{note_lines}
 use Rattle.leaf_deeds.specs.Moves.{FaultRose}
@@ -31,11 +31,11 @@ least : (a b : ℕ) → min a b ≤ a
 least a b = search rules
 
 -- where no fault is told, none need have been counted
-not_more : (old new : ℕ) → old ≤ new → Counted old new 0
+not_more : (old new : ℕ) → old ≤ new → CountRose old new 0
 not_more old new later = omega (arith, later, least (old + 0) (2 ^ 64 - 1))
 
-pub none_told : (old count : ℕ) → count ≡ 0 → Counted old old count
-none_told old count none = subst (λ (k : ℕ). Counted old old k) (sym none) (not_more old old (le_refl old))
+pub none_told : (old count : ℕ) → count ≡ 0 → CountRose old old count
+none_told old count none = subst (λ (k : ℕ). CountRose old old k) (sym none) (not_more old old (le_refl old))
 
 abbrev pub one_if : Bool → ℕ
 one_if true = 1
@@ -46,7 +46,7 @@ one_such : (number : ℕ) (b : Bool) → (if (number == number) && b then 1 else
 one_such number true = ap (λ (c : Bool). (if c && true then 1 else 0) + 0) (eq-eqb number number refl)
 one_such number false = ap (λ (c : Bool). (if c && false then 1 else 0) + 0) (eq-eqb number number refl)
 
-region_rose : (ends : Ending) (m m' : Meaning) → Passes m m' → FaultRose ends m m' → Counted m.region_faults m'.region_faults (one_if (is_region_fault ends))
+region_rose : (ends : Ending) (m m' : Meaning) → Passes m m' → FaultRose ends m m' → CountRose m.region_faults m'.region_faults (one_if (is_region_fault ends))
 region_rose FaultRegion m m' time rose = rose
 region_rose FaultRoom m m' time rose = not_more m.region_faults m'.region_faults time.region_faults
 region_rose FaultDisk m m' time rose = not_more m.region_faults m'.region_faults time.region_faults
@@ -61,7 +61,7 @@ region_rose NotDown m m' time rose = not_more m.region_faults m'.region_faults t
 region_rose ending.Worn m m' time rose = not_more m.region_faults m'.region_faults time.region_faults
 region_rose (Started way) m m' time rose = not_more m.region_faults m'.region_faults time.region_faults
 
-disk_rose : (ends : Ending) (m m' : Meaning) → Passes m m' → FaultRose ends m m' → Counted m.disk_faults m'.disk_faults (one_if (is_disk_fault ends))
+disk_rose : (ends : Ending) (m m' : Meaning) → Passes m m' → FaultRose ends m m' → CountRose m.disk_faults m'.disk_faults (one_if (is_disk_fault ends))
 disk_rose FaultRegion m m' time rose = not_more m.disk_faults m'.disk_faults time.disk_faults
 disk_rose FaultRoom m m' time rose = not_more m.disk_faults m'.disk_faults time.disk_faults
 disk_rose FaultDisk m m' time rose = rose
@@ -83,8 +83,8 @@ not_read false none = refl
 pub counted : (number : ℕ) (deed : Deed) (notes : List Noted) (ends : Ending) (m m' : Meaning) → Passes m m' → FaultRose ends m m'
     → (reads_disk deed ends ≡ false → m'.disk_reads ≡ m.disk_reads) → CountsRose number (Acted number deed notes ends ∷ []) m m'
 counted number deed notes ends m m' time rose same = record {
-  region = subst (Counted m.region_faults m'.region_faults) (sym (one_such number (is_region_fault ends))) (region_rose ends m m' time rose);
-  disk = subst (Counted m.disk_faults m'.disk_faults) (sym (one_such number (is_disk_fault ends))) (disk_rose ends m m' time rose);
+  region = subst (CountRose m.region_faults m'.region_faults) (sym (one_such number (is_region_fault ends))) (region_rose ends m m' time rose);
+  disk = subst (CountRose m.disk_faults m'.disk_faults) (sym (one_such number (is_disk_fault ends))) (disk_rose ends m m' time rose);
   reads = λ none. same (not_read (reads_disk deed ends) (sym (one_such number (reads_disk deed ends)) ∙ none));
 }
 

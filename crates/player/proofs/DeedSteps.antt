@@ -25,7 +25,7 @@ use Rattle.leaf_moves.specs.Steps.{Moves, StartMoves, FlushMoves, KillMoves, Dra
 use Rattle.leaf_deeds.specs.Held.{KeepsSeats}
 use Rattle.player.specs.Stage.{IsMember}
 use Rattle.player.specs.Lines.{AreEnded}
-use Rattle.player.specs.declared.answer.Answer.{Answer}
+use Rattle.player.specs.declared.answer.DeedOutcome.{DeedOutcome}
 use Rattle.player.specs.Commands.{ActsWith, answer_of}
 use Rattle.leaf_deeds.specs.Moves.{FaultRose}
 use Rattle.player.specs.Meeting.{ArePlaces}
@@ -77,7 +77,7 @@ deed_ends names Kill m m' x leaf notes ends leaf' fits keeps moves = kill_ends n
 -- ---- a deed between two meetings, which do not touch the berth
 
 module _ {B E : Type 0} (number : ℕ) (meaning : B → Meaning) (b b1 b2 b3 : B) (leaf met moved after : Leaf) (callers met_callers after_callers : List (Option SeatView)) (notes : List Note) (ends : Ending)
-    (names : List (List ℕ)) (deed : Deed) (answer : Answer) (result : Result (Vec Line Global) E) (rows : List (List SeatView)) (first_berth : b1 ≡ b) (second_berth : b3 ≡ b2) where
+    (names : List (List ℕ)) (deed : Deed) (answer : DeedOutcome) (result : Result (Vec Line Global) E) (rows : List (List SeatView)) (first_berth : b1 ≡ b) (second_berth : b3 ≡ b2) where
   between : (P : Meaning → Meaning → Type 0) → P (meaning b1) (meaning b2) → P (meaning b) (meaning b3)
   between P p = subst (λ (x : B). P (meaning x) (meaning b3)) first_berth (subst (λ (x : B). P (meaning b1) (meaning x)) (sym second_berth) p)
 

@@ -14,7 +14,7 @@ use Rattle.leaf_moves.specs.Stage.{Leaf, MeetAll}
 use Rattle.leaf_deeds.specs.declared.leaf.OneLeaf.{OneLeaf}
 use Rattle.player.specs.Crew.{column}
 use Rattle.player.specs.Rows.{AreCalled, AreRows, MayMeet, OnlyColumn}
-use Rattle.leaf_deeds.specs.Held.{berth_of, seats_of, state_of}
+use Rattle.leaf_deeds.specs.Held.{berth_of, seats_of, leaf_state}
 use Rattle.player.specs.Stage.{hold_at, own_berth}
 use Rattle.player.specs.Members.{holds_from}
 use Rattle.player.proofs.Columns.{only_rows}
@@ -97,7 +97,7 @@ module _ {B : Type 0} (meaning : B → Meaning) where
     may_now may = may_still (length now) (seats_of leaf) first rows so_far.sizes (so_far.columns (length now) (omega (arith, longer))) may
 
     pub abandoned_more : (then : Leaf) (rows' : List (List SeatView)) (berths' : List B)
-        → MeetAll (state_of leaf) (column (length now) rows) then (column (length now) rows') (meaning (berth_of leaf))
+        → MeetAll (leaf_state leaf) (column (length now) rows) then (column (length now) rows') (meaning (berth_of leaf))
         → OnlyColumn (length now) rows rows' → berths' ≡ berth_of leaf ∷ berths → Abandoned meaning full first old now rows' berths'
     abandoned_more then rows' berths' met only put = record {
       done = Some leaf ∷ so_far.done;
@@ -114,12 +114,12 @@ module _ {B : Type 0} (meaning : B → Meaning) where
         here tables = (
           record { tables = row tables (length now); callers = column (length now) rows'; held = Some (then, berth_of leaf) },
           record {
-            leaf = state_of leaf;
+            leaf = leaf_state leaf;
             berth = berth_of leaf;
             leaf_then = then;
             callers_then = column (length now) rows';
             held = refl;
-            met = subst (λ (cs : List (Option SeatView)). MeetAll (state_of leaf) cs then (column (length now) rows') (meaning (berth_of leaf))) (so_far.columns (length now) (omega (arith, longer))) met;
+            met = subst (λ (cs : List (Option SeatView)). MeetAll (leaf_state leaf) cs then (column (length now) rows') (meaning (berth_of leaf))) (so_far.columns (length now) (omega (arith, longer))) met;
             now = refl;
           },
         )

@@ -23,6 +23,7 @@ pub mod TailCalls
 pub mod TailTries
 pub mod SendRows
 pub mod Tailing
+pub mod Ordered
 pub mod Playing
 pub mod Begun
 pub mod Ending

@@ -14,7 +14,7 @@ use Rattle.leaf_deeds.specs.declared.leaf.OneLeaf.{OneLeaf}
 use Rattle.player.specs.declared.members.Members.{Members}
 use Rattle.player.specs.Crew.{AllPass, PassesIf, Spares, StillHas, column}
 use Rattle.player.specs.Rows.{OnlyColumn}
-use Rattle.leaf_deeds.specs.Held.{berth_of, state_of}
+use Rattle.leaf_deeds.specs.Held.{berth_of, leaf_state}
 use Rattle.player.specs.Stage.{hold_at}
 use Rattle.player.specs.Members.{AreMembers, holds_in}
 use Rattle.player.specs.Lending.{MeetLeaves, MeetsLeaf}
@@ -60,7 +60,7 @@ module _ {B : Type 0} (meaning : B → Meaning) (x : Members B) (number : ℕ) (
   was = hold_at number x.tables.now (lists_in x.rows.items) (Some one)
 
   abbrev then : Hold B
-  then = with_leaf was (state_of next) (berth_of next) (column number (lists_in rows.items))
+  then = with_leaf was (leaf_state next) (berth_of next) (column number (lists_in rows.items))
 
   there : slice_get (holds_in x) number ≡ Some was
   there = holds_at 0 number number x.tables.now x.leaves.items (Some one) (lists_in x.rows.items) (omega arith) at
@@ -68,20 +68,20 @@ module _ {B : Type 0} (meaning : B → Meaning) (x : Members B) (number : ℕ) (
   holds : holds_in (with_parts x leaves rows) ≡ slice_set (holds_in x) number then
   holds = holds_then x number one next leaves rows are at now only
 
-  pub leaf_meets : MeetAll (state_of one) (column number (lists_in x.rows.items)) (state_of next) (column number (lists_in rows.items)) (meaning (berth_of one)) → berth_of next ≡ berth_of one
+  pub leaf_meets : MeetAll (leaf_state one) (column number (lists_in x.rows.items)) (leaf_state next) (column number (lists_in rows.items)) (meaning (berth_of one)) → berth_of next ≡ berth_of one
       → MeetsLeaf meaning number (holds_in x) (holds_in (with_parts x leaves rows))
   leaf_meets met berth = record {
     before = was;
     after = then;
     at = there;
     meets = record {
-      leaf = state_of one;
+      leaf = leaf_state one;
       berth = berth_of one;
-      leaf_then = state_of next;
+      leaf_then = leaf_state next;
       callers_then = column number (lists_in rows.items);
       held = refl;
       met = met;
-      now = ap (λ (b : B). with_leaf was (state_of next) b (column number (lists_in rows.items))) berth;
+      now = ap (λ (b : B). with_leaf was (leaf_state next) b (column number (lists_in rows.items))) berth;
     };
     now = holds;
   }
@@ -91,14 +91,14 @@ module _ {B : Type 0} (meaning : B → Meaning) (x : Members B) (number : ℕ) (
       subst (StillHas (holds_in x)) (sym holds)
       (still_set meaning (holds_in x) number was then there refl (seats_still number (lists_in x.rows.items) (lists_in rows.items) only.lengths))
 
-  pub leaf_spares : MeetAll (state_of one) (column number (lists_in x.rows.items)) (state_of next) (column number (lists_in rows.items)) (meaning (berth_of one))
-      → length (column number (lists_in x.rows.items)) ≡ length (seated_of (state_of one)).seats
+  pub leaf_spares : MeetAll (leaf_state one) (column number (lists_in x.rows.items)) (leaf_state next) (column number (lists_in rows.items)) (meaning (berth_of one))
+      → length (column number (lists_in x.rows.items)) ≡ length (seated_of (leaf_state one)).seats
       → (table n : ℕ) → Spares (holds_in x) table n → Spares (holds_in (with_parts x leaves rows)) table n
   leaf_spares met same table n has = λ leaf h c here seat. by leaf h c seat (set_either (holds_in x) number leaf then h (subst (λ (hs : List (Hold B)). slice_get hs leaf ≡ Some h) holds here))
     where
       by : (leaf : ℕ) (h : Hold B) (c : SeatView) → caller_in h.callers table ≡ Some c → ((leaf ≡ number) × (h ≡ then)) ⊎ ((leaf ≢ number) × (slice_get (holds_in x) leaf ≡ Some h)) → n ≤ c.share
       by leaf h c seat (inl is) =
-          let d = met_share (state_of one) (column number (lists_in x.rows.items)) (state_of next) (column number (lists_in rows.items)) (meaning (berth_of one)) met same table c
+          let d = met_share (leaf_state one) (column number (lists_in x.rows.items)) (leaf_state next) (column number (lists_in rows.items)) (meaning (berth_of one)) met same table c
           (sym (ap (λ (g : Hold B). caller_in g.callers table) is.1) ∙ seat) in
           subst (λ (k : ℕ). n ≤ k) (sym d.2) (has number was d.0 there d.1)
       by leaf h c seat (inr apart) = has leaf h c apart.1 seat

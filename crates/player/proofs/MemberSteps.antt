@@ -15,15 +15,16 @@ use Rattle.leaf_moves.specs.Holds.{caller_in, with_callers, with_leaf}
 use Rattle.leaf_moves.specs.Steps.{noted_all}
 use Rattle.leaf_deeds.specs.declared.leaf.OneLeaf.{OneLeaf}
 use Rattle.player.specs.declared.members.Members.{Members}
-use Rattle.player.specs.declared.answer.Answer.{Answer}
-use Rattle.player.specs.declared.call.Request.{Request}
+use Rattle.player.specs.declared.answer.DeedOutcome.{DeedOutcome}
+use Rattle.script_text.specs.declared.order.TableRequest.{TableRequest}
 use Rattle.player.specs.Crew.{HasLeaf, column}
 use Rattle.player.specs.Rows.{AreCalled, IsColumn, OnlyColumn}
-use Rattle.leaf_deeds.specs.Held.{berth_of, seats_of, state_of}
+use Rattle.leaf_deeds.specs.Held.{berth_of, seats_of, leaf_state}
 use Rattle.player.specs.Stage.{IsMember, hold_at}
 use Rattle.player.specs.Lines.{CallsWith}
 use Rattle.player.specs.Members.{AreMembers, GoesWith, IsLeafOf, fleet_in, holds_from, holds_in}
-use Rattle.player.specs.Commands.{ActsWith, CallsAt, DeedAt, call_of}
+use Rattle.transcript.specs.Shapes.{call_of}
+use Rattle.player.specs.Commands.{ActsWith, CallsAt, DeedAt}
 use Rattle.player.proofs.CallPieces.{call_prints}
 use Rattle.player.proofs.Chains.{one_act, one_called}
 use Rattle.player.proofs.Columns.{caller_at, element_at, only_rows}
@@ -137,21 +138,21 @@ module _ {B : Type 0} where
         by tables leaf z (inr h) = let was = are.each leaf z h.1 in record { names = was.names; tables = was.tables; seats = was.seats }
 
     pub holds_then : holds_in (with_parts x leaves rows)
-        ≡ slice_set (holds_in x) number (with_leaf (hold_at number x.tables.now (lists_in x.rows.items) (Some one)) (state_of next) (berth_of next) (column number (lists_in rows.items)))
+        ≡ slice_set (holds_in x) number (with_leaf (hold_at number x.tables.now (lists_in x.rows.items) (Some one)) (leaf_state next) (berth_of next) (column number (lists_in rows.items)))
     holds_then =
         ap (λ (ls : List (Option (OneLeaf B))). holds_from 0 x.tables.now ls (lists_in rows.items)) now
         ∙ holds_set 0 number number x.tables.now x.leaves.items (Some next) (lists_in x.rows.items) (lists_in rows.items) (omega arith) only.others
 
     -- a deed of that leaf
-    pub deed_at : {E : Type 0} (meaning : B → Meaning) (deed : Deed) (answer : Answer) (result : Result (Vec Line Global) E)
-        → ActsWith meaning x.names number deed (state_of one) (column number (lists_in x.rows.items)) (berth_of one) answer result (state_of next) (column number (lists_in rows.items)) (berth_of next)
+    pub deed_at : {E : Type 0} (meaning : B → Meaning) (deed : Deed) (answer : DeedOutcome) (result : Result (Vec Line Global) E)
+        → ActsWith meaning x.names number deed (leaf_state one) (column number (lists_in x.rows.items)) (berth_of one) answer result (leaf_state next) (column number (lists_in rows.items)) (berth_of next)
         → Passes (meaning (berth_of one)) (meaning (berth_of next)) → DeedAt meaning number deed x answer result (with_parts x leaves rows)
     deed_at meaning deed answer result acts time = record {
       piece = acts.piece;
       prints = (noted_all acts.step.notes, acts.step.ends, acts.step.piece_is);
       answered = acts.answered;
       goes = one_act meaning x.names (holds_in x) (holds_in (with_parts x leaves rows)) number deed (hold_at number x.tables.now (lists_in x.rows.items) (Some one))
-          (state_of one) (state_of next) (berth_of one) (berth_of next) (column number (lists_in rows.items)) answer result
+          (leaf_state one) (leaf_state next) (berth_of one) (berth_of next) (column number (lists_in rows.items)) answer result
           (holds_at 0 number number x.tables.now x.leaves.items (Some one) (lists_in x.rows.items) (omega arith) at) refl holds_then
           (seats_still number (lists_in x.rows.items) (lists_in rows.items) only.lengths) acts time;
     }
@@ -187,7 +188,7 @@ module _ {B : Type 0} where
         (holds_at 0 number number x.tables.now x.leaves.items there.0 (lists_in x.rows.items) (omega arith) there.1) called_then
         (seats_still number (lists_in x.rows.items) (lists_in rows.items) only.lengths) calls
 
-    pub calls_at : {E : Type 0} (meaning : B → Meaning) (table : ℕ) (r : Request) (result : Result (Vec Line Global) E)
+    pub calls_at : {E : Type 0} (meaning : B → Meaning) (table : ℕ) (r : TableRequest) (result : Result (Vec Line Global) E)
         → CallsWith x.names number table (call_of r) (row x.tables.now number) (column number (lists_in x.rows.items)) result (column number (lists_in rows.items))
         → CallsAt meaning number table r x result (with_parts x x.leaves rows)
     calls_at meaning table r result calls = record {

@@ -8,7 +8,7 @@ use Rattle.crash_moments.specs.Left.{NamedStates}
 use Rattle.leaf_table.specs.Calls.{SeatView}
 use Rattle.leaf_steward.specs.Seated.{Seated, AreFounded}
 use Rattle.leaf_steward.proofs.Seating.{same_at, set_either, set_other, set_same}
-use Rattle.leaf_moves.specs.Stage.{Leaf, IsDown, IsUp, IsPreparing, Stands, MeetsIf, MeetAll, seated_of, seated_with, with_seats}
+use Rattle.leaf_moves.specs.Stage.{Leaf, IsDown, IsUp, IsPreparing, LeafStands, MeetsIf, MeetAll, seated_of, seated_with, with_seats}
 use Rattle.leaf_deeds.specs.Held.{KeepsSeats}
 use Rattle.player.specs.Meeting.{MeetFirst, MeetsAt}
 use Rattle.leaf_deeds.proofs.Carrying.{founded_on}
@@ -80,7 +80,7 @@ module _ (k : ℕ) (leaf between leaf' : Leaf) (xs ys zs : List (Option SeatView
           first.met place v v' c c' (omega (arith, below, apart)) was called (sym still.0 ∙ is) (sym still.1 ∙ called_now)
 
   -- one pair more has met
-  pub meet_more : ((base : NamedStates) → AreFounded (seated_of between) → Stands base between m → Stands base leaf' m) → MeetFirst (k + 1) leaf xs leaf' zs m
+  pub meet_more : ((base : NamedStates) → AreFounded (seated_of between) → LeafStands base between m → LeafStands base leaf' m) → MeetFirst (k + 1) leaf xs leaf' zs m
   meet_more stands = record {
     seats = seats_now;
     leaf_is = now;

@@ -9,11 +9,11 @@ use Rattle.leaf_table.specs.Lists.{lists_in}
 use Rattle.rollover_driver.specs.Calls.{FleetCall}
 use Rattle.rollover_driver.specs.Calls as call
 use Rattle.printed_lines.specs.declared.line.Line.{Line}
-use Rattle.script_text.specs.declared.fleet.Fleet.{Fleet}
+use Rattle.script_text.specs.declared.fleet.FleetShape.{FleetShape}
 use Rattle.script_text.specs.Commands.{leaf_count}
 use Rattle.transcript.specs.Pieces.{Piece, lines_in, piece_lines}
 use Rattle.leaf_moves.specs.Holds.{Hold}
-use Rattle.player.specs.declared.answer.Answer.{Answer}
+use Rattle.player.specs.declared.answer.DeedOutcome.{DeedOutcome}
 use Rattle.printed_lines.specs.declared.line.Deed.{Deed}
 use Rattle.printed_lines.specs.declared.line.Deed.TheVariants as deed
 use Rattle.player.specs.declared.members.Members.{Members}
@@ -21,7 +21,7 @@ use Rattle.player.specs.Crew.{HasLeaf, StillHas}
 use Rattle.player.specs.Members.{AreMembers, GoesWith, SameFleet, fleet_in, holds_in}
 use Rattle.player.specs.Commands.{answer_of}
 use Rattle.player.specs.Restarts as restart
-use Rattle.player.specs.Restarts.{AreAnswered, ArePartsOf, Chain, HasDone, MayDo, PartJoins, Restarted, lines_of, no_lines}
+use Rattle.player.specs.Restarts.{AreAnswered, ArePartsOf, Chain, DeedIsDone, MayDo, PartJoins, Restarted, lines_of, no_lines}
 use Rattle.player.proofs.Chains.{goes_with_more, goes_with_none}
 use Rattle.player.proofs.HoldLists.{holds_count, still_leaf}
 
@@ -68,8 +68,8 @@ module _ {B E : Type 0} (meaning : B → Meaning) where
       by (Ok before) = sym (append-nil (lines_of before.items))
       by (Err e) = tt
 
-  restarted_more : (x y z : Members B) (told told' told'' : Result (Vec (Vec Line Global) Global) E) (calls : List FleetCall) (c : FleetCall) (number : ℕ) (t : Deed) (answer : Answer) (lines : Result (Vec Line Global) E)
-      → Restarted meaning x told calls y told' → (done : HasDone meaning number t y (answer, lines) z) → IfOk told'' (λ parts. PartJoins told' lines parts.items)
+  restarted_more : (x y z : Members B) (told told' told'' : Result (Vec (Vec Line Global) Global) E) (calls : List FleetCall) (c : FleetCall) (number : ℕ) (t : Deed) (answer : DeedOutcome) (lines : Result (Vec Line Global) E)
+      → Restarted meaning x told calls y told' → (done : DeedIsDone meaning number t y (answer, lines) z) → IfOk told'' (λ parts. PartJoins told' lines parts.items)
       → AreAnswered (c ∷ []) (done.acted.piece ∷ []) → Restarted meaning x told (calls ++ c ∷ []) z told''
   restarted_more x y z told told' told'' calls c number t answer lines so_far done parts one = record {
     pieces = so_far.pieces ++ done.acted.piece ∷ [];
@@ -77,7 +77,7 @@ module _ {B E : Type 0} (meaning : B → Meaning) where
     members = λ are. done.members;
     same = record { fleet = done.same.fleet ∙ so_far.same.fleet; tables = done.same.tables ∙ so_far.same.tables };
     goes = goes_with_more meaning x.names (holds_in x) (holds_in y) (holds_in z) so_far.pieces (done.acted.piece ∷ []) no_lines no_lines no_lines so_far.goes
-        (subst (λ (names : List (List ℕ)). GoesWith meaning names (holds_in y) no_lines (done.acted.piece ∷ []) (holds_in z)) (ap (λ (f : Fleet). f.names) so_far.same.fleet)
+        (subst (λ (names : List (List ℕ)). GoesWith meaning names (holds_in y) no_lines (done.acted.piece ∷ []) (holds_in z)) (ap (λ (f : FleetShape). f.names) so_far.same.fleet)
         (record {
           goes = done.acted.goes.goes;
           counted = done.acted.goes.counted;
@@ -90,22 +90,22 @@ module _ {B E : Type 0} (meaning : B → Meaning) where
     parts = parts_more told told' told'' lines so_far.pieces done.acted.piece so_far.parts done.acted.goes.lines_are parts;
   }
 
-  pub drained_more : (x y z : Members B) (told told' told'' : Result (Vec (Vec Line Global) Global) E) (calls : List FleetCall) (number : ℕ) (answer : Answer) (lines : Result (Vec Line Global) E)
-      → Restarted meaning x told calls y told' → HasDone meaning number (deed.Drain None) y (answer, lines) z → IfOk told'' (λ parts. PartJoins told' lines parts.items)
+  pub drained_more : (x y z : Members B) (told told' told'' : Result (Vec (Vec Line Global) Global) E) (calls : List FleetCall) (number : ℕ) (answer : DeedOutcome) (lines : Result (Vec Line Global) E)
+      → Restarted meaning x told calls y told' → DeedIsDone meaning number (deed.Drain None) y (answer, lines) z → IfOk told'' (λ parts. PartJoins told' lines parts.items)
       → Restarted meaning x told (calls ++ call.Drains number answer.drained ∷ []) z told''
   drained_more x y z told told' told'' calls number answer lines so_far done parts =
       restarted_more x y z told told' told'' calls (call.Drains number answer.drained) number (deed.Drain None) answer lines so_far done parts
-      ((done.acted.prints.0, done.acted.prints.1, done.acted.prints.2, ap (λ (a : Answer). a.drained) done.acted.answered), tt)
+      ((done.acted.prints.0, done.acted.prints.1, done.acted.prints.2, ap (λ (a : DeedOutcome). a.drained) done.acted.answered), tt)
 
-  pub started_more : (x y z : Members B) (told told' told'' : Result (Vec (Vec Line Global) Global) E) (calls : List FleetCall) (number : ℕ) (answer : Answer) (lines : Result (Vec Line Global) E)
-      → Restarted meaning x told calls y told' → HasDone meaning number deed.Start y (answer, lines) z → IfOk told'' (λ parts. PartJoins told' lines parts.items)
+  pub started_more : (x y z : Members B) (told told' told'' : Result (Vec (Vec Line Global) Global) E) (calls : List FleetCall) (number : ℕ) (answer : DeedOutcome) (lines : Result (Vec Line Global) E)
+      → Restarted meaning x told calls y told' → DeedIsDone meaning number deed.Start y (answer, lines) z → IfOk told'' (λ parts. PartJoins told' lines parts.items)
       → Restarted meaning x told (calls ++ call.Starts number answer.started ∷ []) z told''
   started_more x y z told told' told'' calls number answer lines so_far done parts =
       restarted_more x y z told told' told'' calls (call.Starts number answer.started) number deed.Start answer lines so_far done parts
-      ((done.acted.prints.0, done.acted.prints.1, done.acted.prints.2, ap (λ (a : Answer). a.started) done.acted.answered), tt)
+      ((done.acted.prints.0, done.acted.prints.1, done.acted.prints.2, ap (λ (a : DeedOutcome). a.started) done.acted.answered), tt)
 
   -- a chain of deeds
-  pub chained : (x : Members B) (told : Result (Vec (Vec Line Global) Global) E) (y : Members B) (told' : Result (Vec (Vec Line Global) Global) E) (calls : List FleetCall) → Chain (λ x leaf t r y. HasDone meaning leaf t x r y) x told calls y told'
+  pub chained : (x : Members B) (told : Result (Vec (Vec Line Global) Global) E) (y : Members B) (told' : Result (Vec (Vec Line Global) Global) E) (calls : List FleetCall) → Chain (λ x leaf t r y. DeedIsDone meaning leaf t x r y) x told calls y told'
       → Restarted meaning x told calls y told'
   chained x told y told' calls (restart.none cs z o none same kept) =
       subst (λ (ds : List FleetCall). Restarted meaning x told ds z o) (sym none)
@@ -137,10 +137,10 @@ of_waves P Q (wave ∷ waves) by known = (of_wave wave known.0, of_waves P Q wav
     of_wave (leaf ∷ leaves) are = (by leaf are.0, of_wave leaves are.1)
 
 -- what may be done of a leaf may be done of each other, once one was drained or started
-pub may_still : {B E : Type 0} (meaning : B → Meaning) (number : ℕ) (t : Deed) (x y : Members B) (result : Answer × Result (Vec Line Global) E) → HasDone meaning number t x result y
+pub may_still : {B E : Type 0} (meaning : B → Meaning) (number : ℕ) (t : Deed) (x y : Members B) (result : DeedOutcome × Result (Vec Line Global) E) → DeedIsDone meaning number t x result y
     → (other : ℕ) → MayDo x other → MayDo y other
 may_still meaning number t x y result done other may = record {
   members = done.members;
-  within = subst (λ (f : Fleet). other < leaf_count f) (sym done.same.fleet) may.within;
+  within = subst (λ (f : FleetShape). other < leaf_count f) (sym done.same.fleet) may.within;
   held = λ leaf. still_leaf (holds_in x) (holds_in y) done.acted.goes.still leaf (may.held leaf);
 }

@@ -10,14 +10,14 @@ use Rattle.rollover_watch.specs.Watches.{Held}
 use Rattle.rollover_driver.specs.declared.driving.Rolled.{Rolled}
 use Rattle.rollover_driver.specs.Calls.{FleetCall}
 use Rattle.rollover_driver.specs.Drives.{Drives}
-use Rattle.script_text.specs.declared.command.Command.TheVariants as command
+use Rattle.script_text.specs.declared.order.Order.TheVariants as order
 use Rattle.printed_lines.specs.declared.line.Line.{Line}
 use Rattle.printed_lines.specs.declared.line.Line.TheVariants as line
 use Rattle.transcript.specs.Pieces.{Piece, Says, lines_in, piece_lines}
 use Rattle.transcript.specs.Shapes.{RollPieces, Rolls}
 use Rattle.transcript.specs.Watching.{calls_in, watch_line}
 use Rattle.player.specs.declared.members.Members.{Members}
-use Rattle.player.specs.Crew.{PlaysWith}
+use Rattle.player.specs.Crew.{PlaysOrder}
 use Rattle.player.specs.Members.{fleet_in, holds_in}
 use Rattle.player.specs.Restarts.{ArePartsOf, lines_of, no_lines}
 use Rattle.player.specs.Rolled.{RollsThrough, rolled_lines, watch_lines, waves_lines}
@@ -111,13 +111,15 @@ module _ {B E : Type 0} (meaning : B → Meaning) (x y : Members B) (percent : �
   calls_are : calls_in all ≡ through.calls
   calls_are = woven_calls deeds all woven ∙ told_calls through.calls deeds through.restarted.answered
 
-  pub rollover_plays : PlaysWith meaning (fleet_in x) (command.Rollover percent) (holds_in x) old result (holds_in y) new
+  pub rollover_plays : PlaysOrder meaning (fleet_in x) (order.Rollover percent) (holds_in x) old result (holds_in y) new
   unfolding rolls waves
   rollover_plays =
       let goes = goes_with_woven meaning x.names (holds_in x) (holds_in y) deeds all no_lines result woven through.restarted.goes lines_are in
       record {
         pieces = all;
-        plays = record { goes = goes.goes; prints = rolls; answers = λ histories go. tt };
+        goes = goes.goes;
+        prints = rolls;
+        answers = λ histories go. tt;
         counted = goes.counted;
         fit = goes.fit;
         heard = record {

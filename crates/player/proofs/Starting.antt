@@ -4,7 +4,7 @@ use Rattle.std.specs.Prelude.{IfOk}
 use Rattle.std.specs.List.{range_with_len}
 use Rattle.berth_face.specs.Berth.{Meaning}
 use Rattle.printed_lines.specs.declared.line.Line.{Line}
-use Rattle.script_text.specs.declared.fleet.Fleet.{Fleet}
+use Rattle.script_text.specs.declared.fleet.FleetShape.{FleetShape}
 use Rattle.printed_lines.specs.declared.line.Deed.{Deed}
 use Rattle.printed_lines.specs.declared.line.Deed.TheVariants.{Start}
 use Rattle.transcript.specs.Pieces.{Piece}
@@ -34,5 +34,5 @@ module _ {B E : Type 0} (meaning : B → Meaning) where
         pieces = so_far.pieces ++ acts.piece ∷ [];
         prints = one_more 0 k k Start so_far.pieces acts.piece (omega arith) so_far.prints acts.prints;
         goes = goes_with_more meaning x.names (holds_in x) (holds_in y) (holds_in z) so_far.pieces (acts.piece ∷ []) first one both so_far.goes
-            (subst (λ (names : List (List ℕ)). GoesWith meaning names (holds_in y) one (acts.piece ∷ []) (holds_in z)) (ap (λ (f : Fleet). f.names) same.fleet) acts.goes) joined;
+            (subst (λ (names : List (List ℕ)). GoesWith meaning names (holds_in y) one (acts.piece ∷ []) (holds_in z)) (ap (λ (f : FleetShape). f.names) same.fleet) acts.goes) joined;
       })

@@ -2,7 +2,7 @@
 use Rattle.std.proofs.Common.{◌≡◌, ℕ, ◌<◌, Bool, true, false, List, [], ◌∷◌, ◌++◌, map, refl, sym, ap, ap₂, subst, ◌∙◌, append_assoc, mod-lt, Option, Some, None, IfSome}
 use Rattle.std.specs.Prelude.{if◌then◌else◌, is_some, option_and_then, option_map, option_to_list}
 use Rattle.std.specs.List.{AllByRecursion, flat_map}
-use Rattle.leaf_model.specs.declared.rows.Row.{Row}
+use Rattle.row_model.specs.declared.rows.Row.{Row}
 use Rattle.leaf_model.specs.declared.groups.Group.{Group}
 use Rattle.leaf_model.specs.Groups.{groups}
 use Rattle.leaf_history.specs.Calls as call
@@ -13,12 +13,12 @@ use Rattle.leaf_table.specs.declared.replies.Reply.TheVariants as told
 use Rattle.leaf_table.specs.Turns.{is_founded, start_of}
 use Rattle.aggregator.specs.Partial as fan
 use Rattle.tail_picks.specs.Room.{every_row, free_rows}
-use Rattle.tail_picks.specs.Tails.{TryOf, Tails, Goes, picked, pick_of, sent_by}
-use Rattle.tailer.specs.Calls.{IsOverRows, LeafCall, adding, asking, asking_also, calls_in, calls_of, free_of, is_added}
+use Rattle.tail_picks.specs.Tails.{TryOf, Tails, TryGoesOn, picked, pick_of, sent_by}
+use Rattle.tailer.specs.Calls.{IsOverRows, LeafCall, adding, asking, asking_also, calls_of_tries, calls_of, free_of, is_added}
 use Rattle.printed_lines.specs.declared.line.Line.{Line}
 use Rattle.transcript.specs.Pieces.{Piece}
 use Rattle.transcript.specs.Shapes.{CallPiece}
-use Rattle.transcript.specs.Histories.{Ground, rows_before}
+use Rattle.transcript.specs.Histories.{BaseState, rows_before}
 use Rattle.transcript.specs.Tails.{TryPieces, free_then, pieces_of_try, tells_added}
 use Rattle.leaf_moves.specs.Steps.{IsReplyPiece}
 use Rattle.player.specs.Lines.{reply_line}
@@ -63,10 +63,10 @@ try_is table rows t =
     (ap₂ (λ (ps qs : List Piece). ps ++ qs) (also_pieces table t.second t.two) (add_pieces table rows (pick_of free_of is_added t) t.added)
     ∙ sym (pieces_append table (asking_also t.second t.two) (adding rows (pick_of free_of is_added t) t.added)))
 
-pub tries_are : (table : ℕ) (rows : List Row) (ts : List (TryOf Reply)) → flat_map pieces_of_try (map (try_piece table rows) ts) ≡ call_pieces table (calls_in rows ts)
+pub tries_are : (table : ℕ) (rows : List Row) (ts : List (TryOf Reply)) → flat_map pieces_of_try (map (try_piece table rows) ts) ≡ call_pieces table (calls_of_tries rows ts)
 tries_are table rows [] = refl
 tries_are table rows (t ∷ ts) =
-    ap₂ (λ (ps qs : List Piece). ps ++ qs) (try_is table rows t) (tries_are table rows ts) ∙ sym (pieces_append table (calls_of rows t) (calls_in rows ts))
+    ap₂ (λ (ps qs : List Piece). ps ++ qs) (try_is table rows t) (tries_are table rows ts) ∙ sym (pieces_append table (calls_of rows t) (calls_of_tries rows ts))
 
 -- ---- and by its lines
 
@@ -86,10 +86,10 @@ lines_append : (table : ℕ) (xs ys : List LeafCall) → map (line_of table) (xs
 lines_append table [] ys = refl
 lines_append table (x ∷ xs) ys = ap (λ (ls : List Line). line_of table x ∷ ls) (lines_append table xs ys)
 
-pub lines_of_tries : (table : ℕ) (rows : List Row) (ts : List (TryOf Reply)) → map (line_of table) (calls_in rows ts) ≡ flat_map (try_lines table) ts
+pub lines_of_tries : (table : ℕ) (rows : List Row) (ts : List (TryOf Reply)) → map (line_of table) (calls_of_tries rows ts) ≡ flat_map (try_lines table) ts
 lines_of_tries table rows [] = refl
 lines_of_tries table rows (t ∷ ts) =
-    lines_append table (calls_of rows t) (calls_in rows ts)
+    lines_append table (calls_of rows t) (calls_of_tries rows ts)
     ∙ ap₂ (λ (ls ms : List Line). ls ++ ms)
     (ap (λ (ls : List Line). reply_line t.first table t.one ∷ ls)
     (lines_append table (asking_also t.second t.two) (adding rows (pick_of free_of is_added t) t.added)
@@ -111,15 +111,15 @@ tells_same leaf table c (told.Full number) p says = ap tells_added says
 tells_same leaf table c (told.NoMemory number) p says = ap tells_added says
 tells_same leaf table c told.Worn p says = ap tells_added says
 
-module _ (leaves table : ℕ) (rows : List Row) (bases : ℕ → Option TableBase) (grounds : ℕ → Ground) (histories : ℕ → List Entry)
-    (ground : (leaf : ℕ) → leaf < leaves → grounds leaf ≡ record { founded = is_founded (bases leaf); base = start_of (bases leaf) }) where
+module _ (leaves table : ℕ) (rows : List Row) (bases : ℕ → Option TableBase) (base_states : ℕ → BaseState) (histories : ℕ → List Entry)
+    (base_state : (leaf : ℕ) → leaf < leaves → base_states leaf ≡ record { founded = is_founded (bases leaf); base = start_of (bases leaf) }) where
   abbrev free : Piece → Option ℕ
-  free p = free_then grounds histories p
+  free p = free_then base_states histories p
 
   piece_free : (leaf : ℕ) (r : Reply) (p : Piece) → leaf < leaves → IsOverRows bases histories (asking leaf r) → IsReplyPiece leaf table (call.Ask every_row) r p → free p ≡ free_of r
   piece_free leaf (told.Groups number gs) p below over says =
       ap free says
-      ∙ ap (λ (xs : List Group). Some (free_rows xs)) (ap (λ (g : Ground). groups every_row (rows_before g (histories leaf) number)) (ground leaf below) ∙ sym over)
+      ∙ ap (λ (xs : List Group). Some (free_rows xs)) (ap (λ (g : BaseState). groups every_row (rows_before g (histories leaf) number)) (base_state leaf below) ∙ sym over)
   piece_free leaf (told.Added number kept late) p below over says = ap free says
   piece_free leaf (told.Removed number k) p below over says = ap free says
   piece_free leaf (told.Shut number) p below over says = ap free says
@@ -183,10 +183,10 @@ module _ (leaves table : ℕ) (rows : List Row) (bases : ℕ → Option TableBas
   abbrev Both : List ℕ → List (TryOf Reply) → Option ℕ → Type 0
   Both words ts sent = Tails free tells_added leaves words (map (try_piece table rows) ts) sent × AllByRecursion Picks (map (try_piece table rows) ts)
 
-  pub tries_told : 0 < leaves → (words : List ℕ) (ts : List (TryOf Reply)) (sent : Option ℕ) → Tails free_of is_added leaves words ts sent → AllByRecursion (IsOverRows bases histories) (calls_in rows ts) → Both words ts sent
+  pub tries_told : 0 < leaves → (words : List ℕ) (ts : List (TryOf Reply)) (sent : Option ℕ) → Tails free_of is_added leaves words ts sent → AllByRecursion (IsOverRows bases histories) (calls_of_tries rows ts) → Both words ts sent
   tries_told some [] [] sent tails over = (tails, tt)
   tries_told some (u ∷ v ∷ words) (t ∷ ts) sent tails over =
-      let parts = All-parts (IsOverRows bases histories) (calls_of rows t) (calls_in rows ts) over in
+      let parts = All-parts (IsOverRows bases histories) (calls_of rows t) (calls_of_tries rows ts) over in
       let same = pick_same t (subst (λ (n : ℕ). n < leaves) (sym tails.0.first) (mod-lt u some)) (subst (λ (n : ℕ). n < leaves) (sym tails.0.second) (mod-lt v some)) parts.0 in
       let pick = pick_of free_of is_added t in
       let sent_is : sent_by free tells_added (try_piece table rows t) ≡ sent_by free_of is_added t =
@@ -199,13 +199,13 @@ module _ (leaves table : ℕ) (rows : List Row) (bases : ℕ → Option TableBas
             two = two_same t.second t.two ∙ tails.0.two;
             add = added_same pick t.added tails.0.add ∙ ap (λ (o : Option ℕ). is_some o) (sym same);
           },
-          subst (λ (o : Option ℕ). Goes free tells_added o (map (try_piece table rows) ts) sent (Tails free tells_added leaves words (map (try_piece table rows) ts) sent)) (sym sent_is) further.0,
+          subst (λ (o : Option ℕ). TryGoesOn free tells_added o (map (try_piece table rows) ts) sent (Tails free tells_added leaves words (map (try_piece table rows) ts) sent)) (sym sent_is) further.0,
         ),
         (picks t same, further.1),
       )
     where
-      others : (Tails free_of is_added leaves words ts sent → Both words ts sent) → (o : Option ℕ) → Goes free_of is_added o ts sent (Tails free_of is_added leaves words ts sent)
-          → Goes free tells_added o (map (try_piece table rows) ts) sent (Tails free tells_added leaves words (map (try_piece table rows) ts) sent) × AllByRecursion Picks (map (try_piece table rows) ts)
+      others : (Tails free_of is_added leaves words ts sent → Both words ts sent) → (o : Option ℕ) → TryGoesOn free_of is_added o ts sent (Tails free_of is_added leaves words ts sent)
+          → TryGoesOn free tells_added o (map (try_piece table rows) ts) sent (Tails free tells_added leaves words (map (try_piece table rows) ts) sent) × AllByRecursion Picks (map (try_piece table rows) ts)
       others next (Some leaf) ends = ((ap (λ (xs : List (TryOf Reply)). map (try_piece table rows) xs) ends.0, ends.1), subst (λ (xs : List (TryOf Reply)). AllByRecursion Picks (map (try_piece table rows) xs)) (sym ends.0) tt)
       others next None more = next more
   tries_told some [] (t ∷ ts) sent tails over = absurd tails

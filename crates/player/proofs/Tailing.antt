@@ -4,7 +4,7 @@ use Rattle.std.specs.Prelude.{Bool, IfOk, IsErr, slice_get, slice_set, option_an
 use Rattle.std.specs.List.{AllByRecursion, flat_map}
 use Rattle.std.proofs.lemmas.Option.{slice_get_within}
 use Rattle.std.proofs.lemmas.Result.{IfOk-weaker}
-use Rattle.leaf_model.specs.declared.rows.Row.{Row}
+use Rattle.row_model.specs.declared.rows.Row.{Row}
 use Rattle.berth_face.specs.Berth.{Meaning}
 use Rattle.leaf_history.specs.History.{Entry}
 use Rattle.leaf_table.specs.declared.base.TableBase.{TableBase}
@@ -15,7 +15,7 @@ use Rattle.aggregator.specs.Partial as fan
 use Rattle.aggregator.specs.Partial.{bases_in}
 use Rattle.tail_picks.specs.Tails.{Tails, words_of}
 use Rattle.tailer.specs.declared.tries.Tailed.{Tailed}
-use Rattle.tailer.specs.Calls.{LeafCall, calls_in, free_of, is_added, sent_to, tries_seen}
+use Rattle.tailer.specs.Calls.{LeafCall, calls_of_tries, free_of, is_added, sent_to, tries_seen}
 use Rattle.printed_lines.specs.declared.line.Ending.{Ending}
 use Rattle.printed_lines.specs.declared.line.Line.{Line}
 use Rattle.printed_lines.specs.declared.line.Line.TheVariants as line
@@ -23,10 +23,10 @@ use Rattle.printed_lines.specs.Lines.{IsOf}
 use Rattle.printed_lines.specs.declared.line.Deed.{Deed}
 use Rattle.script_text.specs.Commands.{leaf_count}
 use Rattle.transcript.specs.Pieces.{Piece, Says, lines_in}
-use Rattle.transcript.specs.Histories.{Ground}
+use Rattle.transcript.specs.Histories.{BaseState}
 use Rattle.transcript.specs.Tails.{TailPieces, pieces_of_try}
 use Rattle.transcript.specs.Counts.{deeds_in}
-use Rattle.leaf_moves.specs.Holds.{GoOn, Hold, grounds_in, histories_of}
+use Rattle.leaf_moves.specs.Holds.{GoOn, Hold, base_states_in, histories_of}
 use Rattle.leaf_moves.specs.Plays as going
 use Rattle.leaf_moves.specs.Plays.{Goes}
 use Rattle.leaf_deeds.specs.declared.leaf.OneLeaf.{OneLeaf}
@@ -37,7 +37,7 @@ use Rattle.player.specs.Rows.{IsColumn}
 use Rattle.player.specs.Stage.{hold_at}
 use Rattle.player.specs.Members.{AreMembers, fleet_in, holds_from, holds_in}
 use Rattle.player.specs.Commands.{Sends, SendsRow, TailsAll, tail_lines, try_lines}
-use Rattle.player.proofs.AskKnown.{grounds_at, histories_at}
+use Rattle.player.proofs.AskKnown.{base_states_at, histories_at}
 use Rattle.player.proofs.AskRows.{row_again}
 use Rattle.player.proofs.Asking as asking
 use Rattle.player.proofs.Asking.{same_rows}
@@ -75,7 +75,7 @@ module _ {B : Type 0} (x : Members B) (table : ℕ) (are : AreMembers x) (within
   after = sends.after
 
   abbrev calls : List LeafCall
-  calls = calls_in sent (tries_seen t.tries)
+  calls = calls_of_tries sent (tries_seen t.tries)
 
   abbrev y : Members B
   y = with_parts x x.leaves now
@@ -149,7 +149,7 @@ module _ {B : Type 0} (x : Members B) (table : ℕ) (are : AreMembers x) (within
 
   -- what a leaf's table was made with, and what its seat has seen
   record Behind (leaf : ℕ) : Type 0 where
-    ground : grounds_in ys leaf table ≡ record { founded = is_founded (bases_in fleet table leaf); base = start_of (bases_in fleet table leaf) }
+    base_state : base_states_in ys leaf table ≡ record { founded = is_founded (bases_in fleet table leaf); base = start_of (bases_in fleet table leaf) }
     sees : (v : SeatView) → slice_get after leaf ≡ Some v → histories_of ys leaf table ≡ seen_of v
 
   behind : (leaf : ℕ) → leaf < count → Behind leaf
@@ -160,7 +160,7 @@ module _ {B : Type 0} (x : Members B) (table : ℕ) (are : AreMembers x) (within
       let at : slice_get ys leaf ≡ Some b = holds_at 0 leaf leaf fleet x.leaves.items one.0 rows' (omega arith) one.1 in
       let base : bases_in fleet table leaf ≡ base_seen shared.0 = ap (λ (o : Option Shared). option_and_then base_seen o) shared.1 in
       record {
-        ground = grounds_at ys leaf table b shared.0 at shared.1 ∙ ap (λ (o : Option TableBase). record { founded = is_founded o; base = start_of o }) (sym base);
+        base_state = base_states_at ys leaf table b shared.0 at shared.1 ∙ ap (λ (o : Option TableBase). record { founded = is_founded o; base = start_of o }) (sym base);
         sees = λ v there. histories_at ys leaf table b v at
             (column_get leaf rows' table (omega (arith, low, count_then))
             ∙ ap (λ (o : Option SeatView). Some o) (ap (λ (vs : List SeatView). slice_get vs leaf) row_now ∙ there));
@@ -169,7 +169,7 @@ module _ {B : Type 0} (x : Members B) (table : ℕ) (are : AreMembers x) (within
       row_now : row rows' table ≡ after
       row_now = ap (λ (ls : List (List SeatView)). row ls table) sends.now ∙ get_or-set_same rows table after [] low
 
-  went_on : (histories : ℕ → ℕ → List Entry) → GoOn ys histories → fan.GoOn after (λ leaf. histories leaf table)
+  went_on : (histories : ℕ → ℕ → List Entry) → GoOn ys histories → fan.SeatsGoOn after (λ leaf. histories leaf table)
   went_on histories go = λ leaf v at.
       let below : leaf < count = omega (arith, slice_get_within after leaf v at, same_size, size) in
       let more = go leaf table in
@@ -178,10 +178,10 @@ module _ {B : Type 0} (x : Members B) (table : ℕ) (are : AreMembers x) (within
   some : 0 < count
   some = some_leaves x are
 
-  told : (histories : ℕ → ℕ → List Entry) → GoOn ys histories → TailPieces count (λ leaf. grounds_in ys leaf table) (λ leaf. histories leaf table) key table sent pieces
+  told : (histories : ℕ → ℕ → List Entry) → GoOn ys histories → TailPieces count (λ leaf. base_states_in ys leaf table) (λ leaf. histories leaf table) key table sent pieces
   told histories go =
       let tails = subst (λ (n : ℕ). Tails free_of is_added n (words_of key) (tries_seen t.tries) (sent_to t.sent)) are.tables sends.sends.tails in
-      let both = tries_told count table sent (bases_in fleet table) (λ leaf. grounds_in ys leaf table) (λ leaf. histories leaf table) (λ leaf below. (behind leaf below).ground)
+      let both = tries_told count table sent (bases_in fleet table) (λ leaf. base_states_in ys leaf table) (λ leaf. histories leaf table) (λ leaf below. (behind leaf below).base_state)
       some (words_of key) (tries_seen t.tries) (sent_to t.sent) tails (sends.sends.over (λ leaf. histories leaf table) (went_on histories go)) in
       record {
         some = some;

@@ -4,11 +4,11 @@ use Rattle.std.specs.Prelude.{slice_get, slice_set, slice_index_or, is_some}
 use Rattle.std.proofs.lemmas.Option.{slice_get_within}
 use Rattle.berth_face.specs.Berth.{Meaning}
 use Rattle.leaf_history.specs.History.{LegalFrom}
-use Rattle.leaf_table.specs.Turns.{Shared, Turns, history, is_founded, start_of}
+use Rattle.leaf_table.specs.Turns.{Shared, TurnsTaken, history, is_founded, start_of}
 use Rattle.leaf_table.specs.Calls.{SeatView, base_seen}
 use Rattle.leaf_table.specs.Lists.{lists_in, place, row}
 use Rattle.leaf_steward.proofs.Seating.{same_at, set_either, set_get, some_same, told_legal}
-use Rattle.script_text.specs.declared.fleet.Fleet.{Fleet}
+use Rattle.script_text.specs.declared.fleet.FleetShape.{FleetShape}
 use Rattle.script_text.specs.Commands.{leaf_count}
 use Rattle.leaf_moves.specs.Holds.{Hold, HoldMeets, caller_in}
 use Rattle.leaf_moves.specs.Lanes.{JoinsIf, JoinsTo, TakesBack, TakesBackAt}
@@ -16,7 +16,7 @@ use Rattle.leaf_deeds.specs.declared.leaf.OneLeaf.{OneLeaf}
 use Rattle.player.specs.declared.members.Members.{Members}
 use Rattle.player.specs.Crew.{HasLeaf, HasSeats, SameSeats, column}
 use Rattle.player.specs.Rows.{AreRows, IsCallersAt}
-use Rattle.leaf_deeds.specs.Held.{berth_of, state_of}
+use Rattle.leaf_deeds.specs.Held.{berth_of, leaf_state}
 use Rattle.player.specs.Stage.{held_of, hold_at}
 use Rattle.player.specs.Members.{AreMembers, IsLeafOf, SameFleet, fleet_in, holds_from, holds_in}
 use Rattle.player.specs.Lending.{MeetsLeaf}
@@ -42,7 +42,7 @@ joined_seat t s u w ours theirs j =
         has_id = omega (arith, ap (λ (x : SeatView). x.share) j.joined.view, ap (λ (x : SeatView). x.share) j.met.steward.view, ours.seat.has_id);
       };
       caller = omega (arith, ap (λ (x : SeatView). x.id) j.joined.view, ap (λ (x : SeatView). x.id) j.met.steward.view, ours.caller);
-      legal = subst (λ (l : Turns). LegalFrom (is_founded (base_seen t)) (start_of (base_seen t)) (history l)) (sym (ap (λ (x : SeatView). x.seen) j.joined.view)) seen;
+      legal = subst (λ (l : TurnsTaken). LegalFrom (is_founded (base_seen t)) (start_of (base_seen t)) (history l)) (sym (ap (λ (x : SeatView). x.seen) j.joined.view)) seen;
     }
 
 joined_caller : (t : Shared) (s u : Option SeatView) (w : SeatView) → ((c : SeatView) → s ≡ Some c → IsCallersAt t c) → ((c : SeatView) → u ≡ Some c → IsCallersAt t c) → JoinsIf s u (Some w) → IsCallersAt t w
@@ -90,9 +90,9 @@ module _ {B : Type 0} where
 
   leaf_moves : (x y : Members B) (leaf : ℕ) (one : OneLeaf B) → fleet_in y ≡ fleet_in x → y.tables.now ≡ x.tables.now → IsLeafOf x leaf one → IsLeafOf y leaf one
   leaf_moves x y leaf one fleet tables is = record {
-    names = is.names ∙ sym (ap (λ (f : Fleet). f.names) fleet);
+    names = is.names ∙ sym (ap (λ (f : FleetShape). f.names) fleet);
     tables = is.tables ∙ ap (λ (ts : List (List Shared)). row ts leaf) (sym tables);
-    seats = is.seats ∙ sym (ap (λ (f : Fleet). length f.names) fleet);
+    seats = is.seats ∙ sym (ap (λ (f : FleetShape). length f.names) fleet);
   }
 
   pub leaf_moved : (x y : Members B) (leaf : ℕ) (one : OneLeaf B) → SameFleet x y → IsLeafOf x leaf one → IsLeafOf y leaf one
@@ -170,12 +170,12 @@ module _ {B : Type 0} where
           ap (λ (ls : List (Option (OneLeaf B))). holds_from 0 x.tables.now ls (lists_in x.rows.items)) now
           ∙ holds_set 0 number number x.tables.now x.leaves.items (Some one) (lists_in x.rows.items) (lists_in x.rows.items) (omega arith) (λ other apart. refl)
 
-      pub back_one : (meaning : B → Meaning) (zs : List (Hold B)) → MeetsLeaf meaning number (holds_in (with_parts x leaves x.rows)) zs → LeafBack meaning number (Some (state_of one, berth_of one)) (holds_in x) zs
+      pub back_one : (meaning : B → Meaning) (zs : List (Hold B)) → MeetsLeaf meaning number (holds_in (with_parts x leaves x.rows)) zs → LeafBack meaning number (Some (leaf_state one, berth_of one)) (holds_in x) zs
       back_one meaning zs met =
           let slot = element_at x.leaves.items number low in
           let here = hold_at number x.tables.now (lists_in x.rows.items) slot.0 in
           let is : met.before ≡ put_hold = same_at (holds_in (with_parts x leaves x.rows)) number met.before put_hold met.at put_at in
-          let back = comes_back meaning (state_of one) (berth_of one) here.held put_hold met.after refl (subst (λ (h : Hold B). HoldMeets meaning h met.after) is met.meets) in
+          let back = comes_back meaning (leaf_state one) (berth_of one) here.held put_hold met.after refl (subst (λ (h : Hold B). HoldMeets meaning h met.after) is met.meets) in
           record {
             before = here;
             after = met.after;

@@ -8,7 +8,7 @@ use Rattle.printed_lines.specs.declared.line.Line.{Line}
 use Rattle.printed_lines.specs.Lines.{IsOf}
 use Rattle.printed_lines.specs.declared.line.Deed.{Deed}
 use Rattle.transcript.specs.Pieces.{Acted, Called, Piece, Says, Worn, lines_in, piece_lines}
-use Rattle.transcript.specs.Counts.{Counted, CountsRose, deeds_in, is_disk_fault, is_region_fault, reads_disk}
+use Rattle.transcript.specs.Counts.{CountRose, CountsRose, deeds_in, is_disk_fault, is_region_fault, reads_disk}
 use Rattle.leaf_moves.specs.Stage.{Leaf}
 use Rattle.leaf_moves.specs.Holds.{Hold, with_callers, with_leaf}
 use Rattle.leaf_moves.specs.Plays as going
@@ -52,8 +52,8 @@ same_deeds test leaf deeds all (Woven.deed d a p rest others first woven is) =
 
 counted_woven : (leaf : ℕ) (deeds all : List Piece) (m n : Meaning) → Woven deeds all → CountsRose leaf deeds m n → CountsRose leaf all m n
 counted_woven leaf deeds all m n woven counted = record {
-  region = subst (Counted m.region_faults n.region_faults) (sym (same_deeds (λ deed ending. is_region_fault ending) leaf deeds all woven)) counted.region;
-  disk = subst (Counted m.disk_faults n.disk_faults) (sym (same_deeds (λ deed ending. is_disk_fault ending) leaf deeds all woven)) counted.disk;
+  region = subst (CountRose m.region_faults n.region_faults) (sym (same_deeds (λ deed ending. is_region_fault ending) leaf deeds all woven)) counted.region;
+  disk = subst (CountRose m.disk_faults n.disk_faults) (sym (same_deeds (λ deed ending. is_disk_fault ending) leaf deeds all woven)) counted.disk;
   reads = λ none. counted.reads (sym (same_deeds reads_disk leaf deeds all woven) ∙ none);
 }
 

@@ -8,7 +8,7 @@ use Rattle.leaf_table.specs.Calls.{SeatView, base_seen, name_of}
 use Rattle.leaf_table.specs.Lists.{row}
 use Rattle.leaf_steward.specs.Seated.{Seated, AreAlike, AreFounded, AtEach, IsUnused}
 use Rattle.crash_states.specs.Beginning.{MayBegin}
-use Rattle.leaf_moves.specs.Stage.{IsDown, Stands}
+use Rattle.leaf_moves.specs.Stage.{IsDown, LeafStands}
 use Rattle.leaf_deeds.specs.declared.leaf.OneLeaf.{OneLeaf}
 use Rattle.leaf_deeds.specs.declared.leaf.OneLeaf.TheVariants as one
 use Rattle.player.specs.Crew.{seated_at}
@@ -20,10 +20,10 @@ BeginsWith states x = AtEach (λ place t v. start_of (base_seen t) ≡ states (n
 -- a leaf with these seats, down over that berth
 pub record IsBegun {B : Type 0} (meaning : B → Meaning) (x : Seated) (b : B) (leaf : Option (OneLeaf B)) : Type 0 where
   pub is : leaf ≡ Some (one.Down (x, b))
-  pub stands : (states : NamedStates) → AreFounded x → MayBegin states (meaning b) → BeginsWith states x → Stands states (IsDown x) (meaning b)
+  pub stands : (states : NamedStates) → AreFounded x → MayBegin states (meaning b) → BeginsWith states x → LeafStands states (IsDown x) (meaning b)
 
 -- leaf `leaf` may begin over its berth, with its tables and its steward's unused seats at them
-pub record IsReady {B : Type 0} (meaning : B → Meaning) (names : List (List ℕ)) (tables : List (List Shared)) (stewards : List (List SeatView)) (berths : List B) (leaf : ℕ) : Type 0 where
+pub record LeafIsReady {B : Type 0} (meaning : B → Meaning) (names : List (List ℕ)) (tables : List (List Shared)) (stewards : List (List SeatView)) (berths : List B) (leaf : ℕ) : Type 0 where
   pub named : AreNames names
   pub names_are : map name_of (row tables leaf) ≡ names
   pub count : length (row stewards leaf) ≡ length (row tables leaf)

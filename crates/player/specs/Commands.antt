@@ -1,14 +1,11 @@
 -- What each command does to the leaves that a crew holds.
-use Rattle.std.specs.Prelude.{◌≡◌, ◌⊎◌, ◌==◌, ℕ, zero, suc, ◌<◌, List, [], ◌∷◌, ◌++◌, length, slice_set, false, Option, Some, None, Result, Vec, IfOk, IsErr, if◌then◌else◌, ⊤}
+use Rattle.std.specs.Prelude.{◌≡◌, ◌⊎◌, ◌==◌, ℕ, zero, suc, ◌<◌, List, [], ◌∷◌, ◌++◌, length, slice_set, false, Option, Some, None, Result, Vec, IfOk, IsErr, if◌then◌else◌}
 use Rattle.std.specs.Global.{Global}
 use Rattle.std.specs.List.{AllByRecursion, flat_map, range_with_len}
 use Rattle.berth_face.specs.Berth.{Meaning}
-use Rattle.leaf_model.specs.Values.{IsRow, IsTime}
-use Rattle.leaf_model.specs.declared.rows.Row.{Row}
+use Rattle.row_model.specs.declared.rows.Row.{Row}
 use Rattle.leaf_model.specs.declared.queries.Query.{Query}
 use Rattle.answer_text.specs.Answer.{answer_lines}
-use Rattle.leaf_history.specs.Calls.{Call}
-use Rattle.leaf_history.specs.Calls as call
 use Rattle.leaf_history.specs.History.{Entry}
 use Rattle.leaf_table.specs.Turns.{Shared}
 use Rattle.leaf_table.specs.Calls.{SeatView}
@@ -22,8 +19,9 @@ use Rattle.aggregator.specs.Partial.{bases_in}
 use Rattle.leaf_table.specs.declared.replies.Reply.{Reply}
 use Rattle.tail_picks.specs.Tails.{TryOf, Tails, pick_of, words_of}
 use Rattle.tailer.specs.declared.tries.Tailed.{Tailed}
-use Rattle.tailer.specs.Calls.{CallsOn, IsOverRows, calls_in, free_of, is_added, sent_to, tries_seen}
-use Rattle.script_text.specs.declared.command.Command.TheVariants as command
+use Rattle.tailer.specs.Calls.{CallsOn, IsOverRows, calls_of_tries, free_of, is_added, sent_to, tries_seen}
+use Rattle.script_text.specs.declared.order.Order.TheVariants as order
+use Rattle.script_text.specs.declared.order.TableRequest.{TableRequest}
 use Rattle.printed_lines.specs.declared.line.Said.TheVariants as said
 use Rattle.printed_lines.specs.declared.line.Ending.{Ending}
 use Rattle.printed_lines.specs.declared.line.Line.{Line}
@@ -32,18 +30,16 @@ use Rattle.printed_lines.specs.Lines.{IsOf}
 use Rattle.printed_lines.specs.declared.line.Deed.{Deed}
 use Rattle.printed_lines.specs.declared.line.Deed.TheVariants.{Drain, Flush, Kill, Start}
 use Rattle.transcript.specs.Pieces.{Piece, lines_in}
-use Rattle.transcript.specs.Shapes.{ActPiece, CallPiece, EachActs, QueryPieces}
+use Rattle.transcript.specs.Shapes.{ActPiece, CallPiece, EachActs, QueryPieces, call_of}
 use Rattle.transcript.specs.Counts.{CountsRose, reads_disk}
-use Rattle.transcript.specs.Answers.{Answers}
-use Rattle.leaf_moves.specs.Holds.{GoOn, grounds_in}
+use Rattle.transcript.specs.Answers.{AnswersOrder}
+use Rattle.leaf_moves.specs.Holds.{GoOn, base_states_in}
 use Rattle.leaf_moves.specs.Stage.{Leaf, Carries}
 use Rattle.leaf_moves.specs.Steps.{DeedStep, Moves}
 use Rattle.transcript.specs.Watching.{drained_by, started_by}
-use Rattle.player.specs.declared.answer.Answer.{Answer}
+use Rattle.player.specs.declared.answer.DeedOutcome.{DeedOutcome}
 use Rattle.printed_lines.specs.declared.line.Deed.{Deed}
 use Rattle.printed_lines.specs.declared.line.Deed.TheVariants as deed
-use Rattle.player.specs.declared.call.Request.{Request}
-use Rattle.player.specs.declared.call.Request.TheVariants as request
 use Rattle.player.specs.declared.members.Members.{Members}
 use Rattle.player.specs.Lines.{AreEnded, reply_line}
 use Rattle.player.specs.Members.{GoesWith, fleet_in, holds_in}
@@ -52,12 +48,12 @@ use Rattle.leaf_deeds.specs.Moves.{FaultRose}
 -- ---- deeds
 
 -- how a deed ended, in the words of the watches, as a drain and as a start
-abbrev pub answer_of : Ending → Answer
+abbrev pub answer_of : Ending → DeedOutcome
 answer_of ends = record { drained = drained_by ends; started = started_by ends }
 
 -- a deed of leaf `number` between two meetings of all seats, with its piece
 pub record ActsWith {B E : Type 0} (meaning : B → Meaning) (names : List (List ℕ)) (number : ℕ) (deed : Deed) (leaf : Leaf) (callers : List (Option SeatView)) (b : B)
-    (answer : Answer) (result : Result (Vec Line Global) E) (leaf' : Leaf) (callers' : List (Option SeatView)) (b' : B) : Type 0 where
+    (answer : DeedOutcome) (result : Result (Vec Line Global) E) (leaf' : Leaf) (callers' : List (Option SeatView)) (b' : B) : Type 0 where
   pub piece : Piece
   pub step : DeedStep number deed (meaning b) (meaning b') leaf callers piece leaf' callers'
   pub counted : CountsRose number (piece ∷ []) (meaning b) (meaning b')
@@ -72,7 +68,7 @@ pub record ActsAt {B E : Type 0} (meaning : B → Meaning) (number : ℕ) (deed 
   pub goes : GoesWith meaning x.names (holds_in x) result (piece ∷ []) (holds_in y)
 
 -- the same, with how it ended
-pub record DeedAt {B E : Type 0} (meaning : B → Meaning) (number : ℕ) (deed : Deed) (x : Members B) (answer : Answer) (result : Result (Vec Line Global) E) (y : Members B) : Type 0 where
+pub record DeedAt {B E : Type 0} (meaning : B → Meaning) (number : ℕ) (deed : Deed) (x : Members B) (answer : DeedOutcome) (result : Result (Vec Line Global) E) (y : Members B) : Type 0 where
   pub piece : Piece
   pub prints : ActPiece number deed piece
   pub answered : answer ≡ answer_of prints.1
@@ -86,21 +82,8 @@ pub record StartsFirst {B E : Type 0} (meaning : B → Meaning) (k : ℕ) (x : M
 
 -- ---- calls
 
--- the call that a request makes
-abbrev pub call_of : Request → Call
-call_of (request.Add rows) = call.Add rows
-call_of (request.Expire horizon) = call.Expire horizon
-call_of (request.Keep n) = call.Keep n
-call_of (request.Ask q) = call.Ask q.now
-
-abbrev pub IsRequest : Request → Type 0
-IsRequest (request.Add rows) = AllByRecursion IsRow rows
-IsRequest (request.Expire horizon) = IsTime horizon
-IsRequest (request.Keep n) = ⊤
-IsRequest (request.Ask q) = ⊤
-
 -- a call at one of the leaves
-pub record CallsAt {B E : Type 0} (meaning : B → Meaning) (leaf table : ℕ) (r : Request) (x : Members B) (result : Result (Vec Line Global) E) (y : Members B) : Type 0 where
+pub record CallsAt {B E : Type 0} (meaning : B → Meaning) (leaf table : ℕ) (r : TableRequest) (x : Members B) (result : Result (Vec Line Global) E) (y : Members B) : Type 0 where
   pub piece : Piece
   pub prints : CallPiece leaf table (call_of r) piece
   pub goes : GoesWith meaning x.names (holds_in x) result (piece ∷ []) (holds_in y)
@@ -112,7 +95,8 @@ abbrev pub number_in : ℕ → List Named → Option ℕ
 number_in leaf [] = None
 number_in leaf (n ∷ ns) = if n.leaf == leaf then Some n.number else number_in leaf ns
 
--- the line of a leaf, by its number among the leaves that answered, that were shut, and that ran out of memory
+-- the line of a leaf, by the number of its entry among the leaves that answered, that were shut, and that ran out of
+-- memory
 abbrev pub said_line : ℕ → ℕ → Option ℕ → Option ℕ → Option ℕ → Line
 said_line leaf table (Some number) shut starved = line.Entry leaf table number said.Asked
 said_line leaf table None (Some number) starved = line.Entry leaf table number said.RefusedShut
@@ -141,7 +125,7 @@ pub record AsksAll {B E : Type 0} (meaning : B → Meaning) (q : Query) (x : Mem
   pub pieces : List Piece
   pub prints : QueryPieces (fleet_in x) q pieces
   pub goes : GoesWith meaning x.names (holds_in x) result pieces (holds_in y)
-  pub answers : (histories : ℕ → ℕ → List Entry) → GoOn (holds_in y) histories → Answers (fleet_in x) (grounds_in (holds_in y)) histories (record { command = command.Query q; pieces = pieces })
+  pub answers : (histories : ℕ → ℕ → List Entry) → GoOn (holds_in y) histories → AnswersOrder (fleet_in x) (base_states_in (holds_in y)) histories (order.Query q) pieces
 
 -- ---- tails
 
@@ -161,8 +145,8 @@ tail_lines table t = flat_map (try_lines table) (tries_seen t.tries) ++ line.Tai
 -- what a tail of these rows did by the seats at one table, which are then `after`
 pub record Sends (tables : List (List Shared)) (table key : ℕ) (rows : List Row) (seats : List SeatView) (t : Tailed) (after : List SeatView) : Type 0 where
   pub tails : Tails free_of is_added (length tables) (words_of key) (tries_seen t.tries) (sent_to t.sent)
-  pub calls : CallsOn tables table seats (calls_in rows (tries_seen t.tries)) after
-  pub over : (histories : ℕ → List Entry) → one.GoOn after histories → AllByRecursion (IsOverRows (bases_in tables table) histories) (calls_in rows (tries_seen t.tries))
+  pub calls : CallsOn tables table seats (calls_of_tries rows (tries_seen t.tries)) after
+  pub over : (histories : ℕ → List Entry) → one.SeatsGoOn after histories → AllByRecursion (IsOverRows (bases_in tables table) histories) (calls_of_tries rows (tries_seen t.tries))
 
 -- the same; the seats at other tables stay
 pub record SendsRow (tables : List (List Shared)) (table key : ℕ) (rows : List Row) (seats : List (List SeatView)) (t : Tailed) (seats' : List (List SeatView)) : Type 0 where
@@ -174,4 +158,4 @@ pub record SendsRow (tables : List (List Shared)) (table key : ℕ) (rows : List
 pub record TailsAll {B E : Type 0} (meaning : B → Meaning) (key table : ℕ) (rows : List Row) (x : Members B) (result : Result (Vec Line Global) E) (y : Members B) : Type 0 where
   pub pieces : List Piece
   pub goes : GoesWith meaning x.names (holds_in x) result pieces (holds_in y)
-  pub answers : (histories : ℕ → ℕ → List Entry) → GoOn (holds_in y) histories → Answers (fleet_in x) (grounds_in (holds_in y)) histories (record { command = command.Tail key table rows; pieces = pieces })
+  pub answers : (histories : ℕ → ℕ → List Entry) → GoOn (holds_in y) histories → AnswersOrder (fleet_in x) (base_states_in (holds_in y)) histories (order.Tail key table rows) pieces

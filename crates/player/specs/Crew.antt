@@ -3,6 +3,7 @@ use Rattle.std.specs.Prelude.{◌≡◌, ◌⊎◌, ℕ, suc, ◌<◌, ◌≤◌
 use Rattle.std.specs.Global.{Global}
 use Rattle.std.specs.List.{AllByRecursion}
 use Rattle.berth_face.specs.Berth.{Meaning, Passes}
+use Rattle.leaf_history.specs.History.{Entry}
 use Rattle.leaf_table.specs.Turns.{Shared}
 use Rattle.leaf_table.specs.Calls.{SeatView}
 use Rattle.leaf_table.specs.Lists.{row}
@@ -12,20 +13,23 @@ use Rattle.rollover_watch.specs.Watches.{Held}
 use Rattle.printed_lines.specs.declared.line.Line.{Line}
 use Rattle.printed_lines.specs.declared.line.Ending.{Ending}
 use Rattle.printed_lines.specs.Lines.{IsOf}
-use Rattle.script_text.specs.declared.fleet.Fleet.{Fleet}
-use Rattle.script_text.specs.Aims.{Aim, AtFleet, AtLeaf, AtLeaves, AtNamed, AtRun, AtTable, aim_of}
+use Rattle.script_text.specs.declared.fleet.FleetShape.{FleetShape}
+use Rattle.script_text.specs.declared.order.Order.{Order}
+use Rattle.script_text.specs.Aims.{Aim, AtFleet, AtLeaf, AtLeaves, AtNamed, AtRun, AtTable, aim_of, aim_of_order}
 use Rattle.script_text.specs.Commands.{leaf_count}
 use Rattle.printed_lines.specs.declared.line.Deed.{Deed}
 use Rattle.transcript.specs.Pieces.{Piece, lines_in, place_among}
 use Rattle.transcript.specs.Counts.{CountsRose, deeds_in}
-use Rattle.leaf_moves.specs.Holds.{Hold, caller_in}
+use Rattle.leaf_moves.specs.Holds.{GoOn, Hold, caller_in, base_states_in}
 use Rattle.leaf_moves.specs.Stage.{Leaf, IsDown}
-use Rattle.leaf_moves.specs.Plays.{Plays}
-use Rattle.transcript.specs.Watching.{Hears}
+use Rattle.leaf_moves.specs.Plays.{Goes, Plays}
+use Rattle.transcript.specs.Answers.{AnswersOrder}
+use Rattle.transcript.specs.Shapes.{PrintsOrder}
+use Rattle.transcript.specs.Watching.{Hears, HearsOrder}
 
 -- the fleet, the tables of each leaf, and what is held of each leaf
 pub record CrewState (B : Type 0) : Type 0 where
-  pub fleet : Fleet
+  pub fleet : FleetShape
   pub tables : List (List Shared)
   pub holds : List (Hold B)
 
@@ -54,7 +58,7 @@ abbrev pub HasLeaf : {B : Type 0} → List (Hold B) → ℕ → Type 0
 HasLeaf {B} xs leaf = (x : Hold B) → slice_get xs leaf ≡ Some x → is_some x.held ≡ true
 
 -- all that such a command needs is held
-abbrev pub HasAimed : {B : Type 0} → Fleet → List (Hold B) → Aim → Type 0
+abbrev pub HasAimed : {B : Type 0} → FleetShape → List (Hold B) → Aim → Type 0
 HasAimed fleet xs AtFleet = (leaf : ℕ) → HasLeaf xs leaf
 HasAimed fleet xs (AtTable table) = HasSeats xs table
 HasAimed fleet xs (AtNamed name) = HasSeats xs (place_among name fleet.names)
@@ -63,11 +67,15 @@ HasAimed fleet xs AtLeaves = (leaf : ℕ) → leaf < leaf_count fleet → HasLea
 HasAimed fleet xs AtRun = ⊤
 
 -- all that a command needs is held
-abbrev pub HasFor : {B : Type 0} → Fleet → List (Hold B) → Command → Type 0
+abbrev pub HasFor : {B : Type 0} → FleetShape → List (Hold B) → Command → Type 0
 HasFor fleet xs c = HasAimed fleet xs (aim_of c)
 
+-- all that an order needs is held
+abbrev pub HasOrder : {B : Type 0} → FleetShape → List (Hold B) → Order → Type 0
+HasOrder fleet xs o = HasAimed fleet xs (aim_of_order o)
+
 -- everything is held, as the run does between two items
-pub record HasAll {B : Type 0} (fleet : Fleet) (xs : List (Hold B)) : Type 0 where
+pub record HasAll {B : Type 0} (fleet : FleetShape) (xs : List (Hold B)) : Type 0 where
   pub leaves : (leaf : ℕ) → HasLeaf xs leaf
   pub seats : (table : ℕ) → table < length fleet.names → HasSeats xs table
 
@@ -106,8 +114,19 @@ pub record AllCounted {B : Type 0} (meaning : B → Meaning) (pieces : List Piec
   pub count : length ys ≡ length xs
   pub each : (leaf : ℕ) (x y : Hold B) → slice_get xs leaf ≡ Some x → slice_get ys leaf ≡ Some y → CountedIf meaning leaf pieces x.held y.held
 
--- what a command did, with its pieces, and what the watches heard of it; memory for its lines may have run out
-pub record PlaysWith {B E : Type 0} (meaning : B → Meaning) (fleet : Fleet) (c : Command) (xs : List (Hold B)) (before : List Held) (result : Result (Vec Line Global) E) (ys : List (Hold B)) (after : List Held) : Type 0 where
+-- what an order did, with its pieces, and what the watches heard of it; memory for its lines may have run out
+pub record PlaysOrder {B E : Type 0} (meaning : B → Meaning) (fleet : FleetShape) (o : Order) (xs : List (Hold B)) (before : List Held) (result : Result (Vec Line Global) E) (ys : List (Hold B)) (after : List Held) : Type 0 where
+  pub pieces : List Piece
+  pub goes : Goes meaning xs pieces ys
+  pub prints : PrintsOrder fleet o pieces
+  pub answers : (histories : ℕ → ℕ → List Entry) → GoOn ys histories → AnswersOrder fleet (base_states_in ys) histories o pieces
+  pub counted : AllCounted meaning pieces xs ys
+  pub fit : AllByRecursion (IsOf fleet.names) (lines_in pieces)
+  pub heard : HearsOrder fleet o pieces before after
+  pub lines_are : IfOk result (λ lines. lines.items ≡ lines_in pieces)
+
+-- the same of a command
+pub record PlaysWith {B E : Type 0} (meaning : B → Meaning) (fleet : FleetShape) (c : Command) (xs : List (Hold B)) (before : List Held) (result : Result (Vec Line Global) E) (ys : List (Hold B)) (after : List Held) : Type 0 where
   pub pieces : List Piece
   pub plays : Plays meaning fleet c xs pieces ys
   pub counted : AllCounted meaning pieces xs ys

@@ -6,7 +6,7 @@ use Rattle.crash_moments.specs.Left.{NamedStates}
 use Rattle.leaf_table.specs.Calls.{SeatView}
 use Rattle.leaf_steward.specs.declared.notes.Note.{Note}
 use Rattle.leaf_steward.specs.Seated.{AreFounded}
-use Rattle.leaf_moves.specs.Stage.{Leaf, MeetsIf, Stands, seated_of, with_seats}
+use Rattle.leaf_moves.specs.Stage.{Leaf, MeetsIf, LeafStands, seated_of, with_seats}
 
 -- each note is of one of `count` tables
 abbrev pub ArePlaces : ℕ → List Note → Type 0
@@ -36,4 +36,4 @@ pub record MeetFirst (k : ℕ) (leaf : Leaf) (callers : List (Option SeatView)) 
       → slice_get seats place ≡ Some v' → slice_get callers' place ≡ Some c'
       → MeetsIf v c v' c'
   pub others : (place : ℕ) → k ≤ place → (slice_get seats place ≡ slice_get (seated_of leaf).seats place) × (slice_get callers' place ≡ slice_get callers place)
-  pub stands : (base : NamedStates) → IsTrue m.tells → AreFounded (seated_of leaf) → Stands base leaf m → Stands base leaf' m
+  pub stands : (base : NamedStates) → IsTrue m.tells → AreFounded (seated_of leaf) → LeafStands base leaf m → LeafStands base leaf' m

@@ -10,7 +10,7 @@ use Rattle.leaf_table.specs.Lists.{lists_in, row}
 use Rattle.script_text.specs.Fits.{AreLeaves}
 use Rattle.printed_lines.specs.declared.line.Line.{Line}
 use Rattle.printed_lines.specs.Lines.{IsOf}
-use Rattle.script_text.specs.declared.fleet.Fleet.{Fleet}
+use Rattle.script_text.specs.declared.fleet.FleetShape.{FleetShape}
 use Rattle.script_text.specs.Commands.{leaf_count}
 use Rattle.transcript.specs.Pieces.{Piece, lines_in}
 use Rattle.leaf_moves.specs.Holds.{Hold}
@@ -30,7 +30,7 @@ holds_from leaf tables (x ∷ xs) rows = hold_at leaf tables rows x ∷ holds_fr
 abbrev pub holds_in : {B : Type 0} → Members B → List (Hold B)
 holds_in x = holds_from 0 x.tables.now x.leaves.items (lists_in x.rows.items)
 
-abbrev pub fleet_in : {B : Type 0} → Members B → Fleet
+abbrev pub fleet_in : {B : Type 0} → Members B → FleetShape
 fleet_in x = record { machines = x.machines; per_machine = x.per_machine; names = x.names }
 
 -- the leaf has its own tables of the fleet, and the steward's seat at each

@@ -15,7 +15,7 @@ use Rattle.printed_lines.specs.declared.line.Deed.{Deed}
 use Rattle.printed_lines.specs.declared.line.Deed.TheVariants.{Drain, Start}
 use Rattle.transcript.specs.Pieces.{Acted, Noted, Piece, piece_lines}
 use Rattle.transcript.specs.Watching.{drained_by, started_by}
-use Rattle.player.specs.declared.answer.Answer.{Answer}
+use Rattle.player.specs.declared.answer.DeedOutcome.{DeedOutcome}
 use Rattle.printed_lines.specs.declared.line.Deed.{Deed}
 use Rattle.printed_lines.specs.declared.line.Deed.TheVariants as deed
 use Rattle.player.specs.declared.members.Members.{Members}
@@ -39,18 +39,18 @@ pub record MayDo {B : Type 0} (x : Members B) (number : ℕ) : Type 0 where
   pub held : (leaf : ℕ) → HasLeaf (holds_in x) leaf
 
 -- a leaf was drained or started
-pub record HasDone {B E : Type 0} (meaning : B → Meaning) (number : ℕ) (deed : Deed) (x : Members B) (result : Answer × Result (Vec Line Global) E) (y : Members B) : Type 0 where
+pub record DeedIsDone {B E : Type 0} (meaning : B → Meaning) (number : ℕ) (deed : Deed) (x : Members B) (result : DeedOutcome × Result (Vec Line Global) E) (y : Members B) : Type 0 where
   pub members : AreMembers y
   pub same : SameFleet x y
   pub acted : DeedAt meaning number deed x result.0 result.1 y
 
-module _ {F T E : Type 0} (g : Shared F (MutBor T × (ℕ × (Deed × Unit {0}))) ((Answer × Result (Vec Line Global) E) × (MutBor T × Unit {0}))) (f : F)
-    (may : T → ℕ → Type 0) (did : T → ℕ → Deed → Answer × Result (Vec Line Global) E → T → Type 0) where
+module _ {F T E : Type 0} (g : Shared F (MutBor T × (ℕ × (Deed × Unit {0}))) ((DeedOutcome × Result (Vec Line Global) E) × (MutBor T × Unit {0}))) (f : F)
+    (may : T → ℕ → Type 0) (did : T → ℕ → Deed → DeedOutcome × Result (Vec Line Global) E → T → Type 0) where
   -- the closure may drain and start each leaf that `may` allows, does what `did` says, and other leaves stay allowed
   pub record DoesDeeds : Type 0 where
     pub may_call : (p : MutBor T) (number : ℕ) (deed : Deed) → may p.now number → IsRestart deed → g.pre f (p, (number, (deed, tt)))
-    pub does : (p q : MutBor T) (number : ℕ) (deed : Deed) (r : Answer × Result (Vec Line Global) E) → g.post f (p, (number, (deed, tt))) (r, (q, tt)) → did p.now number deed r q.now
-    pub keeps : (x y : T) (number : ℕ) (deed : Deed) (r : Answer × Result (Vec Line Global) E) (other : ℕ) → did x number deed r y → may x other → may y other
+    pub does : (p q : MutBor T) (number : ℕ) (deed : Deed) (r : DeedOutcome × Result (Vec Line Global) E) → g.post f (p, (number, (deed, tt))) (r, (q, tt)) → did p.now number deed r q.now
+    pub keeps : (x y : T) (number : ℕ) (deed : Deed) (r : DeedOutcome × Result (Vec Line Global) E) (other : ℕ) → did x number deed r y → may x other → may y other
 
   -- the closure may drain and start this leaf
   pub record MayRestart (x : T) (leaf : ℕ) : Type 0 where
@@ -98,21 +98,21 @@ abbrev pub no_lines : Result (Vec Line Global) (Unit {0})
 no_lines = Err tt
 
 -- calls, one after another, with the lines of each
-pub data Chain {T E : Type 0} (did : T → ℕ → Deed → Answer × Result (Vec Line Global) E → T → Type 0) (x : T) (told : Result (Vec (Vec Line Global) Global) E) : (calls : List FleetCall) (y : T) (told' : Result (Vec (Vec Line Global) Global) E) → Type 0 where
+pub data Chain {T E : Type 0} (did : T → ℕ → Deed → DeedOutcome × Result (Vec Line Global) E → T → Type 0) (x : T) (told : Result (Vec (Vec Line Global) Global) E) : (calls : List FleetCall) (y : T) (told' : Result (Vec (Vec Line Global) Global) E) → Type 0 where
   none : (calls : List FleetCall) (y : T) (told' : Result (Vec (Vec Line Global) Global) E)
       → calls ≡ []
       → y ≡ x
       → told' ≡ told
       → Chain did x told calls y told'
   drained : (calls : List FleetCall) (y : T) (told' : Result (Vec (Vec Line Global) Global) E) (earlier : List FleetCall) (mid : T) (told_mid : Result (Vec (Vec Line Global) Global) E)
-      (leaf : ℕ) (answer : Answer) (lines : Result (Vec Line Global) E)
+      (leaf : ℕ) (answer : DeedOutcome) (lines : Result (Vec Line Global) E)
       → Chain did x told earlier mid told_mid
       → did mid leaf (deed.Drain None) (answer, lines) y
       → IfOk told' (λ parts. PartJoins told_mid lines parts.items)
       → calls ≡ earlier ++ call.Drains leaf answer.drained ∷ []
       → Chain did x told calls y told'
   started : (calls : List FleetCall) (y : T) (told' : Result (Vec (Vec Line Global) Global) E) (earlier : List FleetCall) (mid : T) (told_mid : Result (Vec (Vec Line Global) Global) E)
-      (leaf : ℕ) (answer : Answer) (lines : Result (Vec Line Global) E)
+      (leaf : ℕ) (answer : DeedOutcome) (lines : Result (Vec Line Global) E)
       → Chain did x told earlier mid told_mid
       → did mid leaf deed.Start (answer, lines) y
       → IfOk told' (λ parts. PartJoins told_mid lines parts.items)

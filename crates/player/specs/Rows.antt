@@ -33,12 +33,12 @@ pub record OnlyColumn (leaf : ℕ) (rows rows' : List (List SeatView)) : Type 0 
 -- ---- the seats of one leaf
 
 -- tables, and at each the callers' seat, if there is one
-pub record Called : Type 0 where
+pub record SeatRow : Type 0 where
   pub tables : List Shared
   pub seats : List (Option SeatView)
 
 -- those of leaf `leaf`
-abbrev pub called_at : ℕ → List Shared → List (List SeatView) → Called
+abbrev pub called_at : ℕ → List Shared → List (List SeatView) → SeatRow
 called_at leaf tables rows = record { tables = tables; seats = column leaf rows }
 
 -- a callers' seat at the table, which has seen a legal history
@@ -47,12 +47,12 @@ pub record IsCallersAt (t : Shared) (c : SeatView) : Type 0 where
   pub caller : IsCaller c
   pub legal : LegalFrom (is_founded (base_seen t)) (start_of (base_seen t)) (seen_of c)
 
-pub record AreCalled (x : Called) : Type 0 where
+pub record AreCalled (x : SeatRow) : Type 0 where
   pub count : length x.seats ≡ length x.tables
   pub each : (place : ℕ) (t : Shared) (c : SeatView) → slice_get x.tables place ≡ Some t → slice_get x.seats place ≡ Some (Some c) → IsCallersAt t c
 
 -- a call at table `table`
-pub record Calls (table : ℕ) (c : Call) (x : Called) (reply : Reply) (y : Called) : Type 0 where
+pub record CallsTable (table : ℕ) (c : Call) (x : SeatRow) (reply : Reply) (y : SeatRow) : Type 0 where
   pub shared : Shared
   pub before : SeatView
   pub after : SeatView

@@ -8,7 +8,7 @@ use Rattle.leaf_steward.specs.Seated.{Seated}
 use Rattle.leaf_moves.specs.Holds.{Hold}
 use Rattle.leaf_moves.specs.Stage.{Leaf}
 use Rattle.leaf_deeds.specs.declared.leaf.OneLeaf.{OneLeaf}
-use Rattle.leaf_deeds.specs.Held.{berth_of, state_of}
+use Rattle.leaf_deeds.specs.Held.{berth_of, leaf_state}
 use Rattle.player.specs.Crew.{column}
 use Rattle.player.specs.Rows.{MayMeet}
 
@@ -20,7 +20,7 @@ own_berth (Some x) = Some (berth_of x)
 -- the leaf with its berth, if it is held
 abbrev pub held_of : {B : Type 0} → Option (OneLeaf B) → Option (Leaf × B)
 held_of None = None
-held_of (Some x) = Some (state_of x, berth_of x)
+held_of (Some x) = Some (leaf_state x, berth_of x)
 
 -- what is held of leaf `leaf`: its callers' seats, and maybe the leaf
 abbrev pub hold_at : {B : Type 0} → ℕ → List (List Shared) → List (List SeatView) → Option (OneLeaf B) → Hold B

@@ -3,15 +3,15 @@ ghost use Rattle.std.specs.Prelude.{◌≡◌, ◌<◌, ℕ, length};
 ghost use Rattle.berth_face.specs.Berth.{Passes};
 ghost use Rattle.leaf_table.specs.Lists.{lists_in};
 ghost use Rattle.script_text.specs.Commands.{leaf_count};
+ghost use Rattle.script_text.specs.Orders.{IsOfTables};
 ghost use Rattle.player.specs.Crew.{HasLeaf, column};
 ghost use Rattle.player.specs.Rows.{OnlyColumn};
-ghost use Rattle.leaf_deeds.specs.Held.{KeepsSeats, berth_of, seats_of, state_of};
+ghost use Rattle.leaf_deeds.specs.Held.{KeepsSeats, berth_of, seats_of, leaf_state};
 ghost use Rattle.player.specs.Stage.{IsMember};
 ghost use Rattle.player.specs.Members.{AreMembers, SameFleet, fleet_in, holds_in};
 ghost use Rattle.player.specs.Commands.{ActsAt, ActsWith, DeedAt, StartsFirst};
-ghost use Rattle.leaf_deeds.specs.Deeds.{IsOfTables};
 
-use crate::answer::Answer;
+use crate::answer::DeedOutcome;
 use crate::entries::{deed_lines, joined};
 use crate::meet::meet;
 use crate::members::Members;
@@ -77,7 +77,7 @@ impl<'t, B: Berth> Members<'t, B> {
         gate: &G,
         number: u32,
         deed: Deed,
-    ) -> (Answer, Result<Vec<Line>, AllocError>)
+    ) -> (DeedOutcome, Result<Vec<Line>, AllocError>)
         requires members { AreMembers self.old }
         requires leaf { number < leaf_count (fleet_in self.old) }
         requires held { HasLeaf (holds_in self.old) number }
@@ -116,14 +116,15 @@ fn act_on<'t, R: Wait + Threads + Sync, B: Berth, G: Gate>(
     rows: &mut Vec<Vec<Seat>>,
     leaf: OneLeaf<'t, B>,
     deed: Deed,
-) -> (OneLeaf<'t, B>, Answer, Result<Vec<Line>, AllocError>)
+) -> (OneLeaf<'t, B>, DeedOutcome, Result<Vec<Line>, AllocError>)
     requires member { IsMember names.now number (seats_of leaf) (lists_in rows.old.items) }
     requires table { IsOfTables (length names.now) deed }
     ensures member { IsMember names.now number (seats_of result.0) (lists_in rows.new.items) }
     ensures keeps { KeepsSeats (seats_of leaf.entry) (seats_of result.0) }
     ensures only { OnlyColumn number (lists_in rows.old.items) (lists_in rows.new.items) }
-    ensures acts { ActsWith B.meaning names.now number deed (state_of leaf.entry) (column number (lists_in rows.old.items)) (berth_of leaf.entry)
-        result.1 result.2 (state_of result.0) (column number (lists_in rows.new.items)) (berth_of result.0) }
+    ensures acts { ActsWith B.meaning names.now number deed (leaf_state leaf.entry)
+        (column number (lists_in rows.old.items)) (berth_of leaf.entry)
+        result.1 result.2 (leaf_state result.0) (column number (lists_in rows.new.items)) (berth_of result.0) }
     ensures time { Passes (B.meaning (berth_of leaf.entry)) (B.meaning (berth_of result.0)) }
 {
     let mut leaf = leaf;
@@ -131,7 +132,7 @@ fn act_on<'t, R: Wait + Threads + Sync, B: Berth, G: Gate>(
     let mut notes = Notes::new();
     let (mut moved, ending) = leaf.deed(rt, alloc, gate, deed, &mut notes);
     meet(rows, number, &mut moved);
-    let answer = Answer::of(&ending);
+    let answer = DeedOutcome::of(&ending);
     let lines = deed_lines(alloc, number, &notes, deed, ending);
     (moved, answer, lines)
 }

@@ -7,18 +7,18 @@ use leaf_words::Way;
 use printed_lines::Ending;
 use rollover_watch::{Drained, Started};
 
-/// How a deed ended: as a drain, and as a start. Only the one that it was counts.
+/// How a deed ended, read as a drain and as a start. Callers look only at the one that it was.
 #[derive(Clone, Copy)]
-pub struct Answer {
+pub struct DeedOutcome {
     pub drained: Drained,
     pub started: Started,
 }
 
-impl Answer {
-    pub fn of(ending: &Ending) -> Answer
+impl DeedOutcome {
+    pub fn of(ending: &Ending) -> DeedOutcome
         ensures { result ≡ answer_of ending.now }
     {
-        Answer {
+        DeedOutcome {
             drained: drained_by(ending),
             started: started_by(ending),
         }

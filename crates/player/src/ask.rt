@@ -5,7 +5,7 @@ ghost use Rattle.leaf_history.specs.History.{Entry};
 ghost use Rattle.leaf_table.specs.Calls.{SeatView};
 ghost use Rattle.leaf_table.specs.Lists.{lists_in, row};
 ghost use Rattle.aggregator.specs.Asks.{AreSeatsAt, AllAsked};
-ghost use Rattle.aggregator.specs.Partial.{GoOn, bases_in, partial};
+ghost use Rattle.aggregator.specs.Partial.{SeatsGoOn, bases_in, partial};
 ghost use Rattle.transcript.specs.Pieces.{place_among};
 ghost use Rattle.player.specs.Crew.{HasSeats};
 ghost use Rattle.player.specs.Members.{AreMembers, SameFleet, fleet_in, holds_in};
@@ -24,8 +24,8 @@ use std::sync::Wait;
 use std::thread::Threads;
 
 impl<'t, B: Berth> Members<'t, B> {
-    /// Asks the query's table at each leaf. Gives the line of each leaf, and the answer. Err is want of memory: no leaf
-    /// was asked, or only the lines are lost.
+    /// Asks the query's table at each leaf. Gives the line of each leaf, and the answer. Err if memory runs out: no
+    /// leaf was asked, or only the lines are lost.
     pub fn ask<R: Threads + Wait + Sync, G: Gate>(
         &mut self,
         rt: &R,
@@ -38,7 +38,8 @@ impl<'t, B: Berth> Members<'t, B> {
         requires has { HasSeats (holds_in self.old) (place_among query.now.table self.old.names) }
         ensures members { AreMembers self.new }
         ensures same { SameFleet self.old self.new }
-        ensures asks { AsksAll B.meaning query.now self.old result self.new ⊎ (IsErr result × (holds_in self.new ≡ holds_in self.old)) }
+        ensures asks { AsksAll B.meaning query.now self.old result self.new
+            ⊎ (IsErr result × (holds_in self.new ≡ holds_in self.old)) }
     {
         let table = place_of(&self.names, query.table.as_str());
         let leaves = self.leaves.len() as u32;
@@ -60,7 +61,8 @@ fn ask_row<R: Threads + Wait + Sync, G: Gate>(
     requires table { table < length rows.old.items }
     requires seats { AreSeatsAt tables.now table (row (lists_in rows.old.items) table) }
     ensures asked { AsksRow query.now tables.now table (lists_in rows.old.items) result (lists_in rows.new.items) }
-    ensures groups { (histories : ℕ → List Entry) → GoOn (row (lists_in rows.new.items) table) histories → IfOk result (λ f. f.groups ≡ groups query.now (partial (bases_in tables.now table) histories f.named)) }
+    ensures groups { (histories : ℕ → List Entry) → SeatsGoOn (row (lists_in rows.new.items) table) histories
+        → IfOk result (λ f. f.groups ≡ groups query.now (partial (bases_in tables.now table) histories f.named)) }
 {
     let row = &mut rows[table as usize];
     ask_all(rt, alloc, tables, table, row, query, gate)

@@ -11,7 +11,7 @@ ghost use Rattle.leaf_table.specs.Lists.{lists_in};
 ghost use Rattle.leaf_steward.specs.Seated.{AreAlike, AreFounded, AtEach, IsUnused};
 ghost use Rattle.crash_states.specs.Beginning.{MayBegin};
 ghost use Rattle.player.specs.Crew.{seated_at};
-ghost use Rattle.player.specs.Beginning.{AreBegun, IsBegun, IsReady};
+ghost use Rattle.player.specs.Beginning.{AreBegun, IsBegun, LeafIsReady};
 
 use berth_face::Berth;
 use leaf_deeds::OneLeaf;
@@ -48,8 +48,10 @@ pub fn begin_all<'t, B: Berth>(
     requires copies { length copies.items ≡ length stewards.items }
     requires same { AllByRecursion (λ copy. copy ≡ names.now) copies.items }
     requires enough { length stewards.items ≤ length berths.old.items }
-    requires ready { (leaf : ℕ) → leaf < length stewards.items → IsReady B.meaning names.now tables.now (lists_in stewards.items) berths.old.items leaf }
-    ensures begun { AreBegun B.meaning names.now tables.now (lists_in stewards.items) berths.old.items (length stewards.items) leaves.new.items }
+    requires ready { (leaf : ℕ) → leaf < length stewards.items
+        → LeafIsReady B.meaning names.now tables.now (lists_in stewards.items) berths.old.items leaf }
+    ensures begun { AreBegun B.meaning names.now tables.now (lists_in stewards.items) berths.old.items
+        (length stewards.items) leaves.new.items }
     ensures berths { berths.new.items ≡ drop (length stewards.items) berths.old.items }
     ensures room { vec_capacity berths.new ≡ vec_capacity berths.old }
 {
@@ -75,11 +77,15 @@ fn begin<'t, B: Berth>(
     requires named { AreNames names }
     requires names { map name_of tables.now ≡ names }
     requires count { length stewards.items ≡ length tables.now }
-    requires unused { AtEach (λ place t v. IsUnused t v) (record { names = names; tables = tables.now; seats = stewards.items }) }
+    requires unused { AtEach (λ place t v. IsUnused t v)
+        (record { names = names; tables = tables.now; seats = stewards.items }) }
     requires alike { AreAlike (record { names = names; tables = tables.now; seats = stewards.items }) }
     requires ready { AreFounded (record { names = names; tables = tables.now; seats = stewards.items })
-        → (base : NamedStates) × MayBegin base (B.meaning berth) × AtEach (λ place t v. start_of (base_seen t) ≡ base (name_of t)) (record { names = names; tables = tables.now; seats = stewards.items }) }
-    ensures leaves { (one : _) × (leaves.new.items ≡ leaves.old.items ++ one ∷ []) × IsBegun B.meaning (record { names = names; tables = tables.now; seats = stewards.items }) berth one }
+        → (base : NamedStates) × MayBegin base (B.meaning berth)
+        × AtEach (λ place t v. start_of (base_seen t) ≡ base (name_of t))
+        (record { names = names; tables = tables.now; seats = stewards.items }) }
+    ensures leaves { (one : _) × (leaves.new.items ≡ leaves.old.items ++ one ∷ [])
+        × IsBegun B.meaning (record { names = names; tables = tables.now; seats = stewards.items }) berth one }
     ensures len { vec_len leaves.new ≡ vec_len leaves.old + 1 }
     ensures room { vec_capacity leaves.old ≤ vec_capacity leaves.new }
 {

@@ -7,7 +7,7 @@ ghost use Rattle.leaf_moves.specs.Stage.{Leaf, MeetAll};
 ghost use Rattle.leaf_deeds.specs.declared.leaf.OneLeaf.{OneLeaf};
 ghost use Rattle.player.specs.Crew.{HasLeaf, column};
 ghost use Rattle.player.specs.Rows.{MayMeet, OnlyColumn};
-ghost use Rattle.leaf_deeds.specs.Held.{berth_of, seats_of, state_of};
+ghost use Rattle.leaf_deeds.specs.Held.{berth_of, seats_of, leaf_state};
 ghost use Rattle.player.specs.Stage.{hold_at, own_berth};
 ghost use Rattle.player.specs.Members.{AreMembers, holds_in};
 
@@ -24,7 +24,8 @@ impl<'t, B: Berth> Members<'t, B> {
         requires held { (leaf : ℕ) → HasLeaf (holds_in self) leaf }
         requires room { length (holds_in self) + vec_len berths.old ≤ vec_capacity berths.old }
         ensures met { (leaf : ℕ) (x : Hold B) → slice_get (holds_in self.entry) leaf ≡ Some x → HasMet B.meaning x }
-        ensures berths { (own : List B) × (map Some own ≡ map (λ (x : Hold B). berth_in x) (holds_in self.entry)) × (berths.new.items ≡ own ++ berths.old.items) }
+        ensures berths { (own : List B) × (map Some own ≡ map (λ (x : Hold B). berth_in x) (holds_in self.entry))
+            × (berths.new.items ≡ own ++ berths.old.items) }
     {
         abandon_all(self.leaves, self.rows, berths);
     }
@@ -38,10 +39,14 @@ fn abandon_all<'t, B: Berth>(
 )
     requires few { length leaves.items ≤ 256 }
     requires held { (leaf : ℕ) (x : Option (OneLeaf B)) → slice_get leaves.items leaf ≡ Some x → is_some x ≡ true }
-    requires may { (leaf : ℕ) (x : OneLeaf B) → slice_get leaves.items leaf ≡ Some (Some x) → MayMeet leaf (seats_of x) (lists_in rows.items) }
+    requires may { (leaf : ℕ) (x : OneLeaf B) → slice_get leaves.items leaf ≡ Some (Some x)
+        → MayMeet leaf (seats_of x) (lists_in rows.items) }
     requires room { length leaves.items + vec_len berths.old ≤ vec_capacity berths.old }
-    ensures met { (tables : List (List Shared)) (leaf : ℕ) (x : OneLeaf B) → slice_get leaves.entry.items leaf ≡ Some (Some x) → HasMet B.meaning (hold_at leaf tables (lists_in rows.items) (Some x)) }
-    ensures berths { (own : List B) × (map Some own ≡ map own_berth leaves.entry.items) × (berths.new.items ≡ own ++ berths.old.items) }
+    ensures met { (tables : List (List Shared)) (leaf : ℕ) (x : OneLeaf B)
+        → slice_get leaves.entry.items leaf ≡ Some (Some x)
+        → HasMet B.meaning (hold_at leaf tables (lists_in rows.items) (Some x)) }
+    ensures berths { (own : List B) × (map Some own ≡ map own_berth leaves.entry.items)
+        × (berths.new.items ≡ own ++ berths.old.items) }
 {
     let mut leaves = leaves;
     let mut rows = rows;
@@ -63,7 +68,8 @@ fn abandon_one<'t, B: Berth>(
 )
     requires may { MayMeet number (seats_of leaf) (lists_in rows.old.items) }
     requires room { vec_len berths.old < vec_capacity berths.old }
-    ensures met { (then : Leaf) × MeetAll (state_of leaf.entry) (column number (lists_in rows.old.items)) then (column number (lists_in rows.new.items)) (B.meaning (berth_of leaf.entry)) }
+    ensures met { (then : Leaf) × MeetAll (leaf_state leaf.entry) (column number (lists_in rows.old.items)) then
+        (column number (lists_in rows.new.items)) (B.meaning (berth_of leaf.entry)) }
     ensures only { OnlyColumn number (lists_in rows.old.items) (lists_in rows.new.items) }
     ensures berths { berths.new.items ≡ berth_of leaf.entry ∷ berths.old.items }
     ensures len { vec_len berths.new ≡ vec_len berths.old + 1 }

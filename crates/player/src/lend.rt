@@ -15,8 +15,8 @@ use leaf_table::{FleetTables, Seat, SharedTable};
 use std::alloc::{AllocError, Global};
 
 impl<'t, B: Berth> Members<'t, B> {
-    /// Cuts off one id of the seat at each leaf of each marked table, and each marked leaf. Err is want of memory, and
-    /// cuts nothing off.
+    /// Cuts off one id of the seat at each leaf of each marked table, and each marked leaf. Err if memory runs out:
+    /// nothing was cut off.
     pub fn cut_off(
         &mut self,
         alloc: Global,
@@ -24,9 +24,11 @@ impl<'t, B: Berth> Members<'t, B> {
         leaves: &[bool],
     ) -> Result<Members<'t, B>, AllocError>
         requires members { AreMembers self.old }
-        requires counts { (length tables.now ≡ length self.old.names) × (length leaves.now ≡ leaf_count (fleet_in self.old)) }
+        requires counts { (length tables.now ≡ length self.old.names)
+            × (length leaves.now ≡ leaf_count (fleet_in self.old)) }
         requires spares { (table : ℕ) → is_set tables.now table ≡ true → Spares (holds_in self.old) table 2 }
-        ensures cut { IfOk result (λ off. CutsOff (is_set tables.now) (is_set leaves.now) (holds_in self.old) (holds_in off) (holds_in self.new)) }
+        ensures cut { IfOk result (λ off. CutsOff (is_set tables.now) (is_set leaves.now) (holds_in self.old)
+            (holds_in off) (holds_in self.new)) }
         ensures off { IfOk result (λ off. AreMembers off × SameFleet self.old off) }
         ensures members { AreMembers self.new }
         ensures same { SameFleet self.old self.new }
@@ -50,7 +52,8 @@ impl<'t, B: Berth> Members<'t, B> {
 
 // An empty list for each table, with room for `count` seats if the table is marked.
 fn rooms(alloc: Global, marks: &[bool], count: usize) -> Result<Vec<Vec<Seat>>, AllocError>
-    ensures { IfOk result (λ rows. (length rows.items ≡ length marks.now) × AreRoomy (is_set marks.now) count rows.items) }
+    ensures { IfOk result (λ rows. (length rows.items ≡ length marks.now)
+        × AreRoomy (is_set marks.now) count rows.items) }
 {
     let mut rows = Vec::with_capacity(alloc, marks.len())?;
     for table in 0..marks.len() {
@@ -75,9 +78,11 @@ fn split_rows(
 )
     requires counts { (length marks.now ≡ length rows.old.items) × (length off.old.items ≡ length rows.old.items) }
     requires few { length marks.now ≤ 16 }
-    requires may { (table : ℕ) → is_set marks.now table ≡ true → MaySplit tables.now table (row (lists_in rows.old.items) table) }
+    requires may { (table : ℕ) → is_set marks.now table ≡ true
+        → MaySplit tables.now table (row (lists_in rows.old.items) table) }
     requires room { AreRoomy (is_set marks.now) (length tables.now) off.old.items }
-    ensures splits { RowsSplit (length marks.now) (is_set marks.now) (lists_in rows.old.items) (lists_in off.new.items) (lists_in rows.new.items) }
+    ensures splits { RowsSplit (length marks.now) (is_set marks.now) (lists_in rows.old.items) (lists_in off.new.items)
+        (lists_in rows.new.items) }
 {
     for table in 0..marks.len() {
         split_row_if(

@@ -2,14 +2,14 @@
 ghost use Rattle.std.specs.Prelude.{◌≡◌, ◌+◌, ◌<◌, ◌≤◌, vec_len, vec_capacity};
 ghost use Rattle.std.specs.List.{insert};
 
-use crate::restarts::Leaves;
+use crate::restarts::RestartLeaves;
 use berth_face::Berth;
 use leaf_deeds::OneLeaf;
 use leaf_model::Names;
 use leaf_table::{FleetTables, Seat};
 
-/// The leaves that are held of a fleet, and for each table a row: a callers' seat at each leaf, or nothing. It borrows
-/// the tables.
+/// The leaves of a fleet that this player holds, and for each table a row with a callers' seat, or nothing, at each
+/// leaf. It borrows the tables.
 #[derive(Drop)]
 pub struct Members<'t, B: Berth> {
     pub names: Names,
@@ -20,12 +20,12 @@ pub struct Members<'t, B: Berth> {
     pub rows: Vec<Vec<Seat>>,
 }
 
-impl<'t, B: Berth> Leaves for Members<'t, B> {
-    ghost use Rattle.player.specs.Restarts.{HasDone, MayDo};
+impl<'t, B: Berth> RestartLeaves for Members<'t, B> {
+    ghost use Rattle.player.specs.Restarts.{DeedIsDone, MayDo};
 
     ghost may = { λ x leaf. MayDo x leaf };
 
-    ghost did = { λ x leaf deed result y. HasDone B.meaning leaf deed x result y };
+    ghost did = { λ x leaf deed result y. DeedIsDone B.meaning leaf deed x result y };
 }
 
 /// Inserts an item at `place`. There is room for it.

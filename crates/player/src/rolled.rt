@@ -23,7 +23,8 @@ pub fn rolled_lines(
 ) -> Result<Vec<Line>, AllocError>
     requires few { length plan < 2 ^ 32 }
     requires begun { rolled.waves ≤ length plan }
-    ensures { IfOk result (λ lines. lines.items ≡ rolled_lines plan rolled (lines_of told.items) (map (λ watch. held watch) watches.now)) }
+    ensures { IfOk result (λ lines. lines.items ≡ rolled_lines plan rolled (lines_of told.items)
+        (map (λ watch. held watch) watches.now)) }
 {
     let of = plan.as_slice().len() as u32;
     let mut waves = plan.into_inner();
@@ -69,7 +70,8 @@ fn put_wave(
     wave: Wave,
     told: &mut VecDeque<Vec<Line>>,
 ) -> Result<(), AllocError>
-    ensures lines { OnOk result (lines.new.items ≡ lines.old.items ++ wave_lines number of wave (lines_of told.old.items)) }
+    ensures lines { OnOk result (lines.new.items ≡ lines.old.items
+        ++ wave_lines number of wave (lines_of told.old.items)) }
     ensures told { OnOk result (lines_of told.new.items ≡ drop (deed_count wave) (lines_of told.old.items)) }
 {
     let leaves = wave.as_slice().len();
@@ -88,7 +90,8 @@ fn put_parts(
     count: usize,
     told: &mut VecDeque<Vec<Line>>,
 ) -> Result<(), AllocError>
-    ensures lines { OnOk result (lines.new.items ≡ lines.old.items ++ joined_parts (take count (lines_of told.old.items))) }
+    ensures lines { OnOk result (lines.new.items ≡ lines.old.items
+        ++ joined_parts (take count (lines_of told.old.items))) }
     ensures told { OnOk result (lines_of told.new.items ≡ drop count (lines_of told.old.items)) }
 {
     for _ in 0..count {

@@ -1,11 +1,11 @@
 // A rollover of the leaves of a crew.
 ghost use Rattle.std.specs.Prelude.{◌≡◌, ◌⊎◌, ◌<◌, ◌≤◌, ℕ, [], length, map, IsErr};
-ghost use Rattle.script_text.specs.declared.command.Command.TheVariants.{Rollover};
+ghost use Rattle.script_text.specs.declared.order.Order.TheVariants.{Rollover};
 ghost use Rattle.std.specs.List.{AllByRecursion};
 ghost use Rattle.script_text.specs.Commands.{leaf_count};
-ghost use Rattle.player.specs.Crew.{AllPass, HasLeaf, PlaysWith, StillHas};
+ghost use Rattle.player.specs.Crew.{AllPass, HasLeaf, PlaysOrder, StillHas};
 ghost use Rattle.player.specs.Members.{AreMembers, SameFleet, fleet_in, holds_in};
-ghost use Rattle.player.specs.Restarts.{HasDone, IsRestart, MayDo};
+ghost use Rattle.player.specs.Restarts.{DeedIsDone, IsRestart, MayDo};
 ghost use Rattle.player.specs.Rolled.{RollsThrough};
 
 use crate::members::Members;
@@ -23,7 +23,7 @@ use std::sync::Wait;
 use std::thread::Threads;
 
 impl<'t, B: Berth> Members<'t, B> {
-    /// Drains and starts the leaves, wave by wave, and tells the watches. Err is want of memory: for the plan, before
+    /// Drains and starts the leaves, wave by wave, and tells the watches. Err if memory runs out: for the plan, before
     /// any leaf is drained; or only for the lines.
     pub fn rollover<R: Wait + Threads + Sync, G: Gate>(
         &mut self,
@@ -39,8 +39,11 @@ impl<'t, B: Berth> Members<'t, B> {
         requires high { percent ≤ 100 }
         ensures members { AreMembers self.new }
         ensures same { SameFleet self.old self.new }
-        ensures plays { PlaysWith B.meaning (fleet_in self.old) (Rollover percent) (holds_in self.old) (map (λ watch. held watch) watches.old.items) result (holds_in self.new) (map (λ watch. held watch) watches.new.items)
-            ⊎ (IsErr result × (holds_in self.new ≡ holds_in self.old) × (map (λ watch. held watch) watches.new.items ≡ map (λ watch. held watch) watches.old.items)) }
+        ensures plays { PlaysOrder B.meaning (fleet_in self.old) (Rollover percent) (holds_in self.old)
+            (map (λ watch. held watch) watches.old.items) result (holds_in self.new)
+            (map (λ watch. held watch) watches.new.items)
+            ⊎ (IsErr result × (holds_in self.new ≡ holds_in self.old)
+            × (map (λ watch. held watch) watches.new.items ≡ map (λ watch. held watch) watches.old.items)) }
         ensures still { StillHas (holds_in self.old) (holds_in self.new) }
         ensures time { AllPass B.meaning (holds_in self.old) (holds_in self.new) }
     {
@@ -61,12 +64,14 @@ impl<'t, B: Berth> Members<'t, B> {
         requires members { AreMembers self.old }
         requires held { (leaf : ℕ) → HasLeaf (holds_in self.old) leaf }
         requires few { length plan.now ≤ leaf_count (fleet_in self.old) }
-        requires known { AllByRecursion (λ wave. AllByRecursion (λ leaf. leaf < leaf_count (fleet_in self.old)) wave) plan.now }
-        ensures { RollsThrough B.meaning plan.now self.old (map (λ watch. held watch) watches.old.items) result.0 result.1 self.new (map (λ watch. held watch) watches.new.items) }
+        requires known { AllByRecursion (λ wave. AllByRecursion (λ leaf. leaf < leaf_count (fleet_in self.old)) wave)
+            plan.now }
+        ensures { RollsThrough B.meaning plan.now self.old (map (λ watch. held watch) watches.old.items) result.0
+            result.1 self.new (map (λ watch. held watch) watches.new.items) }
     {
         let act = |members: &mut Members<B>, number: u32, deed: Deed|
             requires { MayDo members.old number × IsRestart deed }
-            ensures { HasDone B.meaning number deed members.old result members.new }
+            ensures { DeedIsDone B.meaning number deed members.old result members.new }
         { members.deed(rt, alloc, gate, number, deed) };
         let mut fleet = Restarts::of(alloc, self.taken(alloc), &act);
         let rolled = drive(&mut fleet, plan, watches);

@@ -1,7 +1,7 @@
 // Tails: rows that go to one of the leaves.
 ghost use Rattle.std.specs.Prelude.{◌≡◌, ◌⊎◌, ◌<◌, ◌++◌, length, IfOk, IsErr, OnOk};
 ghost use Rattle.std.specs.List.{AllByRecursion};
-ghost use Rattle.leaf_model.specs.Values.{IsRow};
+ghost use Rattle.row_model.specs.Values.{IsRow};
 ghost use Rattle.leaf_table.specs.Lists.{lists_in, row};
 ghost use Rattle.aggregator.specs.Asks.{AreSeatsAt};
 ghost use Rattle.tailer.specs.Calls.{sent_to, try_seen};
@@ -22,8 +22,8 @@ use tail_picks::words_of;
 use tailer::{Sent, Tailed, Try, send};
 
 impl<'t, B: Berth> Members<'t, B> {
-    /// Sends rows to table `table` of one leaf. Gives the line of each call, and where the rows went. Err is want of
-    /// memory: no leaf was asked, or only the lines are lost.
+    /// Sends rows to table `table` of one leaf. Gives the line of each call, and where the rows went. Err if memory
+    /// runs out: no leaf was asked, or only the lines are lost.
     pub fn tail<R: Threads + Wait + Sync, G: Gate>(
         &mut self,
         rt: &R,
@@ -39,7 +39,8 @@ impl<'t, B: Berth> Members<'t, B> {
         requires rows { AllByRecursion IsRow rows.now }
         ensures members { AreMembers self.new }
         ensures same { SameFleet self.old self.new }
-        ensures tails { TailsAll B.meaning key table rows.now self.old result self.new ⊎ (IsErr result × (holds_in self.new ≡ holds_in self.old)) }
+        ensures tails { TailsAll B.meaning key table rows.now self.old result self.new
+            ⊎ (IsErr result × (holds_in self.new ≡ holds_in self.old)) }
     {
         let tailed = send_row(
             rt,
@@ -70,7 +71,8 @@ fn send_row<R: Threads + Wait + Sync, G: Gate>(
     requires seats { AreSeatsAt tables.now table (row (lists_in seats.old.items) table) }
     requires some { 0 < length tables.now }
     requires rows { AllByRecursion IsRow rows.now }
-    ensures sends { IfOk result (λ t. SendsRow tables.now table key rows.now (lists_in seats.old.items) t (lists_in seats.new.items)) }
+    ensures sends { IfOk result (λ t. SendsRow tables.now table key rows.now (lists_in seats.old.items) t
+        (lists_in seats.new.items)) }
     ensures refused { IsErr result → lists_in seats.new.items ≡ lists_in seats.old.items }
 {
     let row = &mut seats[table as usize];

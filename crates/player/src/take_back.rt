@@ -7,7 +7,7 @@ ghost use Rattle.leaf_moves.specs.Holds.{Hold};
 ghost use Rattle.leaf_moves.specs.Lanes.{JoinsTo, TakesBack};
 ghost use Rattle.leaf_deeds.specs.declared.leaf.OneLeaf.{OneLeaf};
 ghost use Rattle.player.specs.Crew.{HasSeats, SameSeats};
-ghost use Rattle.leaf_deeds.specs.Held.{berth_of, state_of};
+ghost use Rattle.leaf_deeds.specs.Held.{berth_of, leaf_state};
 ghost use Rattle.player.specs.Stage.{held_of};
 ghost use Rattle.player.specs.Members.{AreMembers, IsLeafOf, SameFleet, fleet_in, holds_in};
 ghost use Rattle.player.specs.Returning.{JoinsFrom, LeafBack, LeavesBack, MayJoin, RowsJoined};
@@ -24,7 +24,8 @@ impl<'t, B: Berth> Members<'t, B> {
     pub fn take_back(&mut self, other: Members<'t, B>)
         requires members { AreMembers self.old × AreMembers other }
         requires same { SameFleet self.old other }
-        requires leaves { (leaf : ℕ) (x y : Hold B) → slice_get (holds_in self.old) leaf ≡ Some x → slice_get (holds_in other) leaf ≡ Some y → (x.held ≡ None) ⊎ (y.held ≡ None) }
+        requires leaves { (leaf : ℕ) (x y : Hold B) → slice_get (holds_in self.old) leaf ≡ Some x
+            → slice_get (holds_in other) leaf ≡ Some y → (x.held ≡ None) ⊎ (y.held ≡ None) }
         requires seats { (table : ℕ) → table < length self.old.names → HasSeats (holds_in self.old) table }
         ensures members { AreMembers self.new }
         ensures same { SameFleet self.old self.new }
@@ -40,8 +41,10 @@ impl<'t, B: Berth> Members<'t, B> {
     pub fn take_leaves(&mut self, leaves: Vec<Option<OneLeaf<'t, B>>>)
         requires members { AreMembers self.old }
         requires count { length leaves.items ≡ leaf_count (fleet_in self.old) }
-        requires free { (leaf : ℕ) (x : Hold B) (o : Option (OneLeaf B)) → slice_get (holds_in self.old) leaf ≡ Some x → slice_get leaves.items leaf ≡ Some o → (x.held ≡ None) ⊎ (held_of o ≡ None) }
-        requires own { (leaf : ℕ) (one : OneLeaf B) → slice_get leaves.items leaf ≡ Some (Some one) → IsLeafOf self.old leaf one }
+        requires free { (leaf : ℕ) (x : Hold B) (o : Option (OneLeaf B)) → slice_get (holds_in self.old) leaf ≡ Some x
+            → slice_get leaves.items leaf ≡ Some o → (x.held ≡ None) ⊎ (held_of o ≡ None) }
+        requires own { (leaf : ℕ) (one : OneLeaf B) → slice_get leaves.items leaf ≡ Some (Some one)
+            → IsLeafOf self.old leaf one }
         ensures members { AreMembers self.new }
         ensures same { SameFleet self.old self.new }
         ensures back { LeavesBack B.meaning 0 leaves.entry.items (holds_in self.old) (holds_in self.new) }
@@ -58,7 +61,8 @@ impl<'t, B: Berth> Members<'t, B> {
     pub fn take_slot(&mut self, number: u32, slot: Option<OneLeaf<'t, B>>)
         requires members { AreMembers self.old }
         requires within { number < leaf_count (fleet_in self.old) }
-        requires free { (x : Hold B) → slice_get (holds_in self.old) number ≡ Some x → (x.held ≡ None) ⊎ (held_of slot ≡ None) }
+        requires free { (x : Hold B) → slice_get (holds_in self.old) number ≡ Some x → (x.held ≡ None)
+            ⊎ (held_of slot ≡ None) }
         requires own { (one : OneLeaf B) → slot ≡ Some one → IsLeafOf self.old number one }
         ensures members { AreMembers self.new }
         ensures same { SameFleet self.old self.new }
@@ -79,7 +83,8 @@ impl<'t, B: Berth> Members<'t, B> {
         requires own { IsLeafOf self.old number leaf }
         ensures members { AreMembers self.new }
         ensures same { SameFleet self.old self.new }
-        ensures back { LeafBack B.meaning number (Some (state_of leaf.entry, berth_of leaf.entry)) (holds_in self.old) (holds_in self.new) }
+        ensures back { LeafBack B.meaning number (Some (leaf_state leaf.entry, berth_of leaf.entry)) (holds_in self.old)
+            (holds_in self.new) }
         ensures seats { SameSeats (holds_in self.old) (holds_in self.new) }
     {
         put(&mut self.leaves[number as usize], leaf);
@@ -90,8 +95,10 @@ impl<'t, B: Berth> Members<'t, B> {
 // Joins the seats of a lane with those of the crew, table by table.
 fn join_rows(tables: &FleetTables, rows: &mut Vec<Vec<Seat>>, others: &mut Vec<Vec<Seat>>)
     requires counts { (length others.old.items ≡ length rows.old.items) × (length rows.old.items ≤ 16) }
-    requires may { (table : ℕ) → table < length rows.old.items → MayJoin tables.now table (row (lists_in rows.old.items) table) (row (lists_in others.old.items) table) }
-    ensures joins { RowsJoined (length rows.old.items) (lists_in rows.old.items) (lists_in others.old.items) (lists_in rows.new.items) (lists_in others.new.items) }
+    requires may { (table : ℕ) → table < length rows.old.items
+        → MayJoin tables.now table (row (lists_in rows.old.items) table) (row (lists_in others.old.items) table) }
+    ensures joins { RowsJoined (length rows.old.items) (lists_in rows.old.items) (lists_in others.old.items)
+        (lists_in rows.new.items) (lists_in others.new.items) }
 {
     for table in 0..rows.len() {
         join_row(tables, table as u32, &mut rows[table], &mut others[table]);

@@ -22,7 +22,8 @@ pub fn append_entry(
     said: Said,
 ) -> Result<(), AllocError>
     ensures put { OnOk result (out.new.items ≡ out.old.items
-        ++ (decimal leaf ++ (32 ∷ (name.now ++ (codes " #" ++ (decimal number ++ (32 ∷ (said_text said ++ 10 ∷ [])))))))) }
+        ++ (decimal leaf ++ (32 ∷ (name.now
+        ++ (codes " #" ++ (decimal number ++ (32 ∷ (said_text said ++ 10 ∷ [])))))))) }
     ensures unchanged { OnErr result (out.new.items ≡ out.old.items) }
 {
     let mut buffer = [0u8; ROOM];
@@ -91,7 +92,8 @@ fn write_said(buffer: &mut [u8; ROOM], end: usize, said: Said) -> usize
 
 fn write_added(buffer: &mut [u8; ROOM], end: usize, kept: u64, late: u64) -> usize
     requires { (52 ≤ end) × (end ≤ 176) }
-    ensures written { drop result buffer.new ≡ (codes "added " ++ (decimal kept ++ (codes " late " ++ decimal late))) ++ drop end buffer.old }
+    ensures written { drop result buffer.new ≡ (codes "added " ++ (decimal kept ++ (codes " late " ++ decimal late)))
+        ++ drop end buffer.old }
     ensures within { (result ≤ end) × (end ≤ result + 52) }
 {
     let second = write_counted(buffer, end, b" late ", late);

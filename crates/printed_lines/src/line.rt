@@ -3,7 +3,7 @@ use leaf_model::{Text, Texts};
 use leaf_words::Way;
 use rollover_plan::Wave;
 
-/// What an entry's line says after its number.
+/// The words of an entry's line after its number.
 #[derive(Clone, Copy, PartialEq, Eq)]
 pub enum Said {
     /// An add: `kept` rows were kept, and `late` rows came late.
@@ -26,7 +26,7 @@ pub enum Said {
     Handed,
 }
 
-/// A deed: what a leaf's steward is told to do.
+/// A command to a leaf's steward.
 #[derive(Clone, Copy, PartialEq, Eq)]
 pub enum Deed {
     Start,
@@ -92,7 +92,7 @@ pub enum Line {
     Tailed(Option<u32>),
     /// The standing query of this number was declared.
     Declared(u32),
-    /// What a standing query tells, as of the entry of this number.
+    /// The answer of a standing query, over the rows after the entry with this number.
     Told {
         standing: u32,
         number: u64,

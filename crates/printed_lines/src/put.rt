@@ -72,7 +72,8 @@ fn put_some(out: &mut Vec<u8>, names: &Names, lines: &[Line]) -> Result<(), Allo
 }
 
 fn append_worn(out: &mut Vec<u8>, leaf: u32, name: &str) -> Result<(), AllocError>
-    ensures put { OnOk result (out.new.items ≡ out.old.items ++ (decimal leaf ++ (32 ∷ (name.now ++ (codes " refused worn" ++ 10 ∷ []))))) }
+    ensures put { OnOk result (out.new.items ≡ out.old.items
+        ++ (decimal leaf ++ (32 ∷ (name.now ++ (codes " refused worn" ++ 10 ∷ []))))) }
     ensures unchanged { OnErr result (out.new.items ≡ out.old.items) }
 {
     let text = format!(in *out.allocator(); "{leaf} {name} refused worn\n")?;
@@ -86,7 +87,10 @@ fn append_answer(
     rows: &[Text],
 ) -> Result<(), AllocError>
     ensures put { OnOk result (out.new.items ≡ out.old.items
-        ++ ((codes "answer named " ++ (decimal named ++ (codes " of " ++ (decimal leaves ++ (codes " lines " ++ (decimal (length rows.now) ++ 10 ∷ [])))))) ++ flat_map row_line rows.now)) }
+        ++ ((codes "answer named "
+        ++ (decimal named ++ (codes " of "
+        ++ (decimal leaves ++ (codes " lines " ++ (decimal (length rows.now) ++ 10 ∷ []))))))
+        ++ flat_map row_line rows.now)) }
     ensures unchanged { OnErr result (out.new.items ≡ out.old.items) }
 {
     let mut answer = head_bytes(*out.allocator(), named, leaves, rows.len())?;
@@ -95,7 +99,8 @@ fn append_answer(
 }
 
 fn head_bytes(alloc: Global, named: u64, leaves: u32, count: usize) -> Result<Vec<u8>, AllocError>
-    ensures { IfOk result (λ bytes. bytes.items ≡ codes "answer named " ++ (decimal named ++ (codes " of " ++ (decimal leaves ++ (codes " lines " ++ (decimal count ++ 10 ∷ [])))))) }
+    ensures { IfOk result (λ bytes. bytes.items ≡ codes "answer named "
+        ++ (decimal named ++ (codes " of " ++ (decimal leaves ++ (codes " lines " ++ (decimal count ++ 10 ∷ [])))))) }
 {
     let text = format!(in alloc; "answer named {named} of {leaves} lines {count}\n")?;
     Ok(text.into_bytes())
@@ -134,7 +139,9 @@ fn append_told(
     rows: &[Text],
 ) -> Result<(), AllocError>
     ensures put { OnOk result (out.new.items ≡ out.old.items
-        ++ ((codes "standing " ++ (decimal standing ++ (codes " at #" ++ (decimal number ++ (codes " lines " ++ (decimal (length rows.now) ++ 10 ∷ [])))))) ++ flat_map row_line rows.now)) }
+        ++ ((codes "standing " ++ (decimal standing
+        ++ (codes " at #" ++ (decimal number ++ (codes " lines " ++ (decimal (length rows.now) ++ 10 ∷ []))))))
+        ++ flat_map row_line rows.now)) }
     ensures unchanged { OnErr result (out.new.items ≡ out.old.items) }
 {
     let mut told = told_bytes(*out.allocator(), standing, number, rows.len())?;
@@ -148,14 +155,17 @@ fn told_bytes(
     number: u64,
     count: usize,
 ) -> Result<Vec<u8>, AllocError>
-    ensures { IfOk result (λ bytes. bytes.items ≡ codes "standing " ++ (decimal standing ++ (codes " at #" ++ (decimal number ++ (codes " lines " ++ (decimal count ++ 10 ∷ [])))))) }
+    ensures { IfOk result (λ bytes. bytes.items ≡ codes "standing "
+        ++ (decimal standing ++ (codes " at #"
+        ++ (decimal number ++ (codes " lines " ++ (decimal count ++ 10 ∷ [])))))) }
 {
     let text = format!(in alloc; "standing {standing} at #{number} lines {count}\n")?;
     Ok(text.into_bytes())
 }
 
 fn append_untold(out: &mut Vec<u8>, standing: u32, why: WhyUntold) -> Result<(), AllocError>
-    ensures put { OnOk result (out.new.items ≡ out.old.items ++ (codes "standing " ++ (decimal standing ++ (32 ∷ (untold_word why ++ 10 ∷ []))))) }
+    ensures put { OnOk result (out.new.items ≡ out.old.items
+        ++ (codes "standing " ++ (decimal standing ++ (32 ∷ (untold_word why ++ 10 ∷ []))))) }
     ensures unchanged { OnErr result (out.new.items ≡ out.old.items) }
 {
     let why = untold_str(why);
@@ -171,7 +181,8 @@ fn append_ended(
     ending: &Ending,
 ) -> Result<(), AllocError>
     requires { EndsOf names.now ending.now }
-    ensures put { OnOk result (out.new.items ≡ out.old.items ++ (deed_text deed ++ (32 ∷ (decimal leaf ++ (32 ∷ (ending_text names.now ending.now ++ 10 ∷ [])))))) }
+    ensures put { OnOk result (out.new.items ≡ out.old.items
+        ++ (deed_text deed ++ (32 ∷ (decimal leaf ++ (32 ∷ (ending_text names.now ending.now ++ 10 ∷ [])))))) }
     ensures unchanged { OnErr result (out.new.items ≡ out.old.items) }
 {
     let alloc = *out.allocator();
@@ -218,7 +229,8 @@ fn put_leaf(out: &mut Vec<u8>, leaf: u32) -> Result<(), AllocError>
 }
 
 fn append_rolled(out: &mut Vec<u8>, halted: bool, waves: u32, of: u32) -> Result<(), AllocError>
-    ensures put { OnOk result (out.new.items ≡ out.old.items ++ (codes "rollover " ++ ((if halted then codes "halted " else codes "done ")
+    ensures put { OnOk result (out.new.items ≡ out.old.items
+        ++ (codes "rollover " ++ ((if halted then codes "halted " else codes "done ")
         ++ (decimal waves ++ (codes " of " ++ (decimal of ++ 10 ∷ [])))))) }
     ensures unchanged { OnErr result (out.new.items ≡ out.old.items) }
 {

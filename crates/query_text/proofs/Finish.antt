@@ -3,7 +3,7 @@ use Rattle.std.proofs.Common.{◌≡◌, ℕ, suc, zero, ◌+◌, ◌<◌, ◌�
 use Rattle.std.specs.Prelude.{codes, slice_get}
 use Rattle.std.specs.List.{list_any, position_from}
 use Rattle.std.proofs.lemmas.Bool.{le-ltb, ltb-true, false≢true}
-use Rattle.leaf_model.specs.declared.rows.Value.TheVariants as value
+use Rattle.row_model.specs.declared.rows.Value.TheVariants as value
 use Rattle.leaf_model.specs.declared.queries.Op.{Op}
 use Rattle.leaf_model.specs.declared.queries.Op.TheVariants.{Eq, Le, Ge}
 use Rattle.leaf_model.specs.declared.queries.Agg.{Agg}
@@ -11,11 +11,11 @@ use Rattle.leaf_model.specs.declared.queries.Agg.TheVariants as agg
 use Rattle.leaf_model.specs.declared.queries.Query.{Query}
 use Rattle.query_text.specs.declared.tokens.Token.{Token}
 use Rattle.query_text.specs.declared.tokens.Token.TheVariants as token
-use Rattle.query_text.specs.declared.places.Kind.{Kind}
-use Rattle.query_text.specs.declared.places.Kind.TheVariants as kind
+use Rattle.query_text.specs.declared.places.AggWord.{AggWord}
+use Rattle.query_text.specs.declared.places.AggWord.TheVariants as kind
 use Rattle.query_text.specs.declared.places.Place.{Place}
 use Rattle.query_text.specs.declared.places.Place.TheVariants.{Select, Item, NameEnd, Opening, Inside, Closing, AggEnd, NextAgg, Table, Where, LowTime, LowSign, LowBound, And, HighTime, HighSign, HighBound, CondEnd, CondName, CondOp, CondValue, By, GroupName, GroupEnd, OrderBy, OrderAgg, OrderOpening, OrderInside, OrderClosing, Ordered, LimitNumber, Last}
-use Rattle.query_text.specs.Roles.{kind_of, has_kind, is_orderable, same_agg, agg_inside, const_of, const_for, text_of, is_has}
+use Rattle.query_text.specs.Roles.{agg_word_of, has_kind, is_orderable, same_agg, agg_inside, const_of, const_for, text_of_token, is_has}
 use Rattle.query_text.specs.Reading.{may_end, has_keys, with_agg, with_cond}
 use Rattle.query_text.proofs.Plain.{reads}
 use Rattle.query_text.proofs.Found.{same_bytes}
@@ -76,7 +76,7 @@ inside_token (agg.Min n) = token.Name n
 inside_token (agg.Max n) = token.Name n
 inside_token (agg.Avg n) = token.Name n
 
-inside_gives : (k : Kind) (a : Agg) → has_kind k a ≡ true → agg_inside k (inside_token a) ≡ Some a
+inside_gives : (k : AggWord) (a : Agg) → has_kind k a ≡ true → agg_inside k (inside_token a) ≡ Some a
 inside_gives kind.Count agg.Count h = refl
 inside_gives kind.Count (agg.Sum n) h = absurd (false≢true h)
 inside_gives kind.Count (agg.Min n) h = absurd (false≢true h)
@@ -99,15 +99,15 @@ inside_gives kind.Max (agg.Max n) h = refl
 inside_gives kind.Max (agg.Avg n) h = absurd (false≢true h)
 inside_gives kind.Avg a h = absurd (false≢true h)
 
-finish_order_inside : (q : Query) (k : Kind) → list_any (has_kind k) q.aggs ≡ true → Finish q (OrderInside k)
+finish_order_inside : (q : Query) (k : AggWord) → list_any (has_kind k) q.aggs ≡ true → Finish q (OrderInside k)
 finish_order_inside q k h =
     let p = pick (has_kind k) 0 q.aggs h in
     finish_with (inside_token p.a) q q (OrderInside k) (OrderClosing p.at) (λ ts. rw (inside_gives k p.a p.passes, p.first) refl) (finish_order_closing q p.at)
 
-finish_order_opening : (q : Query) (k : Kind) → list_any (has_kind k) q.aggs ≡ true → Finish q (OrderOpening k)
+finish_order_opening : (q : Query) (k : AggWord) → list_any (has_kind k) q.aggs ≡ true → Finish q (OrderOpening k)
 finish_order_opening q k h = finish_with token.Open q q (OrderOpening k) (OrderInside k) (λ ts. refl) (finish_order_inside q k h)
 
-kind_at : (q : Query) (k : Kind) → list_any (has_kind k) q.aggs ≡ true → kind_of (token.Word (kind_word k)) ≡ Some k → Finish q OrderAgg
+kind_at : (q : Query) (k : AggWord) → list_any (has_kind k) q.aggs ≡ true → agg_word_of (token.Word (kind_word k)) ≡ Some k → Finish q OrderAgg
 kind_at q k h e = finish_with (token.Word (kind_word k)) q q OrderAgg (OrderOpening k) (λ ts. rw (e, h) refl) (finish_order_opening q k h)
 
 or_right : (x y : Bool) → y ≡ true → (x || y) ≡ true
@@ -115,7 +115,7 @@ or_right true y h = refl
 or_right false y h = h
 
 -- the kind of an aggregate that ORDER BY takes
-abbrev kind_of_agg : Agg → Kind
+abbrev kind_of_agg : Agg → AggWord
 kind_of_agg agg.Count = kind.Count
 kind_of_agg (agg.Sum n) = kind.Sum
 kind_of_agg (agg.Min n) = kind.Min
@@ -129,19 +129,19 @@ own_kind (agg.Min n) h = refl
 own_kind (agg.Max n) h = refl
 own_kind (agg.Avg n) h = absurd (false≢true h)
 
-word_kind : (k : Kind) → kind_of (token.Word (kind_word k)) ≡ Some k
+word_kind : (k : AggWord) → agg_word_of (token.Word (kind_word k)) ≡ Some k
 word_kind kind.Count = refl
 word_kind kind.Sum = refl
 word_kind kind.Min = refl
 word_kind kind.Max = refl
 word_kind kind.Avg = refl
 
-some_kind_by : (b : Agg) (aggs : List Agg) (t : Bool) → is_orderable b ≡ t → (list_any is_orderable aggs ≡ true → (k : Kind) × (list_any (has_kind k) aggs ≡ true)) → (t || list_any is_orderable aggs) ≡ true
-    → (k : Kind) × (list_any (has_kind k) (b ∷ aggs) ≡ true)
+some_kind_by : (b : Agg) (aggs : List Agg) (t : Bool) → is_orderable b ≡ t → (list_any is_orderable aggs ≡ true → (k : AggWord) × (list_any (has_kind k) aggs ≡ true)) → (t || list_any is_orderable aggs) ≡ true
+    → (k : AggWord) × (list_any (has_kind k) (b ∷ aggs) ≡ true)
 some_kind_by b aggs true e rec h = (kind_of_agg b, rw (own_kind b e) refl)
 some_kind_by b aggs false e rec h = let k = rec h in (k.0, or_right (has_kind k.0 b) (list_any (has_kind k.0) aggs) k.1)
 
-some_kind : (aggs : List Agg) → list_any is_orderable aggs ≡ true → (k : Kind) × (list_any (has_kind k) aggs ≡ true)
+some_kind : (aggs : List Agg) → list_any is_orderable aggs ≡ true → (k : AggWord) × (list_any (has_kind k) aggs ≡ true)
 some_kind [] h = absurd (false≢true h)
 some_kind (b ∷ aggs) h = some_kind_by b aggs (is_orderable b) refl (λ k. some_kind aggs k) h
 
@@ -187,7 +187,7 @@ finish_conds : (q : Query) → Finish q CondEnd
 finish_conds q = cond_end_by (has_keys q) q refl
 
 -- every operator takes a text
-text_by : (b : Bool) → (if b then text_of (token.Text []) else const_of (token.Text [])) ≡ Some (value.Text [])
+text_by : (b : Bool) → (if b then text_of_token (token.Text []) else const_of (token.Text [])) ≡ Some (value.Text [])
 text_by true = refl
 text_by false = refl
 
@@ -233,14 +233,14 @@ finish_agg_end q = finish_with (token.Word (codes "FROM")) q q AggEnd Table (λ 
 finish_closing : (q : Query) (a : Agg) → Finish q (Closing a)
 finish_closing q a = finish_with token.Close q (with_agg q a) (Closing a) AggEnd (λ ts. refl) (finish_agg_end (with_agg q a))
 
-finish_inside : (q : Query) (k : Kind) → Finish q (Inside k)
+finish_inside : (q : Query) (k : AggWord) → Finish q (Inside k)
 finish_inside q kind.Count = finish_with token.Star q q (Inside kind.Count) (Closing agg.Count) (λ ts. refl) (finish_closing q agg.Count)
 finish_inside q kind.Sum = finish_with (token.Name (codes "v")) q q (Inside kind.Sum) (Closing (agg.Sum (codes "v"))) (λ ts. refl) (finish_closing q (agg.Sum (codes "v")))
 finish_inside q kind.Min = finish_with (token.Name (codes "v")) q q (Inside kind.Min) (Closing (agg.Min (codes "v"))) (λ ts. refl) (finish_closing q (agg.Min (codes "v")))
 finish_inside q kind.Max = finish_with (token.Name (codes "v")) q q (Inside kind.Max) (Closing (agg.Max (codes "v"))) (λ ts. refl) (finish_closing q (agg.Max (codes "v")))
 finish_inside q kind.Avg = finish_with (token.Name (codes "v")) q q (Inside kind.Avg) (Closing (agg.Avg (codes "v"))) (λ ts. refl) (finish_closing q (agg.Avg (codes "v")))
 
-finish_opening : (q : Query) (k : Kind) → Finish q (Opening k)
+finish_opening : (q : Query) (k : AggWord) → Finish q (Opening k)
 finish_opening q k = finish_with token.Open q q (Opening k) (Inside k) (λ ts. refl) (finish_inside q k)
 
 finish_item : (q : Query) → Finish q Item

@@ -5,8 +5,8 @@ use Rattle.std.specs.List.{list_any, position_from}
 use Rattle.std.proofs.lemmas.Bool.{le-leb, lt-ltb, le-ltb, true≢false, false≢true}
 use Rattle.std.proofs.lemmas.Slice.Eq.{bytes_eq-Decides}
 use Rattle.std.proofs.lemmas.List.{append_assoc, append-nil, length-append}
-use Rattle.leaf_model.specs.declared.rows.Value.{Value}
-use Rattle.leaf_model.specs.declared.rows.Value.TheVariants as value
+use Rattle.row_model.specs.declared.rows.Value.{Value}
+use Rattle.row_model.specs.declared.rows.Value.TheVariants as value
 use Rattle.leaf_model.specs.declared.queries.Op.TheVariants.{Le, Ge}
 use Rattle.leaf_model.specs.declared.queries.Op.{Op}
 use Rattle.leaf_model.specs.declared.queries.Cond.{Cond}
@@ -15,13 +15,13 @@ use Rattle.leaf_model.specs.declared.queries.Agg.TheVariants as agg
 use Rattle.leaf_model.specs.declared.queries.Query.{Query}
 use Rattle.query_text.specs.declared.tokens.Token.{Token}
 use Rattle.query_text.specs.declared.tokens.Token.TheVariants as token
-use Rattle.query_text.specs.declared.places.Kind.{Kind}
-use Rattle.query_text.specs.declared.places.Kind.TheVariants as kind
+use Rattle.query_text.specs.declared.places.AggWord.{AggWord}
+use Rattle.query_text.specs.declared.places.AggWord.TheVariants as kind
 use Rattle.query_text.specs.declared.places.Place.{Place}
 use Rattle.query_text.specs.declared.places.Place.TheVariants.{Select, Item, Opening, AggEnd, NextAgg, CondEnd, GroupEnd, OrderAgg, Ordered}
 use Rattle.query_text.specs.declared.places.Move.TheVariants.{On}
-use Rattle.leaf_model.specs.Names.{is_table_name}
-use Rattle.query_text.specs.Roles.{name_of, const_of, const_for, text_of, is_has, kind_of, is_keyword, has_kind, is_orderable, same_agg, agg_inside}
+use Rattle.row_model.specs.Names.{is_table_name}
+use Rattle.query_text.specs.Roles.{name_of_token, const_of, const_for, text_of_token, is_has, agg_word_of, is_keyword, has_kind, is_orderable, same_agg, agg_inside}
 use Rattle.query_text.specs.Reading.{goes_on, may_end, order_or_limit, nothing_read, with_agg}
 use Rattle.query_text.specs.Printing.{ordering_agg}
 use Rattle.query_text.specs.Grammar.{Sign, Says, Spells, TheName, Exactly, keyword, int, IsOrder, IsSpelled, agg_signs, names_signs, more_aggs_signs, aggs_signs, range_signs, conds_signs, more_names_signs, group_signs, order_signs, limit_signs, const_sign, text_sign, asked_sign}
@@ -84,7 +84,7 @@ word_is_name : (w name : List ℕ) (b : Bool) → (if b then None else Some w) �
 word_is_name w name true h = absurd (None≢Some h)
 word_is_name w name false h = (refl, some_same h)
 
-pub name_word : (w name : List ℕ) → name_of (token.Word w) ≡ Some name → ((is_keyword w ≡ false) × (nat_lt 255 (length w) ≡ false)) × (w ≡ name)
+pub name_word : (w name : List ℕ) → name_of_token (token.Word w) ≡ Some name → ((is_keyword w ≡ false) × (nat_lt 255 (length w) ≡ false)) × (w ≡ name)
 name_word w name h =
     let both = word_is_name w name (is_keyword w || nat_lt 255 (length w)) h in
     (or_false (is_keyword w) (nat_lt 255 (length w)) both.0, both.1)
@@ -107,7 +107,7 @@ kinds_none false false false false false false false false false false false fal
 kinds_none false false false false false false false false false false false false false h = refl
 
 -- a token that gives a name begins no aggregate
-pub name_no_kind : (t : Token) (name : List ℕ) → name_of t ≡ Some name → kind_of t ≡ None
+pub name_no_kind : (t : Token) (name : List ℕ) → name_of_token t ≡ Some name → agg_word_of t ≡ None
 name_no_kind (token.Word w) name h =
     kinds_none (bytes_eq w (codes "SELECT")) (bytes_eq w (codes "FROM")) (bytes_eq w (codes "WHERE")) (bytes_eq w (codes "AND")) (bytes_eq w (codes "GROUP")) (bytes_eq w (codes "BY"))
     (bytes_eq w (codes "ORDER")) (bytes_eq w (codes "LIMIT")) (bytes_eq w (codes "COUNT")) (bytes_eq w (codes "SUM")) (bytes_eq w (codes "MIN")) (bytes_eq w (codes "MAX")) (bytes_eq w (codes "AVG"))
@@ -158,10 +158,10 @@ found_limit_at table from to conds keys aggs place true n (t ∷ u ∷ v ∷ ts)
 
 -- where an aggregate may begin
 abbrev pub IsStart : Query → Place → Type 0
-IsStart s place = (k : Kind) (t : Token) → kind_of t ≡ Some k → goes_on s place t ≡ On s (Opening k)
+IsStart s place = (k : AggWord) (t : Token) → agg_word_of t ≡ Some k → goes_on s place t ≡ On s (Opening k)
 
-found_call : (s r : Query) (place : Place) (word name : List ℕ) (k : Kind) (a : Agg) (further : List Sign) (ts : List Token)
-    → IsStart s place → kind_of (token.Word word) ≡ Some k → ((t : Token) → name_of t ≡ Some name → agg_inside k t ≡ Some a)
+found_call : (s r : Query) (place : Place) (word name : List ℕ) (k : AggWord) (a : Agg) (further : List Sign) (ts : List Token)
+    → IsStart s place → agg_word_of (token.Word word) ≡ Some k → ((t : Token) → name_of_token t ≡ Some name → agg_inside k t ≡ Some a)
     → Spells (keyword word ∷ Exactly token.Open ∷ TheName name ∷ Exactly token.Close ∷ further) ts
     → ((us : List Token) → Spells further us → reads (with_agg s a) AggEnd us ≡ Some r) → reads s place ts ≡ Some r
 found_call s r place word name k a further ts start kind inside h next =
@@ -224,12 +224,12 @@ const_says (value.Int n) t h = rw h refl
 const_says (value.Text x) t h = rw h refl
 const_says (value.Set members) t h = absurd h
 
-text_says : (v : Value) (t : Token) → Says (text_sign v) t → text_of t ≡ Some v
+text_says : (v : Value) (t : Token) → Says (text_sign v) t → text_of_token t ≡ Some v
 text_says (value.Int n) t h = absurd h
 text_says (value.Text x) t h = rw h refl
 text_says (value.Set members) t h = absurd h
 
-asked_by : (b : Bool) (v : Value) (t : Token) → Says (if b then text_sign v else const_sign v) t → (if b then text_of t else const_of t) ≡ Some v
+asked_by : (b : Bool) (v : Value) (t : Token) → Says (if b then text_sign v else const_sign v) t → (if b then text_of_token t else const_of t) ≡ Some v
 asked_by true v t h = text_says v t h
 asked_by false v t h = const_says v t h
 
@@ -319,8 +319,8 @@ any_at p (b ∷ aggs) (suc i) a there h = any_or (p b) (any_at p aggs i a there 
     any_or true e = refl
     any_or false e = e
 
-found_order_call : (s r : Query) (i : ℕ) (word name : List ℕ) (k : Kind) (a : Agg) (further : List Sign) (ts : List Token)
-    → kind_of (token.Word word) ≡ Some k → ((t : Token) → name_of t ≡ Some name → agg_inside k t ≡ Some a)
+found_order_call : (s r : Query) (i : ℕ) (word name : List ℕ) (k : AggWord) (a : Agg) (further : List Sign) (ts : List Token)
+    → agg_word_of (token.Word word) ≡ Some k → ((t : Token) → name_of_token t ≡ Some name → agg_inside k t ≡ Some a)
     → slice_get s.aggs i ≡ Some a → has_kind k a ≡ true → position_from (same_agg a) 0 s.aggs ≡ Some i
     → Spells (keyword word ∷ Exactly token.Open ∷ TheName name ∷ Exactly token.Close ∷ further) ts
     → ((us : List Token) → Spells further us → reads (record s { order = Some i }) Ordered us ≡ Some r) → reads s OrderAgg ts ≡ Some r

@@ -3,8 +3,8 @@ use Rattle.std.proofs.Common.{◌≡◌, ℕ, ◌≤◌, Bool, true, false, List
 use Rattle.std.specs.Prelude.{codes, bytes_eq, option_map}
 use Rattle.std.proofs.lemmas.Bool.{leb-true, true≢false, false≢true}
 use Rattle.std.proofs.lemmas.Slice.Eq.{bytes_eq-Decides}
-use Rattle.leaf_model.specs.declared.rows.Value.{Value}
-use Rattle.leaf_model.specs.declared.rows.Value.TheVariants as value
+use Rattle.row_model.specs.declared.rows.Value.{Value}
+use Rattle.row_model.specs.declared.rows.Value.TheVariants as value
 use Rattle.leaf_model.specs.declared.queries.Op.{Op}
 use Rattle.leaf_model.specs.declared.queries.Op.TheVariants.{Le, Ge}
 use Rattle.leaf_model.specs.declared.queries.Agg.{Agg}
@@ -12,12 +12,12 @@ use Rattle.leaf_model.specs.declared.queries.Agg.TheVariants as agg
 use Rattle.leaf_model.specs.declared.queries.Query.{Query}
 use Rattle.query_text.specs.declared.tokens.Token.{Token}
 use Rattle.query_text.specs.declared.tokens.Token.TheVariants as token
-use Rattle.query_text.specs.declared.places.Kind.{Kind}
-use Rattle.query_text.specs.declared.places.Kind.TheVariants as kind
+use Rattle.query_text.specs.declared.places.AggWord.{AggWord}
+use Rattle.query_text.specs.declared.places.AggWord.TheVariants as kind
 use Rattle.query_text.specs.declared.places.Place.{Place}
 use Rattle.query_text.specs.declared.places.Move.TheVariants.{On, Stuck}
-use Rattle.leaf_model.specs.Names.{is_table_name}
-use Rattle.query_text.specs.Roles.{name_of, const_of, const_for, text_of, is_has, kind_of, op_of, int_of, limit_from, table_of, is_word, is_mark, same_agg, agg_inside}
+use Rattle.row_model.specs.Names.{is_table_name}
+use Rattle.query_text.specs.Roles.{name_of_token, const_of, const_for, text_of_token, is_has, agg_word_of, op_of, int_of, limit_from, table_of_token, is_word, is_mark, same_agg, agg_inside}
 use Rattle.query_text.specs.Reading.{goes_on, may_end, on_if, goes_with, sign_fits}
 use Rattle.query_text.specs.Grammar.{Sign, Says, Spells, agg_signs, const_sign, text_sign, asked_sign}
 use Rattle.query_text.proofs.Plain.{reads, moved}
@@ -119,7 +119,7 @@ table_by : (b : Bool) (w name : List ℕ) → is_table_name w ≡ b → (if b th
 table_by true w name e h = (some_same h, rw (sym (some_same h)) e)
 table_by false w name e h = absurd (None≢Some h)
 
-pub the_table : (t : Token) (name : List ℕ) → table_of t ≡ Some name → (t ≡ token.Word name) × (is_table_name name ≡ true)
+pub the_table : (t : Token) (name : List ℕ) → table_of_token t ≡ Some name → (t ≡ token.Word name) × (is_table_name name ≡ true)
 the_table (token.Word w) name h = let both = table_by (is_table_name w) w name refl h in (ap token.Word both.0, both.1)
 the_table t name h = absurd (None≢Some h)
 
@@ -176,7 +176,7 @@ the_const token.Star v h = absurd (None≢Some h)
 the_const (token.Compare o) v h = absurd (None≢Some h)
 the_const token.Stray v h = absurd (None≢Some h)
 
-pub the_text : (t : Token) (v : Value) → text_of t ≡ Some v → Says (text_sign v) t
+pub the_text : (t : Token) (v : Value) → text_of_token t ≡ Some v → Says (text_sign v) t
 the_text (token.Text n) (value.Text m) h = ap token.Text (ap text_in h)
   where
     text_in : Option Value → List ℕ
@@ -202,7 +202,7 @@ the_text token.Star v h = absurd (None≢Some h)
 the_text (token.Compare o) v h = absurd (None≢Some h)
 the_text token.Stray v h = absurd (None≢Some h)
 
-the_asked_by : (b : Bool) (t : Token) (v : Value) → (if b then text_of t else const_of t) ≡ Some v → Says (if b then text_sign v else const_sign v) t
+the_asked_by : (b : Bool) (t : Token) (v : Value) → (if b then text_of_token t else const_of t) ≡ Some v → Says (if b then text_sign v else const_sign v) t
 the_asked_by true t v h = the_text t v h
 the_asked_by false t v h = the_const t v h
 
@@ -211,14 +211,14 @@ the_asked op t v h = the_asked_by (is_has op) t v h
 
 -- ---- aggregates
 
-abbrev pub kind_word : Kind → List ℕ
+abbrev pub kind_word : AggWord → List ℕ
 kind_word kind.Count = codes "COUNT"
 kind_word kind.Sum = codes "SUM"
 kind_word kind.Min = codes "MIN"
 kind_word kind.Max = codes "MAX"
 kind_word kind.Avg = codes "AVG"
 
-kind_by : (c u m x v : Bool) (w : List ℕ) (k : Kind) → bytes_eq w (codes "COUNT") ≡ c → bytes_eq w (codes "SUM") ≡ u → bytes_eq w (codes "MIN") ≡ m → bytes_eq w (codes "MAX") ≡ x → bytes_eq w (codes "AVG") ≡ v
+kind_by : (c u m x v : Bool) (w : List ℕ) (k : AggWord) → bytes_eq w (codes "COUNT") ≡ c → bytes_eq w (codes "SUM") ≡ u → bytes_eq w (codes "MIN") ≡ m → bytes_eq w (codes "MAX") ≡ x → bytes_eq w (codes "AVG") ≡ v
     → (if c then Some kind.Count else (if u then Some kind.Sum else (if m then Some kind.Min else (if x then Some kind.Max else (if v then Some kind.Avg else None))))) ≡ Some k → w ≡ kind_word k
 kind_by true u m x v w k ec eu em ex ev h = (bytes_eq-Decides w (codes "COUNT")).0 ec ∙ ap kind_word (some_same h)
 kind_by false true m x v w k ec eu em ex ev h = (bytes_eq-Decides w (codes "SUM")).0 eu ∙ ap kind_word (some_same h)
@@ -227,7 +227,7 @@ kind_by false false false true v w k ec eu em ex ev h = (bytes_eq-Decides w (cod
 kind_by false false false false true w k ec eu em ex ev h = (bytes_eq-Decides w (codes "AVG")).0 ev ∙ ap kind_word (some_same h)
 kind_by false false false false false w k ec eu em ex ev h = absurd (None≢Some h)
 
-pub the_kind : (t : Token) (k : Kind) → kind_of t ≡ Some k → t ≡ token.Word (kind_word k)
+pub the_kind : (t : Token) (k : AggWord) → agg_word_of t ≡ Some k → t ≡ token.Word (kind_word k)
 the_kind (token.Word w) k h = ap token.Word (kind_by _ _ _ _ _ w k refl refl refl refl refl h)
 the_kind (token.Name n) k h = absurd (None≢Some h)
 the_kind (token.Text n) k h = absurd (None≢Some h)
@@ -244,21 +244,21 @@ star_by : (b : Bool) (t : Token) (a : Agg) (S : List Sign) (us : List Token) →
 star_by true t a S us e h k = subst (λ b. Spells (agg_signs b S) (token.Word (codes "COUNT") ∷ token.Open ∷ t ∷ token.Close ∷ us)) (some_same h) (refl, (refl, (the_star t e, (refl, k))))
 star_by false t a S us e h k = absurd (None≢Some h)
 
-named_by : (o : Option (List ℕ)) (make : List ℕ → Agg) (kind : Kind) (t : Token) (a : Agg) (S : List Sign) (us : List Token) → name_of t ≡ o
-    → ((name : List ℕ) → name_of t ≡ Some name → Spells S us → Spells (agg_signs (make name) S) (token.Word (kind_word kind) ∷ token.Open ∷ t ∷ token.Close ∷ us))
+named_by : (o : Option (List ℕ)) (make : List ℕ → Agg) (kind : AggWord) (t : Token) (a : Agg) (S : List Sign) (us : List Token) → name_of_token t ≡ o
+    → ((name : List ℕ) → name_of_token t ≡ Some name → Spells S us → Spells (agg_signs (make name) S) (token.Word (kind_word kind) ∷ token.Open ∷ t ∷ token.Close ∷ us))
     → option_map make o ≡ Some a → Spells S us → Spells (agg_signs a S) (token.Word (kind_word kind) ∷ token.Open ∷ t ∷ token.Close ∷ us)
 named_by None make kind t a S us e spell h k = absurd (None≢Some h)
 named_by (Some name) make kind t a S us e spell h k =
     subst (λ b. Spells (agg_signs b S) (token.Word (kind_word kind) ∷ token.Open ∷ t ∷ token.Close ∷ us)) (some_same h) (spell name e k)
 
 -- what stands between the parentheses gives the aggregate
-pub inside_spells : (k : Kind) (t : Token) (a : Agg) (S : List Sign) (us : List Token) → agg_inside k t ≡ Some a → Spells S us
+pub inside_spells : (k : AggWord) (t : Token) (a : Agg) (S : List Sign) (us : List Token) → agg_inside k t ≡ Some a → Spells S us
     → Spells (agg_signs a S) (token.Word (kind_word k) ∷ token.Open ∷ t ∷ token.Close ∷ us)
 inside_spells kind.Count t a S us h k = star_by (is_mark token.Star t) t a S us refl h k
-inside_spells kind.Sum t a S us h k = named_by (name_of t) agg.Sum kind.Sum t a S us refl (λ n e g. (refl, (refl, (e, (refl, g))))) h k
-inside_spells kind.Min t a S us h k = named_by (name_of t) agg.Min kind.Min t a S us refl (λ n e g. (refl, (refl, (e, (refl, g))))) h k
-inside_spells kind.Max t a S us h k = named_by (name_of t) agg.Max kind.Max t a S us refl (λ n e g. (refl, (refl, (e, (refl, g))))) h k
-inside_spells kind.Avg t a S us h k = named_by (name_of t) agg.Avg kind.Avg t a S us refl (λ n e g. (refl, (refl, (e, (refl, g))))) h k
+inside_spells kind.Sum t a S us h k = named_by (name_of_token t) agg.Sum kind.Sum t a S us refl (λ n e g. (refl, (refl, (e, (refl, g))))) h k
+inside_spells kind.Min t a S us h k = named_by (name_of_token t) agg.Min kind.Min t a S us refl (λ n e g. (refl, (refl, (e, (refl, g))))) h k
+inside_spells kind.Max t a S us h k = named_by (name_of_token t) agg.Max kind.Max t a S us refl (λ n e g. (refl, (refl, (e, (refl, g))))) h k
+inside_spells kind.Avg t a S us h k = named_by (name_of_token t) agg.Avg kind.Avg t a S us refl (λ n e g. (refl, (refl, (e, (refl, g))))) h k
 
 pub same_aggs : (a b : Agg) → same_agg a b ≡ true → a ≡ b
 same_aggs agg.Count agg.Count h = refl

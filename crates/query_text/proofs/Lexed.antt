@@ -17,8 +17,8 @@ use Rattle.leaf_model.specs.declared.queries.Op.{Op}
 use Rattle.leaf_model.specs.declared.queries.Op.TheVariants.{Eq, Ne, Lt, Le, Gt, Ge, Has}
 use Rattle.query_text.specs.declared.tokens.Token.{Token}
 use Rattle.query_text.specs.declared.tokens.Token.TheVariants as token
-use Rattle.query_text.specs.Tokens.{Placed, tokens_from, token_with, is_blank, begins_word, goes_on_word, value_from, quote_from}
-use Rattle.query_text.specs.Roles.{is_keyword, name_of}
+use Rattle.query_text.specs.Tokens.{Placed, tokens_from, token_with, is_blank_byte, begins_word, goes_on_word, value_from, quote_from}
+use Rattle.query_text.specs.Roles.{is_keyword, name_of_token}
 use Rattle.query_text.specs.Printing.{doubled, in_quotes, is_plain, name_text, op_text}
 use Rattle.query_text.specs.Grammar.{plain_tokens}
 
@@ -27,7 +27,7 @@ use Rattle.query_text.specs.Grammar.{plain_tokens}
 abbrev pub lexed : ℕ → List ℕ → List Token
 lexed passed [] = []
 lexed (suc passed) (b ∷ rest) = lexed passed rest
-lexed zero (b ∷ rest) = if is_blank b then lexed 0 rest else ((token_with b rest).token ∷ lexed (token_with b rest).more rest)
+lexed zero (b ∷ rest) = if is_blank_byte b then lexed 0 rest else ((token_with b rest).token ∷ lexed (token_with b rest).more rest)
 
 blank_same : (t : Bool) (ps qs : List Placed) (ts us : List Token) → plain_tokens ps ≡ ts → plain_tokens qs ≡ us → plain_tokens (if t then ps else qs) ≡ (if t then ts else us)
 blank_same true ps qs ts us h k = h
@@ -37,7 +37,7 @@ pub same_tokens : (passed at : ℕ) (text : List ℕ) → plain_tokens (tokens_f
 same_tokens passed at [] = refl
 same_tokens (suc passed) at (b ∷ rest) = same_tokens passed (at + 1) rest
 same_tokens zero at (b ∷ rest) =
-    blank_same (is_blank b) (tokens_from 0 (at + 1) rest) (record { at = at; token = (token_with b rest).token } ∷ tokens_from (token_with b rest).more (at + 1) rest)
+    blank_same (is_blank_byte b) (tokens_from 0 (at + 1) rest) (record { at = at; token = (token_with b rest).token } ∷ tokens_from (token_with b rest).more (at + 1) rest)
     (lexed 0 rest) ((token_with b rest).token ∷ lexed (token_with b rest).more rest) (same_tokens 0 (at + 1) rest)
     (ap (λ ts. (token_with b rest).token ∷ ts) (same_tokens (token_with b rest).more (at + 1) rest))
 
@@ -76,7 +76,7 @@ digits_stop : (next : List ℕ) → stops next ≡ true → take_while is_ascii_
 digits_stop [] h = refl
 digits_stop (b ∷ bs) h = rw (no_digit b h) refl
 
-word_no_blank : (b : ℕ) → begins_word b ≡ true → is_blank b ≡ false
+word_no_blank : (b : ℕ) → begins_word b ≡ true → is_blank_byte b ≡ false
 word_no_blank b h = grind (arith, nat_tests)
 
 pub lexed_word : (b : ℕ) (bs next : List ℕ) → begins_word b ≡ true → list_all goes_on_word bs ≡ true → bytes_eq (b ∷ bs) (codes "HAS") ≡ false → stops next ≡ true
@@ -109,7 +109,7 @@ folds = record { empty = λ n. refl; more = λ n c cs r. refl }
 numerals : IsNumeralModel AllDigits (value_from 0)
 numerals = numerals_by_fold AllDigits digits_test value_from folds
 
-digit_no_blank : (b : ℕ) → is_ascii_digit b ≡ true → is_blank b ≡ false
+digit_no_blank : (b : ℕ) → is_ascii_digit b ≡ true → is_blank_byte b ≡ false
 digit_no_blank b h = grind (arith, nat_tests)
 
 digit_no_word : (b : ℕ) → is_ascii_digit b ≡ true → begins_word b ≡ false
@@ -191,7 +191,7 @@ pub record IsName (n : List ℕ) : Type 0 where
 
 pub record LexedName (n next : List ℕ) : Type 0 where
   pub t : Token
-  pub names : name_of t ≡ Some n
+  pub names : name_of_token t ≡ Some n
   pub is : lexed 0 (name_text n ++ next) ≡ t ∷ lexed 0 next
 
 not_true : (b : Bool) → not b ≡ true → b ≡ false
@@ -202,7 +202,7 @@ or_first : (x y : Bool) → (x || y) ≡ false → x ≡ false
 or_first true y h = absurd (false≢true (sym h))
 or_first false y h = refl
 
-lexed_plain : (n next : List ℕ) → is_plain n ≡ true → length n ≤ 255 → stops next ≡ true → (name_of (token.Word n) ≡ Some n) × (lexed 0 (n ++ next) ≡ token.Word n ∷ lexed 0 next)
+lexed_plain : (n next : List ℕ) → is_plain n ≡ true → length n ≤ 255 → stops next ≡ true → (name_of_token (token.Word n) ≡ Some n) × (lexed 0 (n ++ next) ≡ token.Word n ∷ lexed 0 next)
 lexed_plain [] next h short end = absurd (false≢true h)
 lexed_plain (b ∷ bs) next h short end =
     let first = and_parts (begins_word b) (list_all goes_on_word bs && not (is_keyword (b ∷ bs))) h in
@@ -216,7 +216,7 @@ lexed_quoted n next good end =
     rw (quote_back 34 n next (omega arith) (omega arith) end, le-leb 1 (length n) (omega (arith, some)), le-leb (length n) 255 good.short, good.utf8)
     (ap (λ ts. token.Name n ∷ ts) (pass (flat_map (doubled 34) n ++ (34 ∷ [])) next))
 
-name_by : (b : Bool) (n next : List ℕ) → is_plain n ≡ b → IsName n → stops next ≡ true → (t : Token) × ((name_of t ≡ Some n) × (lexed 0 ((if b then n else in_quotes 34 n) ++ next) ≡ t ∷ lexed 0 next))
+name_by : (b : Bool) (n next : List ℕ) → is_plain n ≡ b → IsName n → stops next ≡ true → (t : Token) × ((name_of_token t ≡ Some n) × (lexed 0 ((if b then n else in_quotes 34 n) ++ next) ≡ t ∷ lexed 0 next))
 name_by true n next e good end = let both = lexed_plain n next e good.short end in (token.Word n, (both.0, both.1))
 name_by false n next e good end = (token.Name n, (refl, lexed_quoted n next good end))
 

@@ -5,8 +5,8 @@ use Rattle.std.specs.Str.{is_utf8, IsAscii}
 use Rattle.std.proofs.lemmas.Str.{IsUtf8-from_is_utf8, IsUtf8-from_ascii}
 use Rattle.std.proofs.lemmas.List.Sums.{take_while-cons}
 use Rattle.std.proofs.lemmas.Bool.Decides.{nat_tests}
-use Rattle.query_text.specs.declared.tokens.Found.{Found}
-use Rattle.query_text.specs.Tokens.{value_from, tokens_from, token_with, is_blank, begins_word, goes_on_word}
+use Rattle.query_text.specs.declared.tokens.FoundToken.{FoundToken}
+use Rattle.query_text.specs.Tokens.{value_from, tokens_from, token_with, is_blank_byte, begins_word, goes_on_word}
 
 -- more digits make no less
 pub value_grows : (n : ℕ) (ds : List ℕ) → n ≤ value_from n ds
@@ -46,7 +46,7 @@ drop_more m (suc n) (x ∷ xs) =
     drop_more m n xs ∙ ap (λ k. drop k (x ∷ xs)) place
 
 -- a token that begins at a byte, and then the tokens behind it
-pub one_token : (text : List ℕ) (i : ℕ) (found : Found) → i < length text → is_blank (get_or text i 0) ≡ false
+pub one_token : (text : List ℕ) (i : ℕ) (found : FoundToken) → i < length text → is_blank_byte (get_or text i 0) ≡ false
     → found ≡ token_with (get_or text i 0) (drop (i + 1) text) → found.more ≤ length (drop (i + 1) text)
     → tokens_from 0 i (drop i text) ≡ record { at = i; token = found.token } ∷ tokens_from 0 (i + 1 + found.more) (drop (i + 1 + found.more) text)
 one_token text i found here solid is short =

@@ -2,7 +2,7 @@
 use Rattle.std.proofs.Common.{◌≡◌, ℕ, List, length, Result, Ok, Err, sym, ap, ◌∙◌}
 use Rattle.std.specs.Prelude.{◌↔◌, IfOk}
 use Rattle.leaf_model.specs.declared.queries.Query.{Query}
-use Rattle.leaf_model.specs.declared.query_fault.QueryFault.{QueryFault}
+use Rattle.row_model.specs.declared.query_fault.QueryFault.{QueryFault}
 use Rattle.query_text.specs.declared.places.Place.TheVariants.{Select}
 use Rattle.query_text.specs.Tokens.{tokens_of}
 use Rattle.query_text.specs.Reading.{query_of, nothing_read}

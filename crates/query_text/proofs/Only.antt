@@ -8,12 +8,12 @@ use Rattle.leaf_model.specs.declared.queries.Agg.{Agg}
 use Rattle.leaf_model.specs.declared.queries.Query.{Query}
 use Rattle.query_text.specs.declared.tokens.Token.{Token}
 use Rattle.query_text.specs.declared.tokens.Token.TheVariants as token
-use Rattle.query_text.specs.declared.places.Kind.{Kind}
+use Rattle.query_text.specs.declared.places.AggWord.{AggWord}
 use Rattle.query_text.specs.declared.places.Place.{Place}
 use Rattle.query_text.specs.declared.places.Place.TheVariants.{Select, Item, NameEnd, Opening, Inside, Closing, AggEnd, NextAgg, Table, Where, LowTime, LowSign, LowBound, And, HighTime, HighSign, HighBound, CondEnd}
 use Rattle.query_text.specs.declared.places.Move.TheVariants.{On, Stuck}
-use Rattle.leaf_model.specs.Names.{is_table_name}
-use Rattle.query_text.specs.Roles.{name_of, kind_of, op_of, int_of, table_of, is_word, is_mark, agg_inside}
+use Rattle.row_model.specs.Names.{is_table_name}
+use Rattle.query_text.specs.Roles.{name_of_token, agg_word_of, op_of, int_of, table_of_token, is_word, is_mark, agg_inside}
 use Rattle.query_text.specs.Reading.{on_if, goes_with, sign_fits, nothing_read, with_key, with_agg}
 use Rattle.query_text.specs.Grammar.{Sign, Spells, TheName, Exactly, IsQuery, IsSpelled, agg_signs, names_signs, more_aggs_signs, aggs_signs, range_signs, conds_signs, group_signs, query_signs}
 use Rattle.query_text.proofs.Plain.{reads, moved, made, selected}
@@ -41,7 +41,7 @@ pub record Ranged (keys : List (List ℕ)) (aggs : List Agg) (r : Query) (ts : L
 only_range : (keys : List (List ℕ)) (aggs : List Agg) (r : Query) (ts : List Token) → reads (selected keys aggs) Table ts ≡ Some r → Ranged keys aggs r ts
 only_range keys aggs r ts h =
     let s0 = selected keys aggs in
-    let a = give table_of (λ name. record s0 { table = name }) (λ name. Where) s0 r Table ts refl (λ t. refl) h in
+    let a = give table_of_token (λ name. record s0 { table = name }) (λ name. Where) s0 r Table ts refl (λ t. refl) h in
     let s1 = record s0 { table = a.x } in
     let b = step (is_word (codes "WHERE")) (token.Word (codes "WHERE")) (the_word (codes "WHERE")) s1 s1 r Where LowTime a.us refl (λ t. refl) a.read in
     let c = step (is_word (codes "time")) (token.Word (codes "time")) (the_word (codes "time")) s1 s1 r LowTime LowSign b.us refl (λ t. refl) b.read in
@@ -75,7 +75,7 @@ pub record Called (s r : Query) (t : Token) (ts : List Token) : Type 0 where
   pub read : reads (with_agg s a) AggEnd us ≡ Some r
   pub spells : (S : List Sign) → Spells S us → Spells (agg_signs a S) (t ∷ ts)
 
-only_call : (s r : Query) (k : Kind) (t : Token) (ts : List Token) → kind_of t ≡ Some k → reads s (Opening k) ts ≡ Some r → Called s r t ts
+only_call : (s r : Query) (k : AggWord) (t : Token) (ts : List Token) → agg_word_of t ≡ Some k → reads s (Opening k) ts ≡ Some r → Called s r t ts
 only_call s r k t ts is h =
     let f = step (is_mark token.Open) token.Open the_open s s r (Opening k) (Inside k) ts refl (λ t. refl) h in
     let g = give (λ t. agg_inside k t) (λ a. s) (λ a. Closing a) s r (Inside k) f.us refl (λ t. refl) f.read in
@@ -98,14 +98,14 @@ pub record Listed (keys : List (List ℕ)) (before : List Agg) (r : Query) (ts :
   pub read : reads (selected keys (before ++ aggs)) Table us ≡ Some r
   pub spells : (S : List Sign) → Spells S (token.Word (codes "FROM") ∷ us) → Spells (more_aggs_signs aggs S) ts
 
-kind_in : (s r : Query) (o : Option Kind) (f : Query → Place → Option Query) → moved (goes_with o (λ kind. On s (Opening kind)) Stuck) f ≡ Some r → (k : Kind) × ((o ≡ Some k) × (f s (Opening k) ≡ Some r))
+kind_in : (s r : Query) (o : Option AggWord) (f : Query → Place → Option Query) → moved (goes_with o (λ kind. On s (Opening kind)) Stuck) f ≡ Some r → (k : AggWord) × ((o ≡ Some k) × (f s (Opening k) ≡ Some r))
 kind_in s r None f h = absurd (None≢Some h)
 kind_in s r (Some k) f h = (k, (refl, h))
 
 next_agg_in : (s r : Query) (ts : List Token) → reads s NextAgg ts ≡ Some r → (t : Token) × ((us : List Token) × ((ts ≡ t ∷ us) × Called s r t us))
 next_agg_in s r [] h = absurd (None≢Some h)
 next_agg_in s r (t ∷ ts) h =
-    let q = kind_in s r (kind_of t) (λ q n. reads q n ts) h in
+    let q = kind_in s r (agg_word_of t) (λ q n. reads q n ts) h in
     (t, (ts, (refl, only_call s r q.0 t ts q.1.0 q.1.1)))
 
 listed_more : (keys : List (List ℕ)) (before : List Agg) (a : Agg) (r : Query) (us ts : List Token) → ((S : List Sign) → Spells S us → Spells (Exactly token.Comma ∷ agg_signs a S) ts)
@@ -149,7 +149,7 @@ pub record Selection (before : List (List ℕ)) (r : Query) (ts : List Token) : 
   pub read : reads (selected (before ++ names) aggs) Table us ≡ Some r
   pub spells : (S : List Sign) → Spells S (token.Word (codes "FROM") ∷ us) → Spells (names_signs names (aggs_signs aggs S)) ts
 
-item_of_kind : (before : List (List ℕ)) (r : Query) (k : Kind) (t : Token) (ts : List Token) → kind_of t ≡ Some k → reads (selected before []) (Opening k) ts ≡ Some r → Selection before r (t ∷ ts)
+item_of_kind : (before : List (List ℕ)) (r : Query) (k : AggWord) (t : Token) (ts : List Token) → agg_word_of t ≡ Some k → reads (selected before []) (Opening k) ts ≡ Some r → Selection before r (t ∷ ts)
 item_of_kind before r k t ts e h =
     let c = only_call (selected before []) r k t ts e h in
     let l = only_aggs (length c.us) before (c.a ∷ []) r c.us (omega arith) c.read in
@@ -173,10 +173,10 @@ select_more before name r ts us f l = record {
   spells = λ S k. f (names_signs l.names (aggs_signs l.aggs S)) (l.spells S k);
 }
 
-item_spells : (name : List ℕ) (S : List Sign) (t : Token) (ts us : List Token) → name_of t ≡ Some name → ts ≡ token.Comma ∷ us → Spells S us → Spells (TheName name ∷ Exactly token.Comma ∷ S) (t ∷ ts)
+item_spells : (name : List ℕ) (S : List Sign) (t : Token) (ts us : List Token) → name_of_token t ≡ Some name → ts ≡ token.Comma ∷ us → Spells S us → Spells (TheName name ∷ Exactly token.Comma ∷ S) (t ∷ ts)
 item_spells name S t ts us e is h = rw is (e, (refl, h))
 
-item_of_name : (o : Option (List ℕ)) (before : List (List ℕ)) (r : Query) (t : Token) (ts : List Token) → name_of t ≡ o
+item_of_name : (o : Option (List ℕ)) (before : List (List ℕ)) (r : Query) (t : Token) (ts : List Token) → name_of_token t ≡ o
     → ((more : List (List ℕ)) (us : List Token) → length us < length ts → reads (selected more []) Item us ≡ Some r → Selection more r us)
     → moved (goes_with o (λ name. On (with_key (selected before []) name) NameEnd) Stuck) (λ q n. reads q n ts) ≡ Some r → Selection before r (t ∷ ts)
 item_of_name None before r t ts e rec h = absurd (None≢Some h)
@@ -186,17 +186,17 @@ item_of_name (Some name) before r t ts e rec h =
     let less = one_less f.is in
     select_more before name r (t ∷ ts) f.us (λ S k. item_spells name S t ts f.us e f.is k) (rec (before ++ (name ∷ [])) f.us (omega (arith, less)) f.read)
 
-item_by : (o : Option Kind) (before : List (List ℕ)) (r : Query) (t : Token) (ts : List Token) → kind_of t ≡ o
+item_by : (o : Option AggWord) (before : List (List ℕ)) (r : Query) (t : Token) (ts : List Token) → agg_word_of t ≡ o
     → ((more : List (List ℕ)) (us : List Token) → length us < length ts → reads (selected more []) Item us ≡ Some r → Selection more r us)
-    → moved (goes_with o (λ kind. On (selected before []) (Opening kind)) (goes_with (name_of t) (λ name. On (with_key (selected before []) name) NameEnd) Stuck)) (λ q n. reads q n ts) ≡ Some r → Selection before r (t ∷ ts)
-item_by None before r t ts e rec h = item_of_name (name_of t) before r t ts refl rec h
+    → moved (goes_with o (λ kind. On (selected before []) (Opening kind)) (goes_with (name_of_token t) (λ name. On (with_key (selected before []) name) NameEnd) Stuck)) (λ q n. reads q n ts) ≡ Some r → Selection before r (t ∷ ts)
+item_by None before r t ts e rec h = item_of_name (name_of_token t) before r t ts refl rec h
 item_by (Some k) before r t ts e rec h = item_of_kind before r k t ts e h
 
 only_items : (fuel : ℕ) (before : List (List ℕ)) (r : Query) (ts : List Token) → length ts ≤ fuel → reads (selected before []) Item ts ≡ Some r → Selection before r ts
 only_items fuel before r [] short h = absurd (None≢Some h)
 only_items zero before r (t ∷ ts) short h = absurd (omega (arith, short))
 only_items (suc fuel) before r (t ∷ ts) short h =
-    item_by (kind_of t) before r t ts refl (λ more us less k. only_items fuel more r us (omega (arith, short, less)) k) h
+    item_by (agg_word_of t) before r t ts refl (λ more us less k. only_items fuel more r us (omega (arith, short, less)) k) h
 
 spelled_query : (r q : Query) (is_limited : Bool) (ts us : List Token) → r ≡ q → ts ≡ token.Word (codes "SELECT") ∷ us → IsQuery q → (is_limited ≡ false → q.limit ≡ 100000)
     → Spells (query_signs is_limited q) (token.Word (codes "SELECT") ∷ us) → IsSpelled r ts

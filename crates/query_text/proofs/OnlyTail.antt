@@ -11,12 +11,12 @@ use Rattle.leaf_model.specs.declared.queries.Agg.TheVariants as agg
 use Rattle.leaf_model.specs.declared.queries.Query.{Query}
 use Rattle.query_text.specs.declared.tokens.Token.{Token}
 use Rattle.query_text.specs.declared.tokens.Token.TheVariants as token
-use Rattle.query_text.specs.declared.places.Kind.{Kind}
-use Rattle.query_text.specs.declared.places.Kind.TheVariants as kind
+use Rattle.query_text.specs.declared.places.AggWord.{AggWord}
+use Rattle.query_text.specs.declared.places.AggWord.TheVariants as kind
 use Rattle.query_text.specs.declared.places.Place.{Place}
 use Rattle.query_text.specs.declared.places.Place.TheVariants.{CondEnd, CondName, CondOp, CondValue, By, GroupName, GroupEnd, OrderBy, OrderAgg, OrderOpening, OrderInside, OrderClosing, Ordered, LimitNumber, Last}
 use Rattle.query_text.specs.declared.places.Move.TheVariants.{On, Stuck}
-use Rattle.query_text.specs.Roles.{name_of, const_for, kind_of, op_of, int_of, limit_from, is_word, is_mark, has_kind, is_orderable, agg_inside, same_agg}
+use Rattle.query_text.specs.Roles.{name_of_token, const_for, agg_word_of, op_of, int_of, limit_from, is_word, is_mark, has_kind, is_orderable, agg_inside, same_agg}
 use Rattle.query_text.specs.Reading.{on_if, goes_with, is_key, with_cond}
 use Rattle.query_text.specs.Printing.{ordering_agg}
 use Rattle.query_text.specs.Grammar.{Sign, Says, Spells, TheName, Exactly, keyword, IsOrder, agg_signs, conds_signs, more_names_signs, group_signs, order_signs, limit_signs, asked_sign}
@@ -119,14 +119,14 @@ star_orderable : (b : Bool) (a : Agg) → (if b then Some agg.Count else None) �
 star_orderable true a h = ap is_orderable (sym (some_same h))
 star_orderable false a h = absurd (None≢Some h)
 
-orderable : (k : Kind) (t : Token) (aggs : List Agg) (a : Agg) → list_any (has_kind k) aggs ≡ true → agg_inside k t ≡ Some a → is_orderable a ≡ true
+orderable : (k : AggWord) (t : Token) (aggs : List Agg) (a : Agg) → list_any (has_kind k) aggs ≡ true → agg_inside k t ≡ Some a → is_orderable a ≡ true
 orderable kind.Count t aggs a any h = star_orderable (is_mark token.Star t) a h
-orderable kind.Sum t aggs a any h = named_orderable agg.Sum (name_of t) a (λ name. refl) h
-orderable kind.Min t aggs a any h = named_orderable agg.Min (name_of t) a (λ name. refl) h
-orderable kind.Max t aggs a any h = named_orderable agg.Max (name_of t) a (λ name. refl) h
+orderable kind.Sum t aggs a any h = named_orderable agg.Sum (name_of_token t) a (λ name. refl) h
+orderable kind.Min t aggs a any h = named_orderable agg.Min (name_of_token t) a (λ name. refl) h
+orderable kind.Max t aggs a any h = named_orderable agg.Max (name_of_token t) a (λ name. refl) h
 orderable kind.Avg t aggs a any h = absurd (false≢true (sym (no_average aggs) ∙ any))
 
-pub called_spells : (k : Kind) (a : Agg) (S : List Sign) (t x : Token) (ts fs gs cs : List Token) → t ≡ token.Word (kind_word k) → ts ≡ token.Open ∷ fs → fs ≡ x ∷ gs → gs ≡ token.Close ∷ cs
+pub called_spells : (k : AggWord) (a : Agg) (S : List Sign) (t x : Token) (ts fs gs cs : List Token) → t ≡ token.Word (kind_word k) → ts ≡ token.Open ∷ fs → fs ≡ x ∷ gs → gs ≡ token.Close ∷ cs
     → Spells (agg_signs a S) (token.Word (kind_word k) ∷ token.Open ∷ x ∷ token.Close ∷ cs) → Spells (agg_signs a S) (t ∷ ts)
 called_spells k a S t x ts fs gs cs et es ef eg h = rw (et, es, ef, eg) h
 
@@ -134,8 +134,8 @@ ordered_spells : (o : Option Agg) (a : Agg) (S : List Sign) (ts : List Token) �
 ordered_spells o a S ts e h = rw e (refl, (refl, h))
 
 -- behind ORDER BY
-only_order : (table : List ℕ) (from to : ℤ) (conds : List Cond) (keys : List (List ℕ)) (aggs : List Agg) (r : Query) (k : Kind) (t : Token) (ts : List Token)
-    → kind_of t ≡ Some k → list_any (has_kind k) aggs ≡ true → reads (made table from to conds keys aggs None 100000) (OrderOpening k) ts ≡ Some r
+only_order : (table : List ℕ) (from to : ℤ) (conds : List Cond) (keys : List (List ℕ)) (aggs : List Agg) (r : Query) (k : AggWord) (t : Token) (ts : List Token)
+    → agg_word_of t ≡ Some k → list_any (has_kind k) aggs ≡ true → reads (made table from to conds keys aggs None 100000) (OrderOpening k) ts ≡ Some r
     → Tailed (λ S. S) table from to conds keys aggs r (token.Word (codes "ORDER") ∷ token.Word (codes "BY") ∷ t ∷ ts)
 only_order table from to conds keys aggs r k t ts is any h =
     let s = made table from to conds keys aggs None 100000 in
@@ -158,8 +158,8 @@ only_order table from to conds keys aggs r k t ts is any h =
       spelled = ordered_spells (slice_get aggs g.x) inside.0 (limit_signs l.is_limited l.n) (t ∷ ts) there (called_spells k inside.0 (limit_signs l.is_limited l.n) t g.t ts f.us g.us c.us (the_kind t k is) f.is g.is c.is spelled);
     }
 
-kind_if : (s r : Query) (o : Option Kind) (f : Query → Place → Option Query) → moved (goes_with o (λ kind. on_if (list_any (has_kind kind) s.aggs) s (OrderOpening kind)) Stuck) f ≡ Some r
-    → (k : Kind) × ((o ≡ Some k) × ((list_any (has_kind k) s.aggs ≡ true) × (f s (OrderOpening k) ≡ Some r)))
+kind_if : (s r : Query) (o : Option AggWord) (f : Query → Place → Option Query) → moved (goes_with o (λ kind. on_if (list_any (has_kind kind) s.aggs) s (OrderOpening kind)) Stuck) f ≡ Some r
+    → (k : AggWord) × ((o ≡ Some k) × ((list_any (has_kind k) s.aggs ≡ true) × (f s (OrderOpening k) ≡ Some r)))
 kind_if s r None f h = absurd (None≢Some h)
 kind_if s r (Some k) f h = let both = on_if_in (list_any (has_kind k) s.aggs) s (OrderOpening k) f r h in (k, (refl, (both.0, both.1)))
 
@@ -168,7 +168,7 @@ only_order_agg : (table : List ℕ) (from to : ℤ) (conds : List Cond) (keys : 
     → Tailed (λ S. S) table from to conds keys aggs r (token.Word (codes "ORDER") ∷ token.Word (codes "BY") ∷ ts)
 only_order_agg table from to conds keys aggs r [] h = absurd (None≢Some h)
 only_order_agg table from to conds keys aggs r (t ∷ ts) h =
-    let q = kind_if (made table from to conds keys aggs None 100000) r (kind_of t) (λ q n. reads q n ts) h in
+    let q = kind_if (made table from to conds keys aggs None 100000) r (agg_word_of t) (λ q n. reads q n ts) h in
     only_order table from to conds keys aggs r q.0 t ts q.1.0 q.1.1.0 q.1.1.1
 
 order_by : (b : Bool) (table : List ℕ) (from to : ℤ) (conds : List Cond) (keys : List (List ℕ)) (aggs : List Agg) (r : Query) (t : Token) (ts : List Token)
@@ -201,19 +201,19 @@ pub record Named (s r : Query) (i : ℕ) (name : List ℕ) (ts : List Token) : T
   pub t : Token
   pub us : List Token
   pub is : ts ≡ t ∷ us
-  pub names : name_of t ≡ Some name
+  pub names : name_of_token t ≡ Some name
   pub read : reads s (GroupEnd (i + 1)) us ≡ Some r
 
 group_name_in : (s r : Query) (i : ℕ) (name : List ℕ) (ts : List Token) → slice_get s.keys i ≡ Some name → reads s (GroupName i) ts ≡ Some r → Named s r i name ts
 group_name_in s r i name [] there h = absurd (None≢Some h)
 group_name_in s r i name (t ∷ ts) there h =
-    let both = on_if_in (is_key (slice_get s.keys i) (name_of t)) s (GroupEnd (i + 1)) (λ q n. reads q n ts) r h in
-    record { t = t; us = ts; is = refl; names = key_in name (name_of t) (rw there at both.0); read = both.1 }
+    let both = on_if_in (is_key (slice_get s.keys i) (name_of_token t)) s (GroupEnd (i + 1)) (λ q n. reads q n ts) r h in
+    record { t = t; us = ts; is = refl; names = key_in name (name_of_token t) (rw there at both.0); read = both.1 }
 
 by_spells : (S : List Sign) (ts us : List Token) → ts ≡ token.Word (codes "BY") ∷ us → Spells S us → Spells (keyword (codes "BY") ∷ S) ts
 by_spells S ts us is h = rw is (refl, h)
 
-name_spells : (name : List ℕ) (S : List Sign) (t : Token) (ts us : List Token) → ts ≡ t ∷ us → name_of t ≡ Some name → Spells S us → Spells (TheName name ∷ S) ts
+name_spells : (name : List ℕ) (S : List Sign) (t : Token) (ts us : List Token) → ts ≡ t ∷ us → name_of_token t ≡ Some name → Spells S us → Spells (TheName name ∷ S) ts
 name_spells name S t ts us is e h = rw is (e, h)
 
 only_more_names : (table : List ℕ) (from to : ℤ) (conds : List Cond) (names before keys : List (List ℕ)) (aggs : List Agg) (r : Query) (ts : List Token) → keys ≡ before ++ names
@@ -272,7 +272,7 @@ unconditioned : (table : List ℕ) (from to : ℤ) (before : List Cond) (keys : 
     → Tailed (group_signs keys) table from to before keys aggs r ts → Conditioned table from to before keys aggs r ts
 unconditioned table from to before keys aggs r ts l = record { conds = []; tail = rw (append-nil before) l }
 
-cond_spells : (c : Cond) (S : List Sign) (t n o v : Token) (ts ns os vs : List Token) → t ≡ token.Word (codes "AND") → ts ≡ n ∷ ns → name_of n ≡ Some c.name
+cond_spells : (c : Cond) (S : List Sign) (t n o v : Token) (ts ns os vs : List Token) → t ≡ token.Word (codes "AND") → ts ≡ n ∷ ns → name_of_token n ≡ Some c.name
     → ns ≡ o ∷ os → o ≡ token.Compare c.op → os ≡ v ∷ vs → Says (asked_sign c.op c.value) v → Spells S vs
     → Spells (keyword (codes "AND") ∷ TheName c.name ∷ Exactly (token.Compare c.op) ∷ asked_sign c.op c.value ∷ S) (t ∷ ts)
 cond_spells c S t n o v ts ns os vs et ets en ens eo eos ev h = rw (ets, ens, eos) (et, (en, (eo, (ev, h))))
@@ -292,7 +292,7 @@ cond_by : (b : Bool) (table : List ℕ) (from to : ℤ) (before : List Cond) (ke
 cond_by false table from to before keys aggs r t ts e rec h = unconditioned table from to before keys aggs r (t ∷ ts) (only_group table from to before keys aggs r t ts e h)
 cond_by true table from to before keys aggs r t ts e rec h =
     let s = made table from to before keys aggs None 100000 in
-    let n = give name_of (λ name. s) (λ name. CondOp name) s r CondName ts refl (λ t. refl) (rw e at h) in
+    let n = give name_of_token (λ name. s) (λ name. CondOp name) s r CondName ts refl (λ t. refl) (rw e at h) in
     let o = give op_of (λ op. s) (λ op. CondValue n.x op) s r (CondOp n.x) n.us refl (λ t. refl) n.read in
     let v = give (const_for o.x) (λ v. with_cond s n.x o.x v) (λ v. CondEnd) s r (CondValue n.x o.x) o.us refl (λ t. refl) o.read in
     let ln = one_less n.is in

@@ -8,13 +8,13 @@ use Rattle.leaf_model.specs.declared.queries.Agg.TheVariants as agg
 use Rattle.leaf_model.specs.declared.queries.Query.{Query}
 use Rattle.query_text.specs.declared.tokens.Token.{Token}
 use Rattle.query_text.specs.declared.tokens.Token.TheVariants as token
-use Rattle.query_text.specs.declared.places.Kind.{Kind}
-use Rattle.query_text.specs.declared.places.Kind.TheVariants as kind
+use Rattle.query_text.specs.declared.places.AggWord.{AggWord}
+use Rattle.query_text.specs.declared.places.AggWord.TheVariants as kind
 use Rattle.query_text.specs.declared.places.Place.{Place}
 use Rattle.query_text.specs.declared.places.Place.TheVariants.{Select, Item, NameEnd, Opening, Inside, Closing, AggEnd, NextAgg, Table, Where, LowTime, LowSign, LowBound, And, HighTime, HighSign, HighBound, CondEnd, CondName, CondOp, CondValue, By, GroupName, GroupEnd, OrderBy, OrderAgg, OrderOpening, OrderInside, OrderClosing, Ordered, LimitNumber, Last}
 use Rattle.query_text.specs.declared.places.Move.{Move}
 use Rattle.query_text.specs.declared.places.Move.TheVariants.{On, Stuck}
-use Rattle.query_text.specs.Roles.{name_of, const_for, kind_of, op_of, int_of, limit_from, table_of, is_word, is_mark, has_kind, is_orderable, agg_inside, same_agg}
+use Rattle.query_text.specs.Roles.{name_of_token, const_for, agg_word_of, op_of, int_of, limit_from, table_of_token, is_word, is_mark, has_kind, is_orderable, agg_inside, same_agg}
 use Rattle.query_text.specs.Reading.{is_in_range, goes_on, on_if, order_or_limit, has_keys, goes_with, sign_fits, is_key, with_agg}
 use Rattle.query_text.specs.Grammar.{behind_from, is_ranging}
 use Rattle.query_text.proofs.Found.{None≢Some, name_word, or_false}
@@ -119,20 +119,20 @@ if_at false x y d h k = k refl
 other_word : (w : List ℕ) (t : Token) → is_word w t ≡ true → bytes_eq w (codes "FROM") ≡ false → is_word (codes "FROM") t ≡ false
 other_word w t h e = rw (the_word w t h) e
 
-kind_other : (k : Kind) → is_word (codes "FROM") (token.Word (kind_word k)) ≡ false
+kind_other : (k : AggWord) → is_word (codes "FROM") (token.Word (kind_word k)) ≡ false
 kind_other kind.Count = refl
 kind_other kind.Sum = refl
 kind_other kind.Min = refl
 kind_other kind.Max = refl
 kind_other kind.Avg = refl
 
-no_kind_word : (t : Token) (k : Kind) → kind_of t ≡ Some k → is_word (codes "FROM") t ≡ false
+no_kind_word : (t : Token) (k : AggWord) → agg_word_of t ≡ Some k → is_word (codes "FROM") t ≡ false
 no_kind_word t k h = rw (the_kind t k h) (kind_other k)
 
 keyword_other : (s f others : Bool) → (s || (f || others)) ≡ false → f ≡ false
 keyword_other s f others h = (or_false f others ((or_false s (f || others) h).1)).0
 
-name_other : (t : Token) (n : List ℕ) → name_of t ≡ Some n → is_word (codes "FROM") t ≡ false
+name_other : (t : Token) (n : List ℕ) → name_of_token t ≡ Some n → is_word (codes "FROM") t ≡ false
 name_other (token.Word w) n h = keyword_other (bytes_eq w (codes "SELECT")) (bytes_eq w (codes "FROM")) _ (or_false (bytes_eq w (codes "HAS")) _ (name_word w n h).0.0).1
 name_other (token.Name m) n h = refl
 name_other (token.Text m) n h = refl
@@ -144,7 +144,7 @@ name_other token.Star n h = refl
 name_other (token.Compare o) n h = refl
 name_other token.Stray n h = refl
 
-named_other : (make : List ℕ → Agg) (t : Token) (a : Agg) (o : Option (List ℕ)) → name_of t ≡ o → option_map make o ≡ Some a → is_word (codes "FROM") t ≡ false
+named_other : (make : List ℕ → Agg) (t : Token) (a : Agg) (o : Option (List ℕ)) → name_of_token t ≡ o → option_map make o ≡ Some a → is_word (codes "FROM") t ≡ false
 named_other make t a None e h = absurd (None≢Some h)
 named_other make t a (Some n) e h = name_other t n e
 
@@ -152,12 +152,12 @@ star_by : (b : Bool) (t : Token) (x a : Agg) → is_mark token.Star t ≡ b → 
 star_by true t x a e h = rw (the_star t e) refl
 star_by false t x a e h = absurd (None≢Some h)
 
-inside_other : (k : Kind) (t : Token) (a : Agg) → agg_inside k t ≡ Some a → is_word (codes "FROM") t ≡ false
+inside_other : (k : AggWord) (t : Token) (a : Agg) → agg_inside k t ≡ Some a → is_word (codes "FROM") t ≡ false
 inside_other kind.Count t a h = star_by (is_mark token.Star t) t _ a refl h
-inside_other kind.Sum t a h = named_other agg.Sum t a (name_of t) refl h
-inside_other kind.Min t a h = named_other agg.Min t a (name_of t) refl h
-inside_other kind.Max t a h = named_other agg.Max t a (name_of t) refl h
-inside_other kind.Avg t a h = named_other agg.Avg t a (name_of t) refl h
+inside_other kind.Sum t a h = named_other agg.Sum t a (name_of_token t) refl h
+inside_other kind.Min t a h = named_other agg.Min t a (name_of_token t) refl h
+inside_other kind.Max t a h = named_other agg.Max t a (name_of_token t) refl h
+inside_other kind.Avg t a h = named_other agg.Avg t a (name_of_token t) refl h
 
 with_at : {A : Type 0} (o : Option A) (f : A → Move) (other : Move) (d : Option ℕ) → ((x : A) → o ≡ Some x → IsAtMove (f x) d) → IsAtMove other d → IsAtMove (goes_with o f other) d
 with_at None f other d h k = k
@@ -174,8 +174,8 @@ from_next d t e h = rw (e, h) refl
 pub at_next : (q : Query) (place : Place) (t : Token) (d : Option ℕ) → IsAt place d → IsAtMove (goes_on q place t) (next_behind d t)
 at_next q Select t d h = on_at (is_word (codes "SELECT") t) q Item (next_behind d t) (λ e. none_next d t h (other_word (codes "SELECT") t e refl))
 at_next q Item t d h =
-    with_at (kind_of t) _ _ (next_behind d t) (λ k e. none_next d t h (no_kind_word t k e))
-    (with_at (name_of t) _ _ (next_behind d t) (λ n e. none_next d t h (name_other t n e)) tt)
+    with_at (agg_word_of t) _ _ (next_behind d t) (λ k e. none_next d t h (no_kind_word t k e))
+    (with_at (name_of_token t) _ _ (next_behind d t) (λ n e. none_next d t h (name_other t n e)) tt)
 at_next q NameEnd t d h = on_at (is_mark token.Comma t) q Item (next_behind d t) (λ e. none_next d t h (rw (the_comma t e) refl))
 at_next q (Opening k) t d h = on_at (is_mark token.Open t) q (Inside k) (next_behind d t) (λ e. none_next d t h (rw (the_open t e) refl))
 at_next q (Inside k) t d h = with_at (agg_inside k t) _ _ (next_behind d t) (λ a e. none_next d t h (inside_other k t a e)) tt
@@ -183,8 +183,8 @@ at_next q (Closing a) t d h = on_at (is_mark token.Close t) (with_agg q a) AggEn
 at_next q AggEnd t d h =
     if_at (is_mark token.Comma t) (On q NextAgg) (on_if (is_word (codes "FROM") t) q Table) (next_behind d t) (λ e. none_next d t h (rw (the_comma t e) refl))
     (λ e. on_at (is_word (codes "FROM") t) q Table (next_behind d t) (λ k. from_next d t h k))
-at_next q NextAgg t d h = with_at (kind_of t) _ _ (next_behind d t) (λ k e. none_next d t h (no_kind_word t k e)) tt
-at_next q Table t d h = with_at (table_of t) _ _ (next_behind d t) (λ n e. some_next 0 d t h) tt
+at_next q NextAgg t d h = with_at (agg_word_of t) _ _ (next_behind d t) (λ k e. none_next d t h (no_kind_word t k e)) tt
+at_next q Table t d h = with_at (table_of_token t) _ _ (next_behind d t) (λ n e. some_next 0 d t h) tt
 at_next q Where t d h = on_at (is_word (codes "WHERE") t) q LowTime (next_behind d t) (λ e. some_next 1 d t h)
 at_next q LowTime t d h = on_at (is_word (codes "time") t) q LowSign (next_behind d t) (λ e. some_next 2 d t h)
 at_next q LowSign t d h = on_at (sign_fits true (op_of t)) q LowBound (next_behind d t) (λ e. some_next 3 d t h)
@@ -197,16 +197,16 @@ at_next q CondEnd t d h =
     if_at (is_word (codes "AND") t) (On q CondName) (if has_keys q then on_if (is_word (codes "GROUP") t) q By else order_or_limit q t) (next_behind d t) (λ e. late_next d t h)
     (λ e. if_at (has_keys q) (on_if (is_word (codes "GROUP") t) q By) (order_or_limit q t) (next_behind d t)
     (λ some. on_at (is_word (codes "GROUP") t) q By (next_behind d t) (λ k. late_next d t h)) (λ none. order_at q t (next_behind d t) (late_next d t h)))
-at_next q CondName t d h = with_at (name_of t) _ _ (next_behind d t) (λ n e. late_next d t h) tt
+at_next q CondName t d h = with_at (name_of_token t) _ _ (next_behind d t) (λ n e. late_next d t h) tt
 at_next q (CondOp name) t d h = with_at (op_of t) _ _ (next_behind d t) (λ o e. late_next d t h) tt
 at_next q (CondValue name op) t d h = with_at (const_for op t) _ _ (next_behind d t) (λ v e. late_next d t h) tt
 at_next q By t d h = on_at (is_word (codes "BY") t) q (GroupName 0) (next_behind d t) (λ e. late_next d t h)
-at_next q (GroupName i) t d h = on_at (is_key (slice_get q.keys i) (name_of t)) q (GroupEnd (i + 1)) (next_behind d t) (λ e. late_next d t h)
+at_next q (GroupName i) t d h = on_at (is_key (slice_get q.keys i) (name_of_token t)) q (GroupEnd (i + 1)) (next_behind d t) (λ e. late_next d t h)
 at_next q (GroupEnd i) t d h =
     if_at (nat_lt i (length q.keys)) (on_if (is_mark token.Comma t) q (GroupName i)) (order_or_limit q t) (next_behind d t)
     (λ e. on_at (is_mark token.Comma t) q (GroupName i) (next_behind d t) (λ k. late_next d t h)) (λ e. order_at q t (next_behind d t) (late_next d t h))
 at_next q OrderBy t d h = on_at (is_word (codes "BY") t) q OrderAgg (next_behind d t) (λ e. late_next d t h)
-at_next q OrderAgg t d h = with_at (kind_of t) _ _ (next_behind d t) (λ k e. on_at (list_any (has_kind k) q.aggs) q (OrderOpening k) (next_behind d t) (λ some. late_next d t h)) tt
+at_next q OrderAgg t d h = with_at (agg_word_of t) _ _ (next_behind d t) (λ k e. on_at (list_any (has_kind k) q.aggs) q (OrderOpening k) (next_behind d t) (λ some. late_next d t h)) tt
 at_next q (OrderOpening k) t d h = on_at (is_mark token.Open t) q (OrderInside k) (next_behind d t) (λ e. late_next d t h)
 at_next q (OrderInside k) t d h = with_at (option_and_then (λ a. position_from (same_agg a) 0 q.aggs) (agg_inside k t)) _ _ (next_behind d t) (λ i e. late_next d t h) tt
 at_next q (OrderClosing i) t d h = on_at (is_mark token.Close t) (record q { order = Some i }) Ordered (next_behind d t) (λ e. late_next d t h)

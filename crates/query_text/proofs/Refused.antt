@@ -4,20 +4,20 @@ use Rattle.std.specs.Prelude.{codes, slice_get, ℤ, option_and_then}
 use Rattle.std.specs.List.{list_any, position_from}
 use Rattle.std.proofs.lemmas.Bool.{true≢false, false≢true}
 use Rattle.std.proofs.lemmas.List.{append_assoc, append-nil}
-use Rattle.leaf_model.specs.declared.rows.Value.TheVariants as value
+use Rattle.row_model.specs.declared.rows.Value.TheVariants as value
 use Rattle.leaf_model.specs.declared.queries.Query.{Query}
-use Rattle.leaf_model.specs.declared.query_fault.QueryFault.{QueryFault}
-use Rattle.leaf_model.specs.declared.query_fault.QueryFault.TheVariants.{Syntax, NoTime, TooLarge}
+use Rattle.row_model.specs.declared.query_fault.QueryFault.{QueryFault}
+use Rattle.row_model.specs.declared.query_fault.QueryFault.TheVariants.{Syntax, NoTime, TooLarge}
 use Rattle.query_text.specs.declared.tokens.Token.{Token}
 use Rattle.query_text.specs.declared.tokens.Token.TheVariants as token
-use Rattle.query_text.specs.declared.places.Kind.{Kind}
-use Rattle.query_text.specs.declared.places.Kind.TheVariants as kind
+use Rattle.query_text.specs.declared.places.AggWord.{AggWord}
+use Rattle.query_text.specs.declared.places.AggWord.TheVariants as kind
 use Rattle.query_text.specs.declared.places.Place.{Place}
 use Rattle.query_text.specs.declared.places.Place.TheVariants.{Select, Item, NameEnd, Opening, Inside, Closing, AggEnd, NextAgg, Table, Where, LowTime, LowSign, LowBound, And, HighTime, HighSign, HighBound, CondEnd, CondName, CondOp, CondValue, By, GroupName, GroupEnd, OrderBy, OrderAgg, OrderOpening, OrderInside, OrderClosing, Ordered, LimitNumber, Last}
 use Rattle.query_text.specs.declared.places.Move.{Move}
 use Rattle.query_text.specs.declared.places.Move.TheVariants.{On, Stuck}
 use Rattle.query_text.specs.Tokens.{Placed, tokens_of}
-use Rattle.query_text.specs.Roles.{name_of, const_for, is_has, kind_of, op_of, int_of, limit_from, table_of, is_word, is_mark, is_int, has_kind, is_orderable, agg_inside, same_agg}
+use Rattle.query_text.specs.Roles.{name_of_token, const_for, is_has, agg_word_of, op_of, int_of, limit_from, table_of_token, is_word, is_mark, is_int, has_kind, is_orderable, agg_inside, same_agg}
 use Rattle.query_text.specs.Reading.{read_from, query_of, nothing_read, led, fault_of, plain_fault, takes_int, is_in_range, goes_on, may_end, on_if, order_or_limit, has_keys, goes_with, sign_fits, is_key, with_agg, with_cond}
 use Rattle.query_text.specs.Grammar.{IsBegun, IsStuck, IsQueryRefused, IsSize, IsFault, next_offset, behind_from, is_ranging, plain_tokens}
 use Rattle.query_text.proofs.Plain.{reads, moved}
@@ -55,14 +55,14 @@ order_sound q t =
 
 sound : (q : Query) (place : Place) (t : Token) → IsSound q place → IsSoundMove (goes_on q place t)
 sound q Select t h = on_sound (is_word (codes "SELECT") t) q Item (λ e. tt)
-sound q Item t h = with_sound (kind_of t) _ _ (λ k. tt) (with_sound (name_of t) _ _ (λ n. tt) tt)
+sound q Item t h = with_sound (agg_word_of t) _ _ (λ k. tt) (with_sound (name_of_token t) _ _ (λ n. tt) tt)
 sound q NameEnd t h = on_sound (is_mark token.Comma t) q Item (λ e. tt)
 sound q (Opening k) t h = on_sound (is_mark token.Open t) q (Inside k) (λ e. tt)
 sound q (Inside k) t h = with_sound (agg_inside k t) _ _ (λ a. tt) tt
 sound q (Closing a) t h = on_sound (is_mark token.Close t) (with_agg q a) AggEnd (λ e. tt)
 sound q AggEnd t h = if_sound (is_mark token.Comma t) (On q NextAgg) (on_if (is_word (codes "FROM") t) q Table) (λ e. tt) (λ e. on_sound (is_word (codes "FROM") t) q Table (λ k. tt))
-sound q NextAgg t h = with_sound (kind_of t) _ _ (λ k. tt) tt
-sound q Table t h = with_sound (table_of t) _ _ (λ n. tt) tt
+sound q NextAgg t h = with_sound (agg_word_of t) _ _ (λ k. tt) tt
+sound q Table t h = with_sound (table_of_token t) _ _ (λ n. tt) tt
 sound q Where t h = on_sound (is_word (codes "WHERE") t) q LowTime (λ e. tt)
 sound q LowTime t h = on_sound (is_word (codes "time") t) q LowSign (λ e. tt)
 sound q LowSign t h = on_sound (sign_fits true (op_of t)) q LowBound (λ e. tt)
@@ -74,15 +74,15 @@ sound q HighBound t h = with_sound (int_of t) _ _ (λ n. tt) tt
 sound q CondEnd t h =
     if_sound (is_word (codes "AND") t) (On q CondName) (if has_keys q then on_if (is_word (codes "GROUP") t) q By else order_or_limit q t) (λ e. tt)
     (λ e. if_sound (has_keys q) (on_if (is_word (codes "GROUP") t) q By) (order_or_limit q t) (λ some. on_sound (is_word (codes "GROUP") t) q By (λ k. some)) (λ none. order_sound q t))
-sound q CondName t h = with_sound (name_of t) _ _ (λ n. tt) tt
+sound q CondName t h = with_sound (name_of_token t) _ _ (λ n. tt) tt
 sound q (CondOp name) t h = with_sound (op_of t) _ _ (λ o. tt) tt
 sound q (CondValue name op) t h = with_sound (const_for op t) _ _ (λ v. tt) tt
 sound q By t h = on_sound (is_word (codes "BY") t) q (GroupName 0) (λ e. h)
-sound q (GroupName i) t h = on_sound (is_key (slice_get q.keys i) (name_of t)) q (GroupEnd (i + 1)) (λ e. tt)
+sound q (GroupName i) t h = on_sound (is_key (slice_get q.keys i) (name_of_token t)) q (GroupEnd (i + 1)) (λ e. tt)
 sound q (GroupEnd i) t h =
     if_sound (nat_lt i (length q.keys)) (on_if (is_mark token.Comma t) q (GroupName i)) (order_or_limit q t) (λ e. on_sound (is_mark token.Comma t) q (GroupName i) (λ k. e)) (λ e. order_sound q t)
 sound q OrderBy t h = on_sound (is_word (codes "BY") t) q OrderAgg (λ e. h)
-sound q OrderAgg t h = with_sound (kind_of t) _ _ (λ k. on_sound (list_any (has_kind k) q.aggs) q (OrderOpening k) (λ e. e)) tt
+sound q OrderAgg t h = with_sound (agg_word_of t) _ _ (λ k. on_sound (list_any (has_kind k) q.aggs) q (OrderOpening k) (λ e. e)) tt
 sound q (OrderOpening k) t h = on_sound (is_mark token.Open t) q (OrderInside k) (λ e. h)
 sound q (OrderInside k) t h = with_sound (option_and_then (λ a. position_from (same_agg a) 0 q.aggs) (agg_inside k t)) _ _ (λ i. tt) tt
 sound q (OrderClosing i) t h = on_sound (is_mark token.Close t) (record q { order = Some i }) Ordered (λ e. tt)
@@ -201,7 +201,7 @@ no_key : (o : Option (List ℕ)) → is_key o None ≡ false
 no_key None = refl
 no_key (Some n) = refl
 
-int_inside : (k : Kind) (n : ℤ) → agg_inside k (token.Int (Some n)) ≡ None
+int_inside : (k : AggWord) (n : ℤ) → agg_inside k (token.Int (Some n)) ≡ None
 int_inside kind.Count n = refl
 int_inside kind.Sum n = refl
 int_inside kind.Min n = refl

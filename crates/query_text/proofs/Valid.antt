@@ -7,8 +7,8 @@ use Rattle.std.specs.Char.{is_ascii_digit}
 use Rattle.std.specs.List.{AllByRecursion}
 use Rattle.std.proofs.lemmas.Bool.{ltb-true, leb-true, ltb-false, and_parts}
 use Rattle.std.proofs.lemmas.Str.{is_utf8-from_IsUtf8}
-use Rattle.leaf_model.specs.declared.rows.Value.{Value}
-use Rattle.leaf_model.specs.declared.rows.Value.TheVariants as value
+use Rattle.row_model.specs.declared.rows.Value.{Value}
+use Rattle.row_model.specs.declared.rows.Value.TheVariants as value
 use Rattle.leaf_model.specs.declared.queries.Op.TheVariants.{Ne, Lt, Le, Gt, Ge, Has}
 use Rattle.leaf_model.specs.declared.queries.Cond.{Cond}
 use Rattle.leaf_model.specs.declared.queries.Agg.{Agg}
@@ -16,9 +16,9 @@ use Rattle.leaf_model.specs.declared.queries.Agg.TheVariants as agg
 use Rattle.leaf_model.specs.declared.queries.Query.{Query}
 use Rattle.query_text.specs.declared.tokens.Token.{Token}
 use Rattle.query_text.specs.declared.tokens.Token.TheVariants as token
-use Rattle.query_text.specs.declared.tokens.Found.{Found}
-use Rattle.query_text.specs.Tokens.{Quote, tokens_of, token_with, begins_word, goes_on_word, is_blank, quote_from, quoted_token, value_from, signed_value, number_token, minus_token, pair_token, mark_token, stray, word_token}
-use Rattle.query_text.specs.Roles.{name_of, is_has}
+use Rattle.query_text.specs.declared.tokens.FoundToken.{FoundToken}
+use Rattle.query_text.specs.Tokens.{Quote, tokens_of, token_with, begins_word, goes_on_word, is_blank_byte, quote_from, quoted_token, value_from, signed_value, number_token, minus_token, pair_token, mark_token, one_byte, word_token}
+use Rattle.query_text.specs.Roles.{name_of_token, is_has}
 use Rattle.query_text.specs.Reading.{query_of}
 use Rattle.query_text.specs.Printing.{printed, ordering_agg}
 use Rattle.query_text.specs.Grammar.{Sign, Says, Spells, TheName, Exactly, keyword, int, IsSpelled, plain_tokens, agg_signs, names_signs, more_aggs_signs, aggs_signs, range_signs, conds_signs, group_signs, order_signs, limit_signs, const_sign, text_sign}
@@ -66,7 +66,7 @@ quoted_valid : (make : List ℕ → Token) (least most : ℕ) → ((bs : List �
     → (q : Option Quote) → IsToken (quoted_token make least most q).token
 quoted_valid make least most holds None = tt
 quoted_valid make least most holds (Some q) =
-    if_holds (λ (f : Found). IsToken f.token) (nat_le least (length q.inside) && (nat_le (length q.inside) most && is_utf8 q.inside)) (record { token = make q.inside; more = q.long }) stray
+    if_holds (λ (f : FoundToken). IsToken f.token) (nat_le least (length q.inside) && (nat_le (length q.inside) most && is_utf8 q.inside)) (record { token = make q.inside; more = q.long }) (one_byte token.Stray)
     (λ e. (let first = and_parts (nat_le least (length q.inside)) (nat_le (length q.inside) most && is_utf8 q.inside) e in
     let rest = and_parts (nat_le (length q.inside) most) (is_utf8 q.inside) first.1 in
     holds q.inside (leb-true least (length q.inside) first.0) (leb-true (length q.inside) most rest.0) rest.1))
@@ -80,9 +80,9 @@ text_valid q = quoted_valid token.Text 0 65535 (λ bs some short utf8. record { 
 
 pair_valid : (alone both : Token) (rest : List ℕ) → IsToken alone → IsToken both → IsToken (pair_token alone both rest).token
 pair_valid alone both [] h k = h
-pair_valid alone both (b ∷ rest) h k = if_holds (λ (f : Found). IsToken f.token) (b == 61) (record { token = both; more = 1 }) (record { token = alone; more = 0 }) (λ e. k) (λ e. h)
+pair_valid alone both (b ∷ rest) h k = if_holds (λ (f : FoundToken). IsToken f.token) (b == 61) (record { token = both; more = 1 }) (record { token = alone; more = 0 }) (λ e. k) (λ e. h)
 
-abbrev IsGood : Found → Type 0
+abbrev IsGood : FoundToken → Type 0
 IsGood f = IsToken f.token
 
 mark_valid : (b : ℕ) (rest : List ℕ) → IsGood (mark_token b rest)
@@ -113,12 +113,12 @@ all_valid : (passed : ℕ) (text : List ℕ) → AllByRecursion IsToken (lexed p
 all_valid passed [] = tt
 all_valid (suc passed) (b ∷ rest) = all_valid passed rest
 all_valid zero (b ∷ rest) =
-    if_holds (λ ts. AllByRecursion IsToken ts) (is_blank b) (lexed 0 rest) ((token_with b rest).token ∷ lexed (token_with b rest).more rest)
+    if_holds (λ ts. AllByRecursion IsToken ts) (is_blank_byte b) (lexed 0 rest) ((token_with b rest).token ∷ lexed (token_with b rest).more rest)
     (λ e. all_valid 0 rest) (λ e. (found_valid b rest, all_valid (token_with b rest).more rest))
 
 -- ---- what they spell
 
-name_said : (t : Token) (n : List ℕ) → name_of t ≡ Some n → IsToken t → IsName n
+name_said : (t : Token) (n : List ℕ) → name_of_token t ≡ Some n → IsToken t → IsName n
 name_said (token.Word w) n h good =
     let said = name_word w n h in
     subst IsName said.1 (record { some = good.0; short = ltb-false 255 (length w) said.0.1; utf8 = good.1 })

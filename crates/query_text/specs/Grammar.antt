@@ -1,8 +1,8 @@
 -- The grammar: the tokens that spell a query, part by part. Each part is given with what follows it.
 use Rattle.std.specs.Prelude.{if◌then◌else◌, nat_lt, ◌&&◌, ◌≡◌, ◌≤◌, ◌<◌, ℕ, Bool, true, false, List, [], ◌∷◌, ◌++◌, length, map, ℤ, pos, Option, Some, None, codes, slice_get}
 use Rattle.std.specs.List.{position_from}
-use Rattle.leaf_model.specs.declared.rows.Value.{Value}
-use Rattle.leaf_model.specs.declared.rows.Value.TheVariants as value
+use Rattle.row_model.specs.declared.rows.Value.{Value}
+use Rattle.row_model.specs.declared.rows.Value.TheVariants as value
 use Rattle.leaf_model.specs.declared.queries.Op.{Op}
 use Rattle.leaf_model.specs.declared.queries.Op.TheVariants.{Le, Ge}
 use Rattle.leaf_model.specs.declared.queries.Cond.{Cond}
@@ -11,11 +11,11 @@ use Rattle.leaf_model.specs.declared.queries.Agg.TheVariants.{Count, Sum, Min, M
 use Rattle.leaf_model.specs.declared.queries.Query.{Query}
 use Rattle.query_text.specs.declared.tokens.Token.{Token}
 use Rattle.query_text.specs.declared.tokens.Token.TheVariants as token
-use Rattle.leaf_model.specs.declared.query_fault.QueryFault.{QueryFault}
-use Rattle.leaf_model.specs.declared.query_fault.QueryFault.TheVariants.{Syntax, NoTime, TooLarge, NoMemory}
+use Rattle.row_model.specs.declared.query_fault.QueryFault.{QueryFault}
+use Rattle.row_model.specs.declared.query_fault.QueryFault.TheVariants.{Syntax, NoTime, TooLarge, NoMemory}
 use Rattle.query_text.specs.Tokens.{Placed, tokens_of}
-use Rattle.leaf_model.specs.Names.{is_table_name}
-use Rattle.query_text.specs.Roles.{name_of, is_has, is_word, is_int, is_orderable, same_agg}
+use Rattle.row_model.specs.Names.{is_table_name}
+use Rattle.query_text.specs.Roles.{name_of_token, is_has, is_word, is_int, is_orderable, same_agg}
 use Rattle.query_text.specs.Printing.{ordering_agg}
 
 -- ---- what is written at one place
@@ -29,7 +29,7 @@ pub data Sign : Type 0 where
 -- a token is one that the sign stands for
 abbrev pub Says : Sign → Token → Type 0
 Says (Exactly u) t = t ≡ u
-Says (TheName name) t = name_of t ≡ Some name
+Says (TheName name) t = name_of_token t ≡ Some name
 Says Never t = ⊥
 
 -- the tokens are those that the signs stand for, one for each

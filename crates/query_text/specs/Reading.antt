@@ -1,35 +1,21 @@
 -- What a query's text means. Its tokens are read one by one. The first that no query goes on with is the fault.
 use Rattle.std.specs.Prelude.{ℕ, ◌+◌, Bool, true, false, ◌&&◌, not, List, [], ◌∷◌, ◌++◌, length, pos, Option, Some, None, option_and_then, Result, Ok, Err, if◌then◌else◌, nat_lt, codes, bytes_eq, slice_get}
 use Rattle.std.specs.List.{list_any, position_from}
-use Rattle.leaf_model.specs.declared.rows.Value.{Value}
+use Rattle.row_model.specs.declared.rows.Value.{Value}
 use Rattle.leaf_model.specs.declared.queries.Op.{Op}
 use Rattle.leaf_model.specs.declared.queries.Op.TheVariants.{Le, Ge}
 use Rattle.leaf_model.specs.declared.queries.Agg.{Agg}
 use Rattle.leaf_model.specs.declared.queries.Query.{Query}
 use Rattle.query_text.specs.declared.tokens.Token.{Token}
 use Rattle.query_text.specs.declared.tokens.Token.TheVariants as token
-use Rattle.leaf_model.specs.declared.query_fault.QueryFault.{QueryFault}
-use Rattle.leaf_model.specs.declared.query_fault.QueryFault.TheVariants.{Syntax, NoTime, TooLarge}
+use Rattle.row_model.specs.declared.query_fault.QueryFault.{QueryFault}
+use Rattle.row_model.specs.declared.query_fault.QueryFault.TheVariants.{Syntax, NoTime, TooLarge}
 use Rattle.query_text.specs.declared.places.Place.{Place}
 use Rattle.query_text.specs.declared.places.Place.TheVariants.{Select, Item, NameEnd, Opening, Inside, Closing, AggEnd, NextAgg, Table, Where, LowTime, LowSign, LowBound, And, HighTime, HighSign, HighBound, CondEnd, CondName, CondOp, CondValue, By, GroupName, GroupEnd, OrderBy, OrderAgg, OrderOpening, OrderInside, OrderClosing, Ordered, LimitNumber, Last}
 use Rattle.query_text.specs.declared.places.Move.{Move}
 use Rattle.query_text.specs.declared.places.Move.TheVariants.{On, Stuck}
 use Rattle.query_text.specs.Tokens.{Placed, tokens_of}
-use Rattle.query_text.specs.Roles.{is_word, is_mark, name_of, kind_of, table_of, is_int, op_of, int_of, const_for, is_has, limit_from, agg_inside, same_agg, has_kind, is_orderable}
-
--- ---- what was read, with one part more
-
--- one selected name more
-abbrev pub with_key : Query → List ℕ → Query
-with_key q name = record q { keys = q.keys ++ (name ∷ []) }
-
--- one aggregate more
-abbrev pub with_agg : Query → Agg → Query
-with_agg q a = record q { aggs = q.aggs ++ (a ∷ []) }
-
--- one condition more
-abbrev pub with_cond : Query → List ℕ → Op → Value → Query
-with_cond q name op v = record q { conds = q.conds ++ (record { name = name; op = op; value = v } ∷ []) }
+use Rattle.query_text.specs.Roles.{is_word, is_mark, name_of_token, agg_word_of, table_of_token, is_int, op_of, int_of, const_for, is_has, limit_from, agg_inside, same_agg, has_kind, is_orderable}
 
 -- ---- one token more
 
@@ -54,59 +40,73 @@ abbrev pub is_key : Option (List ℕ) → Option (List ℕ) → Bool
 is_key (Some a) (Some b) = bytes_eq a b
 is_key a b = false
 
--- ORDER, if there is an aggregate that it takes, or LIMIT
-abbrev pub order_or_limit : Query → Token → Move
-order_or_limit q t = if is_word (codes "ORDER") t && list_any is_orderable q.aggs then On q OrderBy else on_if (is_word (codes "LIMIT") t) q LimitNumber
+-- what was read so far is q
+module _ (q : Query) where
+  -- one selected name more
+  abbrev pub with_key : List ℕ → Query
+  with_key name = record q { keys = q.keys ++ (name ∷ []) }
 
--- a name is selected
-abbrev pub has_keys : Query → Bool
-has_keys q = nat_lt 0 (length q.keys)
+  -- one aggregate more
+  abbrev pub with_agg : Agg → Query
+  with_agg a = record q { aggs = q.aggs ++ (a ∷ []) }
 
--- what a token does at a place: Stuck if no query goes on with it
-abbrev pub goes_on : Query → Place → Token → Move
-goes_on q Select t = on_if (is_word (codes "SELECT") t) q Item
-goes_on q Item t = goes_with (kind_of t) (λ kind. On q (Opening kind)) (goes_with (name_of t) (λ name. On (with_key q name) NameEnd) Stuck)
-goes_on q NameEnd t = on_if (is_mark token.Comma t) q Item
-goes_on q (Opening kind) t = on_if (is_mark token.Open t) q (Inside kind)
-goes_on q (Inside kind) t = goes_with (agg_inside kind t) (λ a. On q (Closing a)) Stuck
-goes_on q (Closing a) t = on_if (is_mark token.Close t) (with_agg q a) AggEnd
-goes_on q AggEnd t = if is_mark token.Comma t then On q NextAgg else on_if (is_word (codes "FROM") t) q Table
-goes_on q NextAgg t = goes_with (kind_of t) (λ kind. On q (Opening kind)) Stuck
-goes_on q Table t = goes_with (table_of t) (λ name. On (record q { table = name }) Where) Stuck
-goes_on q Where t = on_if (is_word (codes "WHERE") t) q LowTime
-goes_on q LowTime t = on_if (is_word (codes "time") t) q LowSign
-goes_on q LowSign t = on_if (sign_fits true (op_of t)) q LowBound
-goes_on q LowBound t = goes_with (int_of t) (λ n. On (record q { from = n }) And) Stuck
-goes_on q And t = on_if (is_word (codes "AND") t) q HighTime
-goes_on q HighTime t = on_if (is_word (codes "time") t) q HighSign
-goes_on q HighSign t = on_if (sign_fits false (op_of t)) q HighBound
-goes_on q HighBound t = goes_with (int_of t) (λ n. On (record q { to = n }) CondEnd) Stuck
-goes_on q CondEnd t =
-    if is_word (codes "AND") t then On q CondName
-    else (if has_keys q then on_if (is_word (codes "GROUP") t) q By else order_or_limit q t)
-goes_on q CondName t = goes_with (name_of t) (λ name. On q (CondOp name)) Stuck
-goes_on q (CondOp name) t = goes_with (op_of t) (λ op. On q (CondValue name op)) Stuck
-goes_on q (CondValue name op) t = goes_with (const_for op t) (λ value. On (with_cond q name op value) CondEnd) Stuck
-goes_on q By t = on_if (is_word (codes "BY") t) q (GroupName 0)
-goes_on q (GroupName i) t = on_if (is_key (slice_get q.keys i) (name_of t)) q (GroupEnd (i + 1))
-goes_on q (GroupEnd i) t = if nat_lt i (length q.keys) then on_if (is_mark token.Comma t) q (GroupName i) else order_or_limit q t
-goes_on q OrderBy t = on_if (is_word (codes "BY") t) q OrderAgg
-goes_on q OrderAgg t = goes_with (kind_of t) (λ kind. on_if (list_any (has_kind kind) q.aggs) q (OrderOpening kind)) Stuck
-goes_on q (OrderOpening kind) t = on_if (is_mark token.Open t) q (OrderInside kind)
-goes_on q (OrderInside kind) t = goes_with (option_and_then (λ a. position_from (same_agg a) 0 q.aggs) (agg_inside kind t)) (λ i. On q (OrderClosing i)) Stuck
-goes_on q (OrderClosing i) t = on_if (is_mark token.Close t) (record q { order = Some i }) Ordered
-goes_on q Ordered t = on_if (is_word (codes "LIMIT") t) q LimitNumber
-goes_on q LimitNumber t = goes_with (limit_from (int_of t)) (λ n. On (record q { limit = n }) Last) Stuck
-goes_on q Last t = Stuck
+  -- one condition more
+  abbrev pub with_cond : List ℕ → Op → Value → Query
+  with_cond name op v = record q { conds = q.conds ++ (record { name = name; op = op; value = v } ∷ []) }
 
--- the places where the text may end: after the conditions if no name is selected, after the last name of GROUP BY,
--- after ORDER BY, and after LIMIT
-abbrev pub may_end : Query → Place → Bool
-may_end q CondEnd = not (has_keys q)
-may_end q (GroupEnd i) = not (nat_lt i (length q.keys))
-may_end q Ordered = true
-may_end q Last = true
-may_end q place = false
+  -- ORDER, if there is an aggregate that it takes, or LIMIT
+  abbrev pub order_or_limit : Token → Move
+  order_or_limit t = if is_word (codes "ORDER") t && list_any is_orderable q.aggs then On q OrderBy else on_if (is_word (codes "LIMIT") t) q LimitNumber
+
+  -- a name is selected
+  abbrev pub has_keys : Bool
+  has_keys = nat_lt 0 (length q.keys)
+
+  -- what a token does at a place: Stuck if no query goes on with it
+  abbrev pub goes_on : Place → Token → Move
+  goes_on Select t = on_if (is_word (codes "SELECT") t) q Item
+  goes_on Item t = goes_with (agg_word_of t) (λ kind. On q (Opening kind)) (goes_with (name_of_token t) (λ name. On (with_key name) NameEnd) Stuck)
+  goes_on NameEnd t = on_if (is_mark token.Comma t) q Item
+  goes_on (Opening kind) t = on_if (is_mark token.Open t) q (Inside kind)
+  goes_on (Inside kind) t = goes_with (agg_inside kind t) (λ a. On q (Closing a)) Stuck
+  goes_on (Closing a) t = on_if (is_mark token.Close t) (with_agg a) AggEnd
+  goes_on AggEnd t = if is_mark token.Comma t then On q NextAgg else on_if (is_word (codes "FROM") t) q Table
+  goes_on NextAgg t = goes_with (agg_word_of t) (λ kind. On q (Opening kind)) Stuck
+  goes_on Table t = goes_with (table_of_token t) (λ name. On (record q { table = name }) Where) Stuck
+  goes_on Where t = on_if (is_word (codes "WHERE") t) q LowTime
+  goes_on LowTime t = on_if (is_word (codes "time") t) q LowSign
+  goes_on LowSign t = on_if (sign_fits true (op_of t)) q LowBound
+  goes_on LowBound t = goes_with (int_of t) (λ n. On (record q { from = n }) And) Stuck
+  goes_on And t = on_if (is_word (codes "AND") t) q HighTime
+  goes_on HighTime t = on_if (is_word (codes "time") t) q HighSign
+  goes_on HighSign t = on_if (sign_fits false (op_of t)) q HighBound
+  goes_on HighBound t = goes_with (int_of t) (λ n. On (record q { to = n }) CondEnd) Stuck
+  goes_on CondEnd t =
+      if is_word (codes "AND") t then On q CondName
+      else (if has_keys then on_if (is_word (codes "GROUP") t) q By else order_or_limit t)
+  goes_on CondName t = goes_with (name_of_token t) (λ name. On q (CondOp name)) Stuck
+  goes_on (CondOp name) t = goes_with (op_of t) (λ op. On q (CondValue name op)) Stuck
+  goes_on (CondValue name op) t = goes_with (const_for op t) (λ value. On (with_cond name op value) CondEnd) Stuck
+  goes_on By t = on_if (is_word (codes "BY") t) q (GroupName 0)
+  goes_on (GroupName i) t = on_if (is_key (slice_get q.keys i) (name_of_token t)) q (GroupEnd (i + 1))
+  goes_on (GroupEnd i) t = if nat_lt i (length q.keys) then on_if (is_mark token.Comma t) q (GroupName i) else order_or_limit t
+  goes_on OrderBy t = on_if (is_word (codes "BY") t) q OrderAgg
+  goes_on OrderAgg t = goes_with (agg_word_of t) (λ kind. on_if (list_any (has_kind kind) q.aggs) q (OrderOpening kind)) Stuck
+  goes_on (OrderOpening kind) t = on_if (is_mark token.Open t) q (OrderInside kind)
+  goes_on (OrderInside kind) t = goes_with (option_and_then (λ a. position_from (same_agg a) 0 q.aggs) (agg_inside kind t)) (λ i. On q (OrderClosing i)) Stuck
+  goes_on (OrderClosing i) t = on_if (is_mark token.Close t) (record q { order = Some i }) Ordered
+  goes_on Ordered t = on_if (is_word (codes "LIMIT") t) q LimitNumber
+  goes_on LimitNumber t = goes_with (limit_from (int_of t)) (λ n. On (record q { limit = n }) Last) Stuck
+  goes_on Last t = Stuck
+
+  -- the places where the text may end: after the conditions if no name is selected, after the last name of GROUP BY,
+  -- after ORDER BY, and after LIMIT
+  abbrev pub may_end : Place → Bool
+  may_end CondEnd = not has_keys
+  may_end (GroupEnd i) = not (nat_lt i (length q.keys))
+  may_end Ordered = true
+  may_end Last = true
+  may_end place = false
 
 -- ---- faults
 

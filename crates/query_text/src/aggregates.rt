@@ -2,9 +2,9 @@
 ghost use Rattle.std.specs.Prelude.{◌≡◌, ℕ, List, option_and_then, bytes_eq};
 ghost use Rattle.std.specs.List.{list_any, position_from};
 ghost use Rattle.query_text.specs.declared.tokens.Token.TheVariants.{Name};
-ghost use Rattle.query_text.specs.Roles.{name_of, agg_inside, same_agg, has_kind, is_orderable};
+ghost use Rattle.query_text.specs.Roles.{name_of_token, agg_inside, same_agg, has_kind, is_orderable};
 
-use crate::places::Kind;
+use crate::places::AggWord;
 use crate::roles::{stars, take_name};
 use crate::tokens::Token;
 use leaf_model::{Agg, Text};
@@ -28,19 +28,19 @@ pub fn any_takes_order(aggs: &[Agg]) -> bool
 }
 
 /// Whether the aggregate is of this kind, and ORDER BY takes it.
-fn is_kind(kind: Kind, agg: &Agg) -> bool
+fn is_kind(kind: AggWord, agg: &Agg) -> bool
     ensures { result ≡ has_kind kind agg.now }
 {
     match agg {
-        Agg::Count => kind == Kind::Count,
-        Agg::Sum(_) => kind == Kind::Sum,
-        Agg::Min(_) => kind == Kind::Min,
-        Agg::Max(_) => kind == Kind::Max,
+        Agg::Count => kind == AggWord::Count,
+        Agg::Sum(_) => kind == AggWord::Sum,
+        Agg::Min(_) => kind == AggWord::Min,
+        Agg::Max(_) => kind == AggWord::Max,
         Agg::Avg(_) => false,
     }
 }
 
-pub fn any_is_kind(kind: Kind, aggs: &[Agg]) -> bool
+pub fn any_is_kind(kind: AggWord, aggs: &[Agg]) -> bool
     ensures { result ≡ list_any (has_kind kind) aggs.now }
 {
     for agg in aggs {
@@ -51,20 +51,20 @@ pub fn any_is_kind(kind: Kind, aggs: &[Agg]) -> bool
     false
 }
 
-fn agg_of_name(kind: Kind, name: Text) -> Option<Agg>
+fn agg_of_name(kind: AggWord, name: Text) -> Option<Agg>
     ensures { result ≡ agg_inside kind (Name name) }
 {
     match kind {
-        Kind::Count => None,
-        Kind::Sum => Some(Agg::Sum(name)),
-        Kind::Min => Some(Agg::Min(name)),
-        Kind::Max => Some(Agg::Max(name)),
-        Kind::Avg => Some(Agg::Avg(name)),
+        AggWord::Count => None,
+        AggWord::Sum => Some(Agg::Sum(name)),
+        AggWord::Min => Some(Agg::Min(name)),
+        AggWord::Max => Some(Agg::Max(name)),
+        AggWord::Avg => Some(Agg::Avg(name)),
     }
 }
 
-fn take_named(kind: Kind, token: Token) -> Option<Agg>
-    ensures { result ≡ option_and_then (λ (name : List ℕ). agg_inside kind (Name name)) (name_of token) }
+fn take_named(kind: AggWord, token: Token) -> Option<Agg>
+    ensures { result ≡ option_and_then (λ (name : List ℕ). agg_inside kind (Name name)) (name_of_token token) }
 {
     match take_name(token) {
         None => None,
@@ -73,18 +73,18 @@ fn take_named(kind: Kind, token: Token) -> Option<Agg>
 }
 
 /// The aggregate of this kind with this token between its parentheses. None if the kind does not take the token.
-pub fn take_inside(kind: Kind, token: Token) -> Option<Agg>
+pub fn take_inside(kind: AggWord, token: Token) -> Option<Agg>
     ensures { result ≡ agg_inside kind token }
 {
     match kind {
-        Kind::Count => {
+        AggWord::Count => {
             if stars(&token) {
                 Some(Agg::Count)
             } else {
                 None
             }
         }
-        Kind::Sum | Kind::Min | Kind::Max | Kind::Avg => take_named(kind, token),
+        AggWord::Sum | AggWord::Min | AggWord::Max | AggWord::Avg => take_named(kind, token),
     }
 }
 

@@ -1,7 +1,7 @@
 // Laws of every text and of every query.
 ghost use Rattle.std.specs.Prelude.{◌≡◌, ◌↔◌, ℕ, List, Ok, Err};
 ghost use Rattle.leaf_model.specs.declared.queries.Query.{Query};
-ghost use Rattle.leaf_model.specs.declared.query_fault.QueryFault.{QueryFault};
+ghost use Rattle.row_model.specs.declared.query_fault.QueryFault.{QueryFault};
 ghost use Rattle.query_text.specs.Tokens.{tokens_of};
 ghost use Rattle.query_text.specs.Reading.{query_of};
 ghost use Rattle.query_text.specs.Printing.{printed};

@@ -4,7 +4,7 @@ ghost use Rattle.std.specs.Char.{is_ascii_digit};
 ghost use Rattle.query_text.specs.Tokens.{value_from, signed_value, number_token, minus_token};
 
 use crate::quotes::stray_found;
-use crate::tokens::{Found, Token};
+use crate::tokens::{FoundToken, Token};
 
 /// One past the greatest i64, and the magnitude of the least.
 const LIMIT: u64 = 9_223_372_036_854_775_808;
@@ -76,22 +76,22 @@ pub fn digits_part(rest: &[u8]) -> &[u8]
 }
 
 /// The token of an integer that begins with the digit `first`.
-pub fn number_found(first: u8, digits: &[u8]) -> Found
+pub fn number_found(first: u8, digits: &[u8]) -> FoundToken
     ensures { result ≡ number_token (first ∷ digits.now) digits.now }
 {
-    Found {
+    FoundToken {
         token: Token::Int(number(false, u64::from(first.saturating_sub(b'0')), digits)),
         more: digits.len(),
     }
 }
 
 /// The token of an integer after a `-`. A `-` without a digit is a stray byte.
-pub fn minus_found(digits: &[u8]) -> Found
+pub fn minus_found(digits: &[u8]) -> FoundToken
     ensures { result ≡ minus_token digits.now }
 {
     match digits {
         [] => stray_found(),
-        [_, ..] => Found {
+        [_, ..] => FoundToken {
             token: Token::Int(number(true, 0, digits)),
             more: digits.len(),
         },

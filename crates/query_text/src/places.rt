@@ -4,7 +4,7 @@ use leaf_model::{Agg, Op, Query, Text};
 
 /// The words of aggregates.
 #[derive(Clone, Copy, PartialEq, Eq)]
-pub enum Kind {
+pub enum AggWord {
     Count,
     Sum,
     Min,
@@ -12,14 +12,14 @@ pub enum Kind {
     Avg,
 }
 
-/// What may come next. A number is a place among the selected names, or among the aggregates.
+/// The tokens that may come next. A number is a place among the selected names, or among the aggregates.
 #[derive(Drop)]
 pub enum Place {
     Select,
     Item,
     NameEnd,
-    Opening(Kind),
-    Inside(Kind),
+    Opening(AggWord),
+    Inside(AggWord),
     Closing(Agg),
     AggEnd,
     NextAgg,
@@ -41,15 +41,15 @@ pub enum Place {
     GroupEnd(u64),
     OrderBy,
     OrderAgg,
-    OrderOpening(Kind),
-    OrderInside(Kind),
+    OrderOpening(AggWord),
+    OrderInside(AggWord),
     OrderClosing(u64),
     Ordered,
     LimitNumber,
     Last,
 }
 
-/// What a token does to what was read: the query goes on, or no query goes on with the token.
+/// What a token does: the query goes on after it, or no query has this token here.
 #[derive(Drop)]
 pub enum Move {
     On(Query, Place),

@@ -2,9 +2,9 @@
 ghost use Rattle.std.specs.Prelude.{◌≡◌, ◌≤◌, ◌+◌, ◌∷◌, ℕ, List, IfOk, IfSome, Some, None, if◌then◌else◌, length, true, false};
 ghost use Rattle.std.specs.Str.{is_utf8};
 ghost use Rattle.query_text.specs.declared.tokens.Token.TheVariants as token;
-ghost use Rattle.query_text.specs.Tokens.{behind, quote_view, quote_from, quoted_token, stray};
+ghost use Rattle.query_text.specs.Tokens.{quote_after, quote_view, quote_from, one_byte, quoted_token};
 
-use crate::tokens::{Found, Token};
+use crate::tokens::{FoundToken, Token};
 use leaf_model::{MAX_NAME, MAX_TEXT, Text};
 use std::alloc::{AllocError, Global};
 
@@ -18,8 +18,9 @@ pub struct Quoted {
 /// Adds one byte, which does not end the quote. Tells whether a mark was just read.
 fn quote_byte(inside: &mut Vec<u8>, mark: u8, is_marked: bool, b: u8) -> Result<bool, AllocError>
     requires { is_marked ≡ true → b ≡ mark }
-    ensures { IfOk result (λ is_marked_now. (n : ℕ) → (rest : List ℕ) → behind inside.old.items n
-        (quote_from mark is_marked (b ∷ rest)) ≡ behind inside.new.items (n + 1) (quote_from mark is_marked_now rest)) }
+    ensures { IfOk result (λ is_marked_now. (n : ℕ) → (rest : List ℕ) → quote_after inside.old.items n
+        (quote_from mark is_marked (b ∷ rest))
+        ≡ quote_after inside.new.items (n + 1) (quote_from mark is_marked_now rest)) }
 {
     if is_marked {
         inside.push(b)?;
@@ -55,10 +56,10 @@ fn quote(alloc: Global, mark: u8, rest: &[u8]) -> Result<Option<Quoted>, AllocEr
 }
 
 /// The token of a byte that begins no other.
-pub fn stray_found() -> Found
-    ensures { result ≡ stray }
+pub fn stray_found() -> FoundToken
+    ensures { result ≡ one_byte token.Stray }
 {
-    Found {
+    FoundToken {
         token: Token::Stray,
         more: 0,
     }
@@ -77,7 +78,7 @@ fn text_from(bytes: Vec<u8>) -> Option<Text>
     }
 }
 
-fn name_found(quoted: Option<Quoted>) -> Found
+fn name_found(quoted: Option<Quoted>) -> FoundToken
     ensures { result ≡ quoted_token token.Name 1 255 (quote_view quoted) }
 {
     let Some(quoted) = quoted else {
@@ -88,14 +89,14 @@ fn name_found(quoted: Option<Quoted>) -> Found
     }
     match text_from(quoted.inside) {
         None => stray_found(),
-        Some(name) => Found {
+        Some(name) => FoundToken {
             token: Token::Name(name),
             more: quoted.long,
         },
     }
 }
 
-fn text_found(quoted: Option<Quoted>) -> Found
+fn text_found(quoted: Option<Quoted>) -> FoundToken
     ensures { result ≡ quoted_token token.Text 0 65535 (quote_view quoted) }
 {
     let Some(quoted) = quoted else {
@@ -106,23 +107,23 @@ fn text_found(quoted: Option<Quoted>) -> Found
     }
     match text_from(quoted.inside) {
         None => stray_found(),
-        Some(text) => Found {
+        Some(text) => FoundToken {
             token: Token::Text(text),
             more: quoted.long,
         },
     }
 }
 
-/// The token of a name in double quotes, of which the first was read: 1 to 255 bytes of UTF-8, else a stray byte.
-pub fn quoted_name(alloc: Global, rest: &[u8]) -> Result<Found, AllocError>
+/// The token of a name in double quotes, after the first quote: 1 to 255 bytes of UTF-8; else a stray byte.
+pub fn quoted_name(alloc: Global, rest: &[u8]) -> Result<FoundToken, AllocError>
     ensures value { IfOk result (λ found. found ≡ quoted_token token.Name 1 255 (quote_from 34 false rest.now)) }
     ensures long { IfOk result (λ found. found.more ≤ length rest.now) }
 {
     Ok(name_found(quote(alloc, b'"', rest)?))
 }
 
-/// The token of a text in single quotes, of which the first was read: at most 65,535 bytes of UTF-8, else a stray byte.
-pub fn quoted_text(alloc: Global, rest: &[u8]) -> Result<Found, AllocError>
+/// The token of a text in single quotes, after the first quote: at most 65,535 bytes of UTF-8; else a stray byte.
+pub fn quoted_text(alloc: Global, rest: &[u8]) -> Result<FoundToken, AllocError>
     ensures value { IfOk result (λ found. found ≡ quoted_token token.Text 0 65535 (quote_from 39 false rest.now)) }
     ensures long { IfOk result (λ found. found.more ≤ length rest.now) }
 {

@@ -1,6 +1,6 @@
 // The query that a text is, or its first fault.
 ghost use Rattle.std.specs.Prelude.{◌≡◌, ◌≢◌, Err, IfOk};
-ghost use Rattle.leaf_model.specs.declared.query_fault.QueryFault.TheVariants as fault;
+ghost use Rattle.row_model.specs.declared.query_fault.QueryFault.TheVariants as fault;
 ghost use Rattle.query_text.specs.Grammar.{IsQuery};
 ghost use Rattle.query_text.specs.Reading.{takes_int, is_in_range, plain_fault, fault_of, may_end, query_of};
 

@@ -1,9 +1,9 @@
 // What a token may stand for.
 ghost use Rattle.std.specs.Prelude.{◌≡◌};
 ghost use Rattle.query_text.specs.declared.tokens.Token.TheVariants.{Word, Open, Close, Star, Comma};
-ghost use Rattle.query_text.specs.Roles.{is_keyword, is_word, name_of, kind_of, table_of, is_mark, is_int, op_of, int_of, is_has, text_of, const_of, const_for, limit_from};
+ghost use Rattle.query_text.specs.Roles.{is_keyword, is_word, name_of_token, agg_word_of, table_of_token, is_mark, is_int, op_of, int_of, is_has, text_of_token, const_of, const_for, limit_from};
 
-use crate::places::Kind;
+use crate::places::AggWord;
 use crate::tokens::Token;
 use leaf_model::{MAX_NAME, Op, Text, Value, is_table_name};
 
@@ -45,7 +45,7 @@ pub fn is_the_word(token: &Token, word: &str) -> bool
 
 /// The name that a token gives: a word of at most 255 bytes that is no keyword, or a quoted name.
 pub fn take_name(token: Token) -> Option<Text>
-    ensures { result ≡ name_of token }
+    ensures { result ≡ name_of_token token }
 {
     match token {
         Token::Word(word) => {
@@ -60,22 +60,22 @@ pub fn take_name(token: Token) -> Option<Text>
     }
 }
 
-fn kind_named(word: &str) -> Option<Kind>
-    ensures { result ≡ kind_of (Word word.now) }
+fn kind_named(word: &str) -> Option<AggWord>
+    ensures { result ≡ agg_word_of (Word word.now) }
 {
     match word {
-        "COUNT" => Some(Kind::Count),
-        "SUM" => Some(Kind::Sum),
-        "MIN" => Some(Kind::Min),
-        "MAX" => Some(Kind::Max),
-        "AVG" => Some(Kind::Avg),
+        "COUNT" => Some(AggWord::Count),
+        "SUM" => Some(AggWord::Sum),
+        "MIN" => Some(AggWord::Min),
+        "MAX" => Some(AggWord::Max),
+        "AVG" => Some(AggWord::Avg),
         _ => None,
     }
 }
 
 /// The kind of aggregate that the token begins.
-pub fn kind_in(token: &Token) -> Option<Kind>
-    ensures { result ≡ kind_of token.now }
+pub fn kind_in(token: &Token) -> Option<AggWord>
+    ensures { result ≡ agg_word_of token.now }
 {
     match token {
         Token::Word(word) => kind_named(word.as_str()),
@@ -85,7 +85,7 @@ pub fn kind_in(token: &Token) -> Option<Kind>
 
 /// The table that a token names: a word that may be a table's name.
 pub fn take_table(token: Token) -> Option<Text>
-    ensures { result ≡ table_of token }
+    ensures { result ≡ table_of_token token }
 {
     match token {
         Token::Word(word) => {
@@ -161,7 +161,7 @@ fn take_const(token: Token) -> Option<Value>
 
 /// A text.
 fn take_text(token: Token) -> Option<Value>
-    ensures { result ≡ text_of token }
+    ensures { result ≡ text_of_token token }
 {
     match token {
         Token::Text(text) => Some(Value::Text(text)),

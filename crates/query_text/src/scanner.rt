@@ -1,15 +1,15 @@
 // The scanner, which gives one token at a time.
 ghost use Rattle.std.specs.Prelude.{◌≡◌, ◌≤◌, ◌<◌, ◌∷◌, IfOk, IsUtf8, length, drop, get_or, take_while, false};
-ghost use Rattle.query_text.specs.Tokens.{is_blank, goes_on_word, begins_word, pair_token, mark_token, token_with, tokens_from, word_token};
+ghost use Rattle.query_text.specs.Tokens.{is_blank_byte, goes_on_word, begins_word, pair_token, mark_token, token_with, tokens_from, word_token};
 
 use crate::numbers::{digits_part, minus_found, number_found};
 use crate::quotes::{quoted_name, quoted_text, stray_found};
-use crate::tokens::{Found, Token};
+use crate::tokens::{FoundToken, Token};
 use leaf_model::{Op, Text};
 use std::alloc::{AllocError, Global};
 
 fn is_space(b: u8) -> bool
-    ensures { result ≡ is_blank b }
+    ensures { result ≡ is_blank_byte b }
 {
     b == b' ' || b == b'\t'
 }
@@ -58,27 +58,27 @@ fn word_token(word: Text) -> Token
     }
 }
 
-fn word_found(alloc: Global, first: u8, part: &[u8]) -> Result<Found, AllocError>
+fn word_found(alloc: Global, first: u8, part: &[u8]) -> Result<FoundToken, AllocError>
     requires { IsUtf8 (first ∷ part.now) }
     ensures { IfOk result (λ found. found ≡ record { token = word_token (first ∷ part.now); more = length part.now }) }
 {
     let mut word: Vec<u8> = Vec::new(alloc);
     word.push(first)?;
     word.extend_from_slice(part)?;
-    Ok(Found {
+    Ok(FoundToken {
         token: word_token(text_of_utf8(word)),
         more: part.len(),
     })
 }
 
-fn mark(token: Token) -> Found
+fn mark(token: Token) -> FoundToken
     ensures { result ≡ record { token = token; more = 0 } }
 {
-    Found { token, more: 0 }
+    FoundToken { token, more: 0 }
 }
 
 /// The token of one mark, or of two if the second is `=`.
-fn pair_found(alone: Token, both: Token, rest: &[u8]) -> Found
+fn pair_found(alone: Token, both: Token, rest: &[u8]) -> FoundToken
     ensures value { result ≡ pair_token alone both rest.now }
     ensures long { result.more ≤ length rest.now }
 {
@@ -86,7 +86,7 @@ fn pair_found(alone: Token, both: Token, rest: &[u8]) -> Found
         [] => mark(alone),
         [b, ..] => {
             if *b == b'=' {
-                Found {
+                FoundToken {
                     token: both,
                     more: 1,
                 }
@@ -97,7 +97,7 @@ fn pair_found(alone: Token, both: Token, rest: &[u8]) -> Found
     }
 }
 
-fn mark_found(b: u8, rest: &[u8]) -> Found
+fn mark_found(b: u8, rest: &[u8]) -> FoundToken
     ensures value { result ≡ mark_token b rest.now }
     ensures long { result.more ≤ length rest.now }
 {
@@ -123,7 +123,7 @@ fn mark_found(b: u8, rest: &[u8]) -> Found
 }
 
 /// The longest token that begins with a byte. It takes memory for that token alone.
-pub fn token_at(alloc: Global, first: u8, rest: &[u8]) -> Result<Found, AllocError>
+pub fn token_at(alloc: Global, first: u8, rest: &[u8]) -> Result<FoundToken, AllocError>
     ensures value { IfOk result (λ found. found ≡ token_with first rest.now) }
     ensures long { IfOk result (λ found. found.more ≤ length rest.now) }
 {
@@ -148,7 +148,7 @@ pub fn next_solid(text: &[u8], from: usize) -> usize
     ensures same { tokens_from 0 from (drop from text.now) ≡ tokens_from 0 result (drop result text.now) }
     ensures within { result ≤ length text.now }
     ensures on { from ≤ result }
-    ensures solid { result < length text.now → is_blank (get_or text.now result 0) ≡ false }
+    ensures solid { result < length text.now → is_blank_byte (get_or text.now result 0) ≡ false }
 {
     let mut at = from;
     while at < text.len() && is_space(text[at]) {

@@ -1,6 +1,6 @@
 // What a token does where it stands.
 ghost use Rattle.std.specs.Prelude.{◌≡◌, IfOk, slice_get};
-ghost use Rattle.query_text.specs.Roles.{is_word, name_of};
+ghost use Rattle.query_text.specs.Roles.{is_word, name_of_token};
 ghost use Rattle.query_text.specs.Reading.{goes_on, has_keys, sign_fits, on_if, is_key, order_or_limit};
 ghost use Rattle.query_text.specs.declared.places.Place.TheVariants.{Item, NameEnd, Opening, Inside, Closing, AggEnd, NextAgg, Table, LowSign, LowBound, HighSign, HighBound, CondEnd, CondName, CondOp, CondValue, GroupName, GroupEnd, OrderAgg, OrderOpening, OrderInside, OrderClosing, LimitNumber};
 
@@ -8,7 +8,7 @@ use crate::aggregates::{any_is_kind, any_takes_order, find_agg, is_same_text, ta
 use crate::builders::{
     push_agg, push_cond, push_key, set_high, set_limit, set_low, set_order, set_table,
 };
-use crate::places::{Kind, Move, Place};
+use crate::places::{AggWord, Move, Place};
 use crate::roles::{
     closes, is_the_comma, is_the_word, kind_in, limit_in, number_in, op_in, opens, take_const_for,
     take_name, take_table,
@@ -45,7 +45,7 @@ fn order_here(query: Query, token: &Token) -> Move
 }
 
 /// Takes the inside of the aggregate in ORDER BY, which has to be a selected one.
-fn order_inside(query: Query, kind: Kind, token: Token) -> Move
+fn order_inside(query: Query, kind: AggWord, token: Token) -> Move
     ensures { result ≡ goes_on query (OrderInside kind) token }
 {
     match take_inside(kind, token) {
@@ -75,7 +75,7 @@ fn name_end(query: Query, token: Token) -> Move
     on_when(is_the_comma(&token), query, Place::Item)
 }
 
-fn opening(query: Query, kind: Kind, token: Token) -> Move
+fn opening(query: Query, kind: AggWord, token: Token) -> Move
     ensures { result ≡ goes_on query (Opening kind) token }
 {
     on_when(opens(&token), query, Place::Inside(kind))
@@ -90,7 +90,7 @@ fn next_agg(query: Query, token: Token) -> Move
     }
 }
 
-fn inside(query: Query, kind: Kind, token: Token) -> Move
+fn inside(query: Query, kind: AggWord, token: Token) -> Move
     ensures { result ≡ goes_on query (Inside kind) token }
 {
     match take_inside(kind, token) {
@@ -217,7 +217,7 @@ fn cond_value(query: Query, name: Text, op: Op, token: Token) -> Result<Move, Al
 
 /// Whether the token is the selected name at this place.
 fn is_selected(keys: &[Text], i: u64, token: Token) -> bool
-    ensures { result ≡ is_key (slice_get keys.now i) (name_of token) }
+    ensures { result ≡ is_key (slice_get keys.now i) (name_of_token token) }
 {
     match take_name(token) {
         None => false,
@@ -264,7 +264,7 @@ fn order_agg(query: Query, token: Token) -> Move
     }
 }
 
-fn order_opening(query: Query, kind: Kind, token: Token) -> Move
+fn order_opening(query: Query, kind: AggWord, token: Token) -> Move
     ensures { result ≡ goes_on query (OrderOpening kind) token }
 {
     on_when(opens(&token), query, Place::OrderInside(kind))
@@ -289,7 +289,7 @@ fn limit_number(query: Query, token: Token) -> Move
     }
 }
 
-/// What a token does where it stands.
+/// The move that a token makes at its place.
 pub fn step(query: Query, place: Place, token: Token) -> Result<Move, AllocError>
     ensures { IfOk result (λ moved. moved ≡ goes_on query place token) }
 {

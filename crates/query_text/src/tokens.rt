@@ -2,7 +2,7 @@
 
 use leaf_model::{Op, Text};
 
-/// What a text is cut into. An integer that is no i64 has no value.
+/// A token of a query's text. An integer out of the range of i64 has no value.
 #[derive(Drop)]
 pub enum Token {
     /// A letter or `_`, and then letters, digits and `_`.
@@ -23,7 +23,7 @@ pub enum Token {
 
 /// A token, and the number of its bytes after its first.
 #[derive(Drop)]
-pub struct Found {
+pub struct FoundToken {
     pub token: Token,
     pub more: usize,
 }

@@ -2,7 +2,7 @@
 ghost use Rattle.std.specs.Prelude.{◌≡◌, ◌∷◌};
 ghost use Rattle.region_head.specs.Head.{head_of, head_bytes};
 
-/// What the head of a region says.
+/// The state of a region by its head.
 #[derive(Clone, Copy, PartialEq, Eq)]
 pub enum Head {
     /// There are fewer than 16 bytes.

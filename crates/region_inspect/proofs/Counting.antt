@@ -13,7 +13,7 @@ use Rattle.adopt.specs.Finishing.{live_count}
 use Rattle.adopt.proofs.Counting.{count_end, count_next}
 use Rattle.region_inspect.specs.declared.seen.BlockLine.{BlockLine}
 use Rattle.region_inspect.specs.Shows.{ShowsBlock}
-use Rattle.region_inspect.specs.Inspecting.{AllCounted, CutsInside, HasKinds, SoFar, blocks_in}
+use Rattle.region_inspect.specs.Inspecting.{AllBlocksTold, CutsInside, HasKinds, ToldSoFar, blocks_in}
 
 zip_push : {A B : Type 0} (R : A → B → Type 0) (xs : List A) (ys : List B) (x : A) (y : B) → AllZip R xs ys → R x y → AllZip R (xs ++ x ∷ []) (ys ++ y ∷ [])
 zip_push R [] [] x y h r = (r, tt)
@@ -65,7 +65,7 @@ module _ (region : List ℕ) where
   kinds_more version (d ∷ done) place each one = (each.0, kinds_more version done place each.1 one)
 
   module _ (version : ℕ) (all : List BlockPlaces) (skip : ℕ) (h : ℤ) where
-    pub none_so_far : (cut : ℕ) (rest : List BlockPlaces) → rest ≡ all → cut ≡ skip → SoFar version region all skip h [] 0 cut rest
+    pub none_so_far : (cut : ℕ) (rest : List BlockPlaces) → rest ≡ all → cut ≡ skip → ToldSoFar version region all skip h [] 0 cut rest
     none_so_far cut rest is same = record {
       done = [];
       split = is;
@@ -75,7 +75,7 @@ module _ (region : List ℕ) where
       counted = let whole = ap (λ (bs : List BlockPlaces). live_count (blocks_in region bs) cut h) is ∙ ap (λ (n : ℕ). live_count (blocks_in region all) n h) same in omega (arith, whole);
     }
 
-    pub all_counted : (lines : List BlockLine) (live cut : ℕ) (rest : List BlockPlaces) → SoFar version region all skip h lines live cut rest → rest ≡ [] → AllCounted version region all skip h live lines
+    pub all_counted : (lines : List BlockLine) (live cut : ℕ) (rest : List BlockPlaces) → ToldSoFar version region all skip h lines live cut rest → rest ≡ [] → AllBlocksTold version region all skip h live lines
     all_counted lines live cut rest so_far none =
         let whole : so_far.done ≡ all = sym (append-nil so_far.done) ∙ ap (λ (bs : List BlockPlaces). so_far.done ++ bs) (sym none) ∙ so_far.split in
         record {
@@ -85,7 +85,7 @@ module _ (region : List ℕ) where
           lines_are = subst (λ (bs : List BlockPlaces). AllZip (ShowsBlock region) bs lines) whole so_far.lines_are;
         }
 
-    module _ (lines : List BlockLine) (live cut : ℕ) (rest rest' : List BlockPlaces) (place : BlockPlaces) (so_far : SoFar version region all skip h lines live cut rest) (is : rest ≡ place ∷ rest') where
+    module _ (lines : List BlockLine) (live cut : ℕ) (rest rest' : List BlockPlaces) (place : BlockPlaces) (so_far : ToldSoFar version region all skip h lines live cut rest) (is : rest ≡ place ∷ rest') where
       all_is : so_far.done ++ place ∷ rest' ≡ all
       all_is = ap (λ (bs : List BlockPlaces). so_far.done ++ bs) (sym is) ∙ so_far.split
 
@@ -104,7 +104,7 @@ module _ (region : List ℕ) where
         pub too_many : most_rows < live + one → live_count (blocks_in region all) skip h ≤ most_rows → ⊥
         too_many many few = let next = counted_next in absurd (omega (arith, next, many, few))
 
-        pub one_more : (line : BlockLine) → IsBlock (block_in region place) → HasKinds version (block_in region place) → ShowsBlock region place line → SoFar version region all skip h (lines ++ line ∷ []) (live + one) 0 rest'
+        pub one_more : (line : BlockLine) → IsBlock (block_in region place) → HasKinds version (block_in region place) → ShowsBlock region place line → ToldSoFar version region all skip h (lines ++ line ∷ []) (live + one) 0 rest'
         one_more line block kinds shows = record {
           done = so_far.done ++ place ∷ [];
           split = append_assoc so_far.done (place ∷ []) rest' ∙ all_is;

@@ -17,7 +17,7 @@ use Rattle.adopt.proofs.Meanings.{each_table}
 use Rattle.region_inspect.specs.declared.seen.BlockLine.{BlockLine}
 use Rattle.region_inspect.specs.declared.seen.TableLine.{TableLine}
 use Rattle.region_inspect.specs.Shows.{ShowsImage, ShowsTable}
-use Rattle.region_inspect.specs.Inspecting.{AllCounted, AreNone, HasNone, IsNone, IsSmall, IsSmallTable, TableIs, TablesSoFar, blocks_in}
+use Rattle.region_inspect.specs.Inspecting.{AllBlocksTold, AreNone, HasNone, IsNone, IsSmall, IsSmallTable, TableIs, TablesSoFar, blocks_in}
 
 -- ---- a table
 
@@ -25,7 +25,7 @@ skip_in : (region : List ℕ) (skip : ℕ) (bs : List BlockPlaces) → IsSkipOf 
 skip_in region skip [] is = is
 skip_in region skip (b ∷ bs) is = is
 
-pub table_is : (version : ℕ) (region : List ℕ) (t : TablePlaces) → IsTablePlaces t → (h : ℤ) → h ≡ t.horizon → (rows : ℕ) (lines : List BlockLine) → AllCounted version region t.blocks t.skip t.horizon rows lines → rows ≤ most_rows
+pub table_is : (version : ℕ) (region : List ℕ) (t : TablePlaces) → IsTablePlaces t → (h : ℤ) → h ≡ t.horizon → (rows : ℕ) (lines : List BlockLine) → AllBlocksTold version region t.blocks t.skip t.horizon rows lines → rows ≤ most_rows
     → TableIs version region t (record { name = t.name; rows = rows; writes = t.writes; horizon = h; blocks = lines })
 table_is version region t rules h same rows lines counted few = record {
   is = record {

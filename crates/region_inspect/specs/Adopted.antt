@@ -15,7 +15,7 @@ use Rattle.region_inspect.specs.declared.seen.Seen.TheVariants as seen
 use Rattle.region_inspect.specs.Shows.{Shows}
 
 -- the leaf has just the tables and the log of the image, by the way Memory
-pub record ComesTo (names : List (List ℕ)) (region : List ℕ) (log_end : ℕ) (s : OpenedLeaf) (way : Way) : Type 0 where
+pub record AdoptsAll (names : List (List ℕ)) (region : List ℕ) (log_end : ℕ) (s : OpenedLeaf) (way : Way) : Type 0 where
   pub way_is : way ≡ Memory
   pub images : List TableImage
   pub image : IsAdoptable region images log_end
@@ -25,7 +25,7 @@ pub record ComesTo (names : List (List ℕ)) (region : List ℕ) (log_end : ℕ)
 -- if an image is shown, each start that comes to its end comes to that image
 abbrev pub ImageIsAdopted : Type 0
 ImageIsAdopted = (names : List (List ℕ)) (region disk : List ℕ) (version log_end : ℕ) (lines : List TableLine) (s : OpenedLeaf) (way : Way)
-    → Shows region (seen.Image version log_end lines) → IsCome names region disk s way → ComesTo names region log_end s way
+    → Shows region (seen.Image version log_end lines) → IsCome names region disk s way → AdoptsAll names region log_end s way
 
 -- what may still refuse a start over such a region: its calls, a table that the leaf does not have, or memory
 abbrev pub MayRefuse : List (List ℕ) → List ℕ → OpenFault → Type 0

@@ -27,8 +27,8 @@ blocks_in region bs = map (block_in region) bs
 abbrev pub HasKinds : ℕ → Block → Type 0
 HasKinds version b = AllByRecursion (λ (c : BlockColumn). allows version (kind_in c.bytes) ≡ true) b.columns
 
--- a prefix of the blocks has lines, with so many live rows
-pub record SoFar (version : ℕ) (region : List ℕ) (all : List BlockPlaces) (skip : ℕ) (h : ℤ) (lines : List BlockLine) (live cut : ℕ) (rest : List BlockPlaces) : Type 0 where
+-- a prefix of the blocks has lines; its blocks have this number of live rows
+pub record ToldSoFar (version : ℕ) (region : List ℕ) (all : List BlockPlaces) (skip : ℕ) (h : ℤ) (lines : List BlockLine) (live cut : ℕ) (rest : List BlockPlaces) : Type 0 where
   pub done : List BlockPlaces
   pub split : done ++ rest ≡ all
   pub blocks : AllByRecursion IsBlock (blocks_in region done)
@@ -37,7 +37,7 @@ pub record SoFar (version : ℕ) (region : List ℕ) (all : List BlockPlaces) (s
   pub counted : live + live_count (blocks_in region rest) cut h ≡ live_count (blocks_in region all) skip h
 
 -- all blocks have lines
-pub record AllCounted (version : ℕ) (region : List ℕ) (all : List BlockPlaces) (skip : ℕ) (h : ℤ) (rows : ℕ) (lines : List BlockLine) : Type 0 where
+pub record AllBlocksTold (version : ℕ) (region : List ℕ) (all : List BlockPlaces) (skip : ℕ) (h : ℤ) (rows : ℕ) (lines : List BlockLine) : Type 0 where
   pub blocks : AllByRecursion IsBlock (blocks_in region all)
   pub kinds : AllByRecursion (HasKinds version) (blocks_in region all)
   pub rows_are : rows ≡ live_count (blocks_in region all) skip h

@@ -9,17 +9,17 @@ ghost use Rattle.time_range.specs.Ranges.{IsRange};
 ghost use Rattle.region_layout.specs.Region.{allows};
 ghost use Rattle.region_layout.specs.declared.directory.Place.{Place};
 ghost use Rattle.region_layout.specs.declared.directory.BlockPlaces.{BlockPlaces};
-ghost use Rattle.region_reading.specs.declared.fault.LookFault.TheVariants as fault;
+ghost use Rattle.region_reading.specs.declared.fault.AdoptFault.TheVariants as fault;
 ghost use Rattle.region_reading.specs.Reading.{Untouched};
 ghost use Rattle.table_state.specs.Tables.{most_rows};
-ghost use Rattle.region_inspect.specs.Inspecting.{AllCounted, AreNone, CutsInside, IsSmall};
+ghost use Rattle.region_inspect.specs.Inspecting.{AllBlocksTold, AreNone, CutsInside, IsSmall};
 
 use crate::lists::put;
 use crate::seen::{BlockLine, BlockLines};
 use berth_face::Berth;
 use column_bytes::Kind;
 use region_layout::{BlockPlaces, Place, allows};
-use region_reading::{LookFault, read_block};
+use region_reading::{AdoptFault, read_block};
 use row_blocks::{BlockColumn, RowBlock};
 use std::alloc::Global;
 use std::collections::VecDeque;
@@ -34,7 +34,7 @@ struct Size {
 
 /// The lines of a table's blocks, and its number of rows.
 #[derive(Drop)]
-pub struct Counted {
+pub struct CountedBlocks {
     pub rows: u64,
     pub blocks: BlockLines,
 }
@@ -103,14 +103,16 @@ pub fn inspect_blocks<B: Berth>(
     skip: u32,
     horizon: i64,
     berth: &mut B,
-) -> Result<Option<Counted>, LookFault>
+) -> Result<Option<CountedBlocks>, AdoptFault>
     requires small { AllByRecursion IsSmall blocks.items }
     requires inside { CutsInside skip blocks.items }
     ensures some { IsTrue (B.meaning berth.old).tells
-        → IfOk result (λ found. IfSome found (λ c. AllCounted version (B.meaning berth.old).held.region blocks.items skip horizon c.rows c.blocks)) }
+        → IfOk result (λ found. IfSome found (λ c. AllBlocksTold version (B.meaning berth.old).held.region blocks.items
+        skip horizon c.rows c.blocks)) }
     ensures few { IfOk result (λ found. IfSome found (λ c. c.rows ≤ most_rows)) }
     ensures none { IsTrue (B.meaning berth.old).tells
-        → IfOk result (λ found. found ≡ None → AreNone version (B.meaning berth.old).held.region blocks.items skip horizon) }
+        → IfOk result (λ found. found ≡ None
+        → AreNone version (B.meaning berth.old).held.region blocks.items skip horizon) }
     ensures untouched { Untouched (B.meaning berth.old) (B.meaning berth.new) }
     ensures cause { result ≡ Err fault.RegionFault
         → Rose (B.meaning berth.old).region_faults (B.meaning berth.new).region_faults }
@@ -134,7 +136,7 @@ pub fn inspect_blocks<B: Berth>(
         cut = 0;
         put(line_of(&block, size), &mut lines)?;
     }
-    Ok(Some(Counted {
+    Ok(Some(CountedBlocks {
         rows: live,
         blocks: BlockLines::of(lines),
     }))

@@ -5,7 +5,7 @@ ghost use Rattle.region_head.specs.declared.head.Head.TheVariants.{Version};
 ghost use Rattle.region_head.specs.Head.{head_of};
 ghost use Rattle.region_layout.specs.Region.{HasDirectory, reads};
 ghost use Rattle.region_layout.specs.Directory.{IsDirectory};
-ghost use Rattle.region_reading.specs.declared.fault.LookFault.TheVariants as fault;
+ghost use Rattle.region_reading.specs.declared.fault.AdoptFault.TheVariants as fault;
 ghost use Rattle.region_reading.specs.Reading.{LooksAt, Untouched};
 ghost use Rattle.region_inspect.specs.Shows.{Shows};
 
@@ -14,7 +14,7 @@ use crate::tables::inspect_tables;
 use berth_face::Berth;
 use region_head::Head;
 use region_layout::{Directory, reads};
-use region_reading::{Front, LookFault, Looked, look, read_front};
+use region_reading::{AdoptFault, Front, Looked, look, read_front};
 use std::alloc::Global;
 
 /// Looks at the tables of a region with this directory.
@@ -23,7 +23,7 @@ fn inspect_image<B: Berth>(
     version: u32,
     looked: Looked,
     berth: &mut B,
-) -> Result<Seen, LookFault>
+) -> Result<Seen, AdoptFault>
     requires rules { IsDirectory looked.place looked.directory }
     ensures shows { IsTrue (B.meaning berth.old).tells → reads version ≡ true
         → HasDirectory version (B.meaning berth.old).held.region looked.directory
@@ -49,7 +49,7 @@ fn inspect_version<B: Berth>(
     version: u32,
     front: &[u8; 16],
     berth: &mut B,
-) -> Result<Seen, LookFault>
+) -> Result<Seen, AdoptFault>
     ensures shows { IsTrue (B.meaning berth.old).tells → head_of (B.meaning berth.old).held.region ≡ Version version
         → front.now ≡ take 16 (B.meaning berth.old).held.region
         → IfOk result (Shows (B.meaning berth.old).held.region) }
@@ -67,7 +67,7 @@ fn inspect_version<B: Berth>(
 }
 
 /// Tells what the region of a berth holds. The berth stays as it is.
-pub fn inspect<B: Berth>(alloc: Global, berth: &mut B) -> Result<Seen, LookFault>
+pub fn inspect<B: Berth>(alloc: Global, berth: &mut B) -> Result<Seen, AdoptFault>
     ensures shows { IsTrue (B.meaning berth.old).tells → IfOk result (Shows (B.meaning berth.old).held.region) }
     ensures untouched { Untouched (B.meaning berth.old) (B.meaning berth.new) }
     ensures cause { result ≡ Err fault.RegionFault

@@ -2,7 +2,7 @@
 ghost use Rattle.std.specs.Prelude.{◌≡◌, None, IfOk, IfSome, IsTrue, Err};
 ghost use Rattle.std.specs.List.{AllByRecursion, AllZip};
 ghost use Rattle.berth_face.specs.Causes.{Rose};
-ghost use Rattle.region_reading.specs.declared.fault.LookFault.TheVariants as fault;
+ghost use Rattle.region_reading.specs.declared.fault.AdoptFault.TheVariants as fault;
 ghost use Rattle.region_reading.specs.Reading.{Untouched};
 ghost use Rattle.region_inspect.specs.Inspecting.{HasNone, IsNone, IsSmallTable, TableIs};
 
@@ -11,7 +11,7 @@ use crate::lists::put;
 use crate::seen::TableLine;
 use berth_face::Berth;
 use region_layout::TablePlaces;
-use region_reading::LookFault;
+use region_reading::AdoptFault;
 use std::alloc::Global;
 use std::collections::VecDeque;
 
@@ -21,7 +21,7 @@ fn inspect_table<B: Berth>(
     version: u32,
     table: TablePlaces,
     berth: &mut B,
-) -> Result<Option<TableLine>, LookFault>
+) -> Result<Option<TableLine>, AdoptFault>
     requires { IsSmallTable table }
     ensures some { IsTrue (B.meaning berth.old).tells
         → IfOk result (λ found. IfSome found (TableIs version (B.meaning berth.old).held.region table)) }
@@ -56,10 +56,11 @@ pub fn inspect_tables<B: Berth>(
     version: u32,
     tables: Vec<TablePlaces>,
     berth: &mut B,
-) -> Result<Option<Vec<TableLine>>, LookFault>
+) -> Result<Option<Vec<TableLine>>, AdoptFault>
     requires { AllByRecursion IsSmallTable tables.items }
     ensures some { IsTrue (B.meaning berth.old).tells
-        → IfOk result (λ found. IfSome found (λ lines. AllZip (TableIs version (B.meaning berth.old).held.region) tables.items lines.items)) }
+        → IfOk result (λ found. IfSome found (λ lines. AllZip (TableIs version (B.meaning berth.old).held.region)
+        tables.items lines.items)) }
     ensures none { IsTrue (B.meaning berth.old).tells
         → IfOk result (λ found. found ≡ None → HasNone version (B.meaning berth.old).held.region tables.items) }
     ensures untouched { Untouched (B.meaning berth.old) (B.meaning berth.new) }

@@ -13,7 +13,8 @@ fn put_block_head(
     number: u64,
     block: &BlockLine,
 ) -> Result<(), AllocError>
-    ensures { OnOk result (out.new.items ≡ out.old.items ++ (name.now ++ (codes " block " ++ (decimal number ++ (codes " rows " ++ decimal block.now.rows))))) }
+    ensures { OnOk result (out.new.items ≡ out.old.items
+        ++ (name.now ++ (codes " block " ++ (decimal number ++ (codes " rows " ++ decimal block.now.rows))))) }
 {
     let rows = block.rows;
     let text = format!(in *out.allocator(); "{name} block {number} rows {rows}")?;
@@ -22,7 +23,8 @@ fn put_block_head(
 
 fn put_block_rest(out: &mut Vec<u8>, block: &BlockLine) -> Result<(), AllocError>
     ensures { OnOk result (out.new.items ≡ out.old.items
-        ++ (codes " from " ++ (signed_decimal block.now.from ++ (codes " to " ++ (signed_decimal block.now.to ++ (codes " columns " ++ (decimal block.now.columns
+        ++ (codes " from " ++ (signed_decimal block.now.from
+        ++ (codes " to " ++ (signed_decimal block.now.to ++ (codes " columns " ++ (decimal block.now.columns
         ++ (codes " bytes " ++ (decimal block.now.bytes ++ 10 ∷ []))))))))) }
 {
     let BlockLine {
@@ -62,8 +64,11 @@ fn put_blocks(out: &mut Vec<u8>, name: &str, blocks: &[BlockLine]) -> Result<(),
 }
 
 fn put_head(out: &mut Vec<u8>, table: &TableLine) -> Result<(), AllocError>
-    ensures { OnOk result (out.new.items ≡ out.old.items ++ (table.now.name ++ (codes " rows " ++ (decimal table.now.rows ++ (codes " writes "
-        ++ (decimal table.now.writes ++ (codes " horizon " ++ (signed_decimal table.now.horizon ++ (codes " blocks " ++ (decimal (length table.now.blocks) ++ 10 ∷ [])))))))))) }
+    ensures { OnOk result (out.new.items ≡ out.old.items
+        ++ (table.now.name ++ (codes " rows " ++ (decimal table.now.rows ++ (codes " writes "
+        ++ (decimal table.now.writes
+        ++ (codes " horizon " ++ (signed_decimal table.now.horizon
+        ++ (codes " blocks " ++ (decimal (length table.now.blocks) ++ 10 ∷ [])))))))))) }
 {
     let name = table.name.as_str();
     let rows = table.rows;
@@ -94,7 +99,8 @@ fn put_tables(out: &mut Vec<u8>, tables: &[TableLine]) -> Result<(), AllocError>
 
 fn put_image(out: &mut Vec<u8>, version: u32, log_end: u64, count: usize) -> Result<(), AllocError>
     ensures { OnOk result (out.new.items ≡ out.old.items
-        ++ (codes " image " ++ (decimal version ++ (codes " tables " ++ (decimal count ++ (codes " log " ++ (decimal log_end ++ 10 ∷ []))))))) }
+        ++ (codes " image " ++ (decimal version
+        ++ (codes " tables " ++ (decimal count ++ (codes " log " ++ (decimal log_end ++ 10 ∷ []))))))) }
 {
     let text = format!(in *out.allocator(); " image {version} tables {count} log {log_end}\n")?;
     out.extend_from_slice(text.as_bytes())

@@ -5,7 +5,7 @@ use Rattle.std.specs.List.{flat_map, AllByRecursion}
 use Rattle.std.specs.Str.{IsUtf8}
 use Rattle.std.specs.Int.{w32, w64}
 use Rattle.std.proofs.lemmas.Bool.{ltb-false, le-ltb, eqb-true, eqb-false}
-use Rattle.leaf_model.specs.Values.{IsTime}
+use Rattle.row_model.specs.Values.{IsTime}
 use Rattle.leaf_model.specs.Bytes.{name_bytes, i64_bytes, u32_bytes, u64_bytes, IsBytes}
 use Rattle.leaf_model.specs.Reading.{◌>>=◌, byte_at, many_at, number_at, name_at, time_at}
 use Rattle.leaf_model.proofs.Fields.{bind_some, passed, held, some_is, Takes, Takes-then, wide32, wide64, byte_takes, number_takes, number_again, name_takes, name_again, time_takes, time_again}

@@ -10,11 +10,11 @@ use Rattle.std.specs.declared.cmp.Ordering.TheVariants.{Less, Equal, Greater}
 use Rattle.std.proofs.lemmas.Bool.{and_parts}
 use Rattle.std.proofs.lemmas.Cmp.{nat_list_cmp_total}
 use Rattle.std.proofs.lemmas.List.{take_all, drop_more, drop_all}
-use Rattle.leaf_model.specs.Groups.{text_cmp}
-use Rattle.leaf_model.specs.Names.{is_among, are_distinct}
+use Rattle.row_model.specs.Texts.{text_cmp}
+use Rattle.row_model.specs.Names.{is_among, are_distinct}
 use Rattle.region_layout.specs.declared.directory.Place.{Place}
 use Rattle.region_layout.specs.declared.directory.TablePlaces.{TablePlaces}
-use Rattle.region_layout.specs.Tests.{do_not_fall, is_named, table_names}
+use Rattle.region_layout.specs.Tests.{do_not_fall, places_are_named, table_names}
 
 -- ---- one name after another, as a loop does
 
@@ -99,7 +99,7 @@ order_again (p ∷ rest) up = ap (λ (b : Bool). b && do_not_fall p.name rest) (
 
 -- ---- distinct names
 
-among_names : (name : List ℕ) (tables : List TablePlaces) → list_any (is_named name) tables ≡ is_among (table_names tables) name
+among_names : (name : List ℕ) (tables : List TablePlaces) → list_any (places_are_named name) tables ≡ is_among (table_names tables) name
 among_names name [] = refl
 among_names name (t ∷ tables) = ap (λ b. bytes_eq t.name name || b) (among_names name tables)
 
@@ -108,16 +108,16 @@ abbrev behind : List TablePlaces → List TablePlaces
 behind tables = take (length tables - 1) (drop 1 tables)
 
 by_first : (tables : List TablePlaces) (first : TablePlaces) (name : List ℕ) → 0 < length tables → first ≡ slice_index_or tables 0 first → name ≡ first.name
-    → are_distinct (table_names tables) ≡ (not (list_any (is_named name) (behind tables)) && are_distinct (table_names (behind tables)))
+    → are_distinct (table_names tables) ≡ (not (list_any (places_are_named name) (behind tables)) && are_distinct (table_names (behind tables)))
 by_first [] first name some is same = absurd (omega (arith, some))
 by_first (t ∷ ts) first name some is same =
     let all : take (length (t ∷ ts) - 1) ts ≡ ts = take_all (length (t ∷ ts) - 1) ts (omega arith) in
     rw (all, same, is, among_names t.name ts) refl
 
 pub first_alone : (tables : List TablePlaces) (first : TablePlaces) (name : List ℕ) → 0 < length tables → first ≡ slice_index_or tables 0 first → name ≡ first.name
-    → list_any (is_named name) (behind tables) ≡ false → are_distinct (table_names (behind tables)) ≡ are_distinct (table_names tables)
+    → list_any (places_are_named name) (behind tables) ≡ false → are_distinct (table_names (behind tables)) ≡ are_distinct (table_names tables)
 first_alone tables first name some is same alone = sym (by_first tables first name some is same ∙ ap (λ b. not b && are_distinct (table_names (behind tables))) alone)
 
 pub first_again : (tables : List TablePlaces) (first : TablePlaces) (name : List ℕ) → 0 < length tables → first ≡ slice_index_or tables 0 first → name ≡ first.name
-    → list_any (is_named name) (behind tables) ≡ true → false ≡ are_distinct (table_names tables)
+    → list_any (places_are_named name) (behind tables) ≡ true → false ≡ are_distinct (table_names tables)
 first_again tables first name some is same again = sym (by_first tables first name some is same ∙ ap (λ b. not b && are_distinct (table_names (behind tables))) again)

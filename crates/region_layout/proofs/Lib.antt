@@ -10,3 +10,4 @@ pub mod Tested
 pub mod Kept
 pub mod Found
 pub mod Images
+pub mod Bare

@@ -5,8 +5,8 @@ use Rattle.std.specs.List.{list_all, AllByRecursion}
 use Rattle.std.specs.Str.{bytes_eq}
 use Rattle.std.proofs.lemmas.Bool.{and_parts, eqb-true, ltb-true, lt-ltb}
 use Rattle.std.proofs.lemmas.Slice.Eq.{bytes_eq-Decides}
-use Rattle.leaf_model.specs.Values.{IsCellName, time_name}
-use Rattle.leaf_model.specs.Names.{are_distinct}
+use Rattle.row_model.specs.Values.{IsCellName, time_name}
+use Rattle.row_model.specs.Names.{are_distinct}
 use Rattle.leaf_model.proofs.Distinct.{distinct_names, are_distinct-from}
 use Rattle.region_layout.specs.declared.directory.Place.{Place}
 use Rattle.region_layout.specs.declared.directory.BlockPlaces.{BlockPlaces}

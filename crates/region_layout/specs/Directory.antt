@@ -4,12 +4,12 @@ use Rattle.std.specs.Prelude as prelude
 use Rattle.std.specs.List.{AllByRecursion, flat_map}
 use Rattle.std.specs.List.Sorted.{IsSortedByKey}
 use Rattle.std.specs.Int.{w32, w64}
-use Rattle.leaf_model.specs.Values.{IsCellName, IsTime, time_name}
-use Rattle.leaf_model.specs.Groups.{text_cmp}
+use Rattle.row_model.specs.Values.{IsCellName, IsTime, time_name}
+use Rattle.row_model.specs.Texts.{text_cmp}
 use Rattle.leaf_model.specs.Reading.{◌>>=◌, byte_at, many_at, number_at, name_at, time_at}
 use Rattle.region_layout.specs.Names.{IsName}
 use Rattle.region_layout.specs.Reading.{below_2_63_at}
-use Rattle.leaf_model.specs.Names.{AreDistinct}
+use Rattle.row_model.specs.Names.{AreDistinct}
 use Rattle.region_layout.specs.declared.directory.Place.{Place}
 use Rattle.region_layout.specs.declared.directory.BlockPlaces.{BlockPlaces}
 use Rattle.region_layout.specs.declared.directory.TablePlaces.{TablePlaces}

@@ -2,7 +2,7 @@
 use Rattle.std.specs.Prelude.{ℕ, ℤ, List, [], ◌∷◌, map, None, Option, unwrap_or, pos, Bool}
 use Rattle.std.specs.List.{find}
 use Rattle.std.specs.Str.{bytes_eq}
-use Rattle.leaf_model.specs.declared.rows.Row.{Row}
+use Rattle.row_model.specs.declared.rows.Row.{Row}
 use Rattle.leaf_model.specs.Content.{Contents}
 use Rattle.row_blocks.specs.Held.{columns_count}
 use Rattle.table_state.specs.Tables.{HeldTables, Table, no_store}
@@ -21,10 +21,10 @@ abbrev pub image_of : List ℕ → Table → TableImage
 image_of name t = record { name = name; horizon = t.contents.horizon; writes = t.writes; rows = t.contents.rows; columns = columns_count t.store.blocks }
 
 -- tables and their names, place by place
-abbrev pub images_of : List (List ℕ) → List Table → List TableImage
-images_of [] tables = []
-images_of (name ∷ names) [] = []
-images_of (name ∷ names) (t ∷ tables) = image_of name t ∷ images_of names tables
+abbrev pub images_by_name : List (List ℕ) → List Table → List TableImage
+images_by_name [] tables = []
+images_by_name (name ∷ names) [] = []
+images_by_name (name ∷ names) (t ∷ tables) = image_of name t ∷ images_by_name names tables
 
 -- what a table of an image holds
 abbrev pub contents_of : TableImage → Contents

@@ -1,7 +1,7 @@
 -- The names of a leaf's tables.
 use Rattle.std.specs.Prelude.{ℕ, ◌<◌, ◌≤◌, List, length, IsUtf8}
 use Rattle.std.specs.List.{AllByRecursion}
-use Rattle.leaf_model.specs.Names.{AreDistinct}
+use Rattle.row_model.specs.Names.{AreDistinct}
 
 -- a name of at most 255 bytes of UTF-8
 abbrev pub IsName : List ℕ → Type 0

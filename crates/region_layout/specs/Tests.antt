@@ -4,9 +4,9 @@ use Rattle.std.specs.Prelude as prelude
 use Rattle.std.specs.List.{list_all}
 use Rattle.std.specs.Str.{bytes_eq}
 use Rattle.std.specs.Ordering.{is_gt}
-use Rattle.leaf_model.specs.Values.{time_name}
-use Rattle.leaf_model.specs.Groups.{text_cmp}
-use Rattle.leaf_model.specs.Names.{are_distinct}
+use Rattle.row_model.specs.Values.{time_name}
+use Rattle.row_model.specs.Texts.{text_cmp}
+use Rattle.row_model.specs.Names.{are_distinct}
 use Rattle.leaf_model.specs.Reading.{◌>>=◌}
 use Rattle.region_layout.specs.declared.directory.Place.{Place}
 use Rattle.region_layout.specs.declared.directory.BlockPlaces.{BlockPlaces}
@@ -31,8 +31,8 @@ are_columns (times ∷ others) = bytes_eq times.name time_name && (list_all has_
 abbrev pub has_columns : BlockPlaces → Bool
 has_columns b = are_columns b.columns
 
-abbrev pub is_named : List ℕ → TablePlaces → Bool
-is_named name t = bytes_eq t.name name
+abbrev pub places_are_named : List ℕ → TablePlaces → Bool
+places_are_named name t = bytes_eq t.name name
 
 abbrev pub table_names : List TablePlaces → List (List ℕ)
 table_names tables = map (λ (t : TablePlaces). t.name) tables

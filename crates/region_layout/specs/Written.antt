@@ -2,7 +2,7 @@
 use Rattle.std.specs.Prelude.{ℕ, ◌<◌, ◌≤◌, ◌^◌, List, ◌∷◌, ◌++◌}
 use Rattle.std.specs.Prelude as prelude
 use Rattle.std.specs.List.{AllByRecursion, flat_map}
-use Rattle.leaf_model.specs.Values.{IsTime}
+use Rattle.row_model.specs.Values.{IsTime}
 use Rattle.leaf_model.specs.Bytes.{name_bytes, u32_bytes, u64_bytes, i64_bytes}
 use Rattle.region_layout.specs.Names.{IsName}
 use Rattle.region_layout.specs.declared.directory.Place.{Place}
@@ -51,7 +51,7 @@ pub record TableFits (t : TablePlaces) : Type 0 where
   pub count : prelude.length t.blocks < 2 ^ 32
   pub each : AllByRecursion BlockFits t.blocks
 
--- at most 16 tables, and an end of the log below 2^63; each directory that was read is so
+-- a directory of at most 16 tables, with an end of the log below 2^63; each that was read is one
 pub record MayBeWritten (d : Directory) : Type 0 where
   pub log_end : d.log_end < 2 ^ 63
   pub few : prelude.length d.tables ≤ 16

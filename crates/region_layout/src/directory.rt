@@ -153,8 +153,10 @@ pub struct Directory {
 impl Directory {
     /// Reads all of the bytes as a directory that stands at this place of a region. None if they are none.
     pub fn read(alloc: Global, bytes: &[u8], place: u64) -> Result<Option<Directory>, AllocError>
-        ensures found { IfOk result (λ found. IfSome found (λ d. (bytes.now ≡ directory_bytes d) × IsDirectory place d)) }
-        ensures only { (d : Directory) → bytes.now ≡ directory_bytes d → IsDirectory place d → IfOk result (λ found. found ≡ Some d) }
+        ensures found { IfOk result (λ found. IfSome found (λ d. (bytes.now ≡ directory_bytes d)
+            × IsDirectory place d)) }
+        ensures only { (d : Directory) → bytes.now ≡ directory_bytes d → IsDirectory place d
+            → IfOk result (λ found. found ≡ Some d) }
         // What is read has room in a directory.
         ensures fits { IfOk result (λ found. IfSome found (λ d. MayBeWritten d)) }
     {

@@ -76,7 +76,8 @@ fn put_blocks(out: &mut Vec<u8>, blocks: &[BlockPlaces]) -> Result<(), AllocErro
 /// Appends the fields of a table that come before the skip.
 fn put_table_head(out: &mut Vec<u8>, table: &TablePlaces) -> Result<(), AllocError>
     requires { TableFits table.now }
-    ensures { OnOk result (out.new.items ≡ out.old.items ++ (name_bytes table.now.name ++ (i64_bytes table.now.horizon ++ u64_bytes table.now.writes))) }
+    ensures { OnOk result (out.new.items ≡ out.old.items
+        ++ (name_bytes table.now.name ++ (i64_bytes table.now.horizon ++ u64_bytes table.now.writes))) }
 {
     put_name(out, table.name.as_str())?;
     put_horizon(out, table)?;
@@ -85,7 +86,9 @@ fn put_table_head(out: &mut Vec<u8>, table: &TablePlaces) -> Result<(), AllocErr
 
 fn put_counted_blocks(out: &mut Vec<u8>, table: &TablePlaces) -> Result<(), AllocError>
     requires { TableFits table.now }
-    ensures { OnOk result (out.new.items ≡ out.old.items ++ (u32_bytes table.now.skip ++ (u32_bytes (length table.now.blocks) ++ flat_map block_bytes table.now.blocks))) }
+    ensures { OnOk result (out.new.items ≡ out.old.items
+        ++ (u32_bytes table.now.skip
+        ++ (u32_bytes (length table.now.blocks) ++ flat_map block_bytes table.now.blocks))) }
 {
     let blocks = table.blocks.as_slice();
     put_u32(out, table.skip)?;

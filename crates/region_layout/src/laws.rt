@@ -14,7 +14,9 @@ pub fn one_head()
 
 /// A region is the image of at most one list of tables and one end of the log. A closed region is no image.
 pub fn one_reading()
-    ensures tables { (region : List ℕ) (s t : List TableImage) (d e : ℕ) → IsAdoptable region s d → IsAdoptable region t e → s ≡ t }
-    ensures log_end { (region : List ℕ) (s t : List TableImage) (d e : ℕ) → IsAdoptable region s d → IsAdoptable region t e → d ≡ e }
+    ensures tables { (region : List ℕ) (s t : List TableImage) (d e : ℕ) → IsAdoptable region s d
+        → IsAdoptable region t e → s ≡ t }
+    ensures log_end { (region : List ℕ) (s t : List TableImage) (d e : ℕ) → IsAdoptable region s d
+        → IsAdoptable region t e → d ≡ e }
     ensures closed { (region : List ℕ) (s : List TableImage) (d : ℕ) → IsClosed region → IsAdoptable region s d → ⊥ }
 {}

@@ -2,14 +2,14 @@
 ghost use Rattle.std.specs.Prelude.{◌≡◌, []};
 ghost use Rattle.std.specs.List.{list_all, list_any};
 ghost use Rattle.std.specs.Ordering.{is_gt};
-ghost use Rattle.leaf_model.specs.Groups.{text_cmp};
-ghost use Rattle.leaf_model.specs.Names.{are_distinct};
-ghost use Rattle.region_layout.specs.Tests.{has_cell_name, do_not_fall, are_columns, has_columns, is_named, table_names, is_skip_of, is_table_places, end_by, end_of_place, end_of_block, end_of_table, is_directory};
+ghost use Rattle.row_model.specs.Texts.{text_cmp};
+ghost use Rattle.row_model.specs.Names.{are_distinct};
+ghost use Rattle.region_layout.specs.Tests.{has_cell_name, do_not_fall, are_columns, has_columns, places_are_named, table_names, is_skip_of, is_table_places, end_by, end_of_place, end_of_block, end_of_table, is_directory};
 
 use crate::directory::{BlockPlaces, Directory, Place, TablePlaces};
 use leaf_model::MAX_NAME;
 
-/// Where the columns of a region begin.
+/// The place in a region where its columns begin.
 const FIRST_PLACE: u64 = 16;
 
 fn has_cell_name(place: &Place) -> bool
@@ -90,7 +90,7 @@ fn are_tables(tables: &[TablePlaces]) -> bool
 
 /// Whether a table has this name.
 fn has_name(tables: &[TablePlaces], name: &str) -> bool
-    ensures { result ≡ list_any (is_named name.now) tables.now }
+    ensures { result ≡ list_any (places_are_named name.now) tables.now }
 {
     tables.iter().any(|table| table.name.as_str() == name)
 }

@@ -3,10 +3,10 @@ ghost use Rattle.std.specs.Prelude.{◌≡◌, None, IfOk, IfSome, IsTrue, Err, 
 ghost use Rattle.berth_face.specs.Causes.{Rose};
 ghost use Rattle.row_blocks.specs.Blocks.{IsBlock};
 ghost use Rattle.region_layout.specs.Region.{block_in, column_in};
-ghost use Rattle.region_reading.specs.declared.fault.LookFault.TheVariants as fault;
+ghost use Rattle.region_reading.specs.declared.fault.AdoptFault.TheVariants as fault;
 ghost use Rattle.region_reading.specs.Reading.{Untouched};
 
-use crate::fault::LookFault;
+use crate::fault::AdoptFault;
 use crate::lists::put;
 use crate::region::read_piece;
 use berth_face::Berth;
@@ -20,7 +20,7 @@ fn read_column<B: Berth>(
     alloc: Global,
     place: Place,
     berth: &mut B,
-) -> Result<BlockColumn, LookFault>
+) -> Result<BlockColumn, AdoptFault>
     ensures told { IsTrue (B.meaning berth.old).tells
         → IfOk result (λ column. column ≡ column_in (B.meaning berth.old).held.region place) }
     ensures untouched { Untouched (B.meaning berth.old) (B.meaning berth.new) }
@@ -39,7 +39,7 @@ fn read_columns<B: Berth>(
     alloc: Global,
     places: Vec<Place>,
     berth: &mut B,
-) -> Result<Vec<BlockColumn>, LookFault>
+) -> Result<Vec<BlockColumn>, AdoptFault>
     ensures told { IsTrue (B.meaning berth.old).tells
         → IfOk result (λ columns. columns.items ≡ map (column_in (B.meaning berth.old).held.region) places.items) }
     ensures untouched { Untouched (B.meaning berth.old) (B.meaning berth.new) }
@@ -59,7 +59,7 @@ pub fn read_block<B: Berth>(
     alloc: Global,
     places: BlockPlaces,
     berth: &mut B,
-) -> Result<Option<RowBlock>, LookFault>
+) -> Result<Option<RowBlock>, AdoptFault>
     ensures some { IsTrue (B.meaning berth.old).tells
         → IfOk result (λ found. IfSome found (λ block. block ≡ block_in (B.meaning berth.old).held.region places)) }
     ensures block { IfOk result (λ found. IfSome found IsBlock) }
@@ -75,6 +75,6 @@ pub fn read_block<B: Berth>(
     match RowBlock::from_columns(alloc, rows, BlockColumns::of(columns)) {
         Ok(block) => Ok(Some(block)),
         Err(BlockFault::NoRows) => Ok(None),
-        Err(BlockFault::NoMemory) => Err(LookFault::NoMemory),
+        Err(BlockFault::NoMemory) => Err(AdoptFault::NoMemory),
     }
 }

@@ -9,7 +9,7 @@ mod looking;
 mod region;
 
 pub use block::read_block;
-pub use fault::LookFault;
+pub use fault::AdoptFault;
 pub use looked::Looked;
 pub use looking::{look, look_at};
 pub use region::{Front, read_front, read_piece};

@@ -4,10 +4,10 @@ ghost use Rattle.std.specs.Int.{w64, from_le_bytes};
 ghost use Rattle.berth_face.specs.Causes.{Rose};
 ghost use Rattle.region_head.specs.declared.head.Head.TheVariants.{Version};
 ghost use Rattle.region_head.specs.Head.{head_of};
-ghost use Rattle.region_reading.specs.declared.fault.LookFault.TheVariants as fault;
+ghost use Rattle.region_reading.specs.declared.fault.AdoptFault.TheVariants as fault;
 ghost use Rattle.region_reading.specs.Reading.{IsRead, IsThere, LooksAt, StandsAt, TellsPlace, Untouched};
 
-use crate::fault::LookFault;
+use crate::fault::AdoptFault;
 use crate::looked::Looked;
 use crate::region::read_piece;
 use berth_face::Berth;
@@ -53,7 +53,7 @@ fn read_behind<B: Berth>(
     alloc: Global,
     place: u64,
     berth: &mut B,
-) -> Result<(Vec<u8>, u64), LookFault>
+) -> Result<(Vec<u8>, u64), AdoptFault>
     ensures told { IsTrue (B.meaning berth.old).tells
         → IfOk result (λ read. (read.0.items ≡ drop place (B.meaning berth.old).held.region)
         × (read.1 ≡ length (B.meaning berth.old).held.region)) }
@@ -79,7 +79,7 @@ pub fn look_at<B: Berth>(
     alloc: Global,
     place: u64,
     berth: &mut B,
-) -> Result<Option<Looked>, LookFault>
+) -> Result<Option<Looked>, AdoptFault>
     ensures told { IsTrue (B.meaning berth.old).tells → IfOk result (StandsAt place (B.meaning berth.old).held.region) }
     ensures read { IfOk result (λ found. IfSome found (λ l. IsRead l.place l.directory)) }
     ensures untouched { Untouched (B.meaning berth.old) (B.meaning berth.new) }
@@ -103,7 +103,7 @@ pub fn look<B: Berth>(
     alloc: Global,
     front: &[u8; 16],
     berth: &mut B,
-) -> Result<Option<Looked>, LookFault>
+) -> Result<Option<Looked>, AdoptFault>
     ensures told { (region : List ℕ) (version : ℕ) → IsTrue (B.meaning berth.old).tells
         → drop 1 (B.meaning berth.old).held.region ≡ drop 1 region → head_of region ≡ Version version
         → front.now ≡ take 16 region → IfOk result (LooksAt version region) }

@@ -11,7 +11,7 @@ use leaf_model::Names;
 use std::alloc::{AllocError, Global};
 use std::test::Fail;
 
-/// What a look finds in what a crash left.
+/// The result of a look at a region that a crash left.
 #[derive(Clone, Copy, Debug, PartialEq, Eq)]
 enum Left {
     Closed,
@@ -19,7 +19,7 @@ enum Left {
     Other,
 }
 
-/// What is left, where `whole` is the whole image.
+/// The result of that look; `whole` is the whole image.
 fn looked_at(alloc: Global, mut berth: MemBerth, names: &Names, whole: &[u8]) -> Left
     requires { AreNames names.now }
 {
@@ -32,8 +32,8 @@ fn looked_at(alloc: Global, mut berth: MemBerth, names: &Names, whole: &[u8]) ->
     }
 }
 
-/// How many images of these moments are the whole image, which now stands in the region; none where one is neither that
-/// nor closed.
+/// The number of images of these moments that are the whole image, which now is in the region. None if an image is
+/// neither that nor closed.
 fn whole_images(
     alloc: Global,
     berth: &MemBerth,

@@ -29,7 +29,7 @@ fn step_on(drain: &mut Drain, berth: &mut MemBerth) -> Result<(DrainStep, bool),
     }
 }
 
-/// Drains to the end. Each step, with the length of the region, the bytes that were held and the number of moments
+/// Drains to the end. Gives each step, with the length of the region, the bytes that are held and the number of moments
 /// after it.
 pub fn drain_all(
     alloc: Global,
@@ -53,8 +53,8 @@ pub fn drain_all(
     Ok(seen)
 }
 
-/// Adopts to the end: the tables, and where the log ends. Each step but the last, with the length of the region and the
-/// bytes that were held after it, is put behind `seen`.
+/// Adopts to the end. Gives the tables, and where the log ends. Appends to `seen` each step but the last, with the
+/// length of the region and the bytes that are held after it.
 pub fn adopt_all(
     alloc: Global,
     adopt: Adopt,

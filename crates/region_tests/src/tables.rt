@@ -1,7 +1,7 @@
 // Tables that the tests share, how they are handed over, and the line that tells one.
 ghost use Rattle.std.specs.Prelude.{◌≡◌, ◌≤◌, ◌<◌, [], None, IfOk, OnOk, length};
 ghost use Rattle.std.specs.List.{AllByRecursion};
-ghost use Rattle.leaf_model.specs.Values.{IsRow};
+ghost use Rattle.row_model.specs.Values.{IsRow};
 ghost use Rattle.region_layout.specs.Names.{IsName};
 ghost use Rattle.table_state.specs.Tables.{IsParts};
 
@@ -61,7 +61,7 @@ pub fn handed_over(alloc: Global, name: &str, table: TableState) -> Result<Drain
     Ok(DrainTable { name, parts })
 }
 
-/// What tells of a column: its name and its bytes.
+/// A column as text: its name and its bytes.
 pub fn told_column(alloc: Global, name: &str, bytes: &[u8]) -> Result<String, AllocError> {
     let mut told = format!(in alloc; "; {name}")?;
     for byte in bytes {
@@ -70,7 +70,7 @@ pub fn told_column(alloc: Global, name: &str, bytes: &[u8]) -> Result<String, Al
     Ok(told)
 }
 
-/// What tells of a block's columns.
+/// A block's columns as text.
 fn told_block(alloc: Global, block: &RowBlock) -> Result<String, AllocError> {
     let mut told = String::new(alloc);
     for column in block.columns() {
@@ -80,8 +80,8 @@ fn told_block(alloc: Global, block: &RowBlock) -> Result<String, AllocError> {
     Ok(told)
 }
 
-/// What tells of a table: its name, horizon and number of writes, how many rows are cut away from its first block, how
-/// many stand in its tail, and the columns of its blocks.
+/// A table as text: its name, its horizon, its numbers of writes, of rows that are cut off its first block and of rows
+/// in its tail, and the columns of its blocks.
 pub fn line_of(alloc: Global, name: &str, table: &TableState) -> Result<String, AllocError> {
     let horizon = table.horizon();
     let writes = table.writes();

@@ -91,7 +91,7 @@ pub fn drained_berth(alloc: Global) -> Result<MemBerth, AllocError> {
     Ok(berth)
 }
 
-/// The adoption of both tables that a look finds ready; none where it finds something else.
+/// The adoption of both tables that a look finds ready. None if it finds something else.
 fn both_ready(alloc: Global, berth: &mut MemBerth) -> Result<Option<Adopt>, AllocError> {
     let names = both_names(alloc)?;
     match find(alloc, berth, &names) {
@@ -100,7 +100,7 @@ fn both_ready(alloc: Global, berth: &mut MemBerth) -> Result<Option<Adopt>, Allo
     }
 }
 
-/// The lines of the tables that come back, where the log ends as it did.
+/// The lines of the tables that come back, if the log ends where it did.
 fn lines_after(
     alloc: Global,
     adopt: Adopt,

@@ -14,7 +14,7 @@ use std::test::Fail;
 /// A row with the time 5 and no cells.
 const AT_FIVE: &[u8] = b"\x05\0\0\0\0\0\0\0\0\0";
 
-/// The region of a table `t` that one write gave this row, whose log ends at 35.
+/// The region of a table `t` with one write of this row. The log ends at 35.
 pub const IMAGE: [u8; 128] = [
     0x01, 0x53, 0x43, 0x42, 0x03, 0, 0, 0, 0x40, 0, 0, 0, 0, 0, 0, 0, 0x01, 0x01, 0, 0, 0x01, 0, 0,
     0, 0x28, 0, 0, 0, 0, 0, 0, 0, 0x28, 0, 0, 0, 0, 0, 0, 0, 0x28, 0, 0, 0, 0, 0, 0, 0, 0x30, 0, 0,
@@ -28,7 +28,7 @@ pub fn berth_on(alloc: Global, region: &[u8]) -> Result<MemBerth, AllocError> {
     Ok(MemBerth::new(region.to_vec(alloc)?, Vec::new(alloc)))
 }
 
-/// How long the region is, and its flag.
+/// The length of the region, and its flag.
 pub fn shape(berth: &MemBerth) -> (usize, Option<u8>) {
     let region = berth.region();
     (region.len(), region.first().copied())
@@ -60,7 +60,7 @@ fn a_table_is_drained_into_the_worked_image(rt: HostRuntime) -> Result<(), Fail>
     Ok(())
 }
 
-/// The adoption that a look finds ready over a berth, for a leaf with this table; none where it finds something else.
+/// The adoption that a look finds ready over a berth, for a leaf with this table. None if it finds something else.
 pub fn ready(alloc: Global, berth: &mut MemBerth) -> Result<Option<Adopt>, AllocError> {
     let names = one_name(alloc, "t")?;
     match find(alloc, berth, &names) {
@@ -69,7 +69,7 @@ pub fn ready(alloc: Global, berth: &mut MemBerth) -> Result<Option<Adopt>, Alloc
     }
 }
 
-/// The lines of the tables that an adoption gives, behind where the log ends.
+/// The place where the log ends, and the lines of the tables that an adoption gives.
 fn adopted(
     alloc: Global,
     adopt: Adopt,

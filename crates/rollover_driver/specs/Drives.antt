@@ -12,9 +12,9 @@ AreAllTold [] old asked new = (asked ≡ false) × (new ≡ old)
 AreAllTold (first ∷ events) old asked new = (between : List Held) × (later : Bool) × AreTold first old between × AreAllTold events between later new
     × (asked ≡ (is_halt_asked first old || later))
 
--- Of `total` waves `begun` were begun, and these are left. If none is left, or a halt was asked before the next, no
--- call follows. Else the next wave begins: it is told, each of its leaves is drained and told, and then each is started
--- and told. The waves after it go on from there.
+-- `begun` of `total` waves were begun, and these are left. If none is left, or a halt was asked for, no call follows.
+-- Else the next wave begins: it is told; each of its leaves is drained, which is told; then each is started, which is
+-- told. The other waves follow.
 abbrev pub WavesGo : (total begun : ℕ) (waves : List (List ℕ)) (asked : Bool) (old : List Held) (calls : List FleetCall) (rolled : Rolled) (new : List Held) → Type 0
 WavesGo total begun [] asked old calls rolled new = (calls ≡ []) × (rolled ≡ record { waves = begun; halted = false }) × (new ≡ old)
 WavesGo total begun (wave ∷ waves) true old calls rolled new = (calls ≡ []) × (rolled ≡ record { waves = begun; halted = true }) × (new ≡ old)

@@ -9,7 +9,7 @@ use crate::fleet::Fleet;
 use rollover_plan::{Wave, Waves};
 use rollover_watch::{RollEvent, Watch, tell_all};
 
-/// What a rollover came to: the number of waves that were begun, and whether one was left out.
+/// The result of a rollover: the number of waves that were begun, and whether one was left out.
 #[derive(Clone, Copy, PartialEq, Eq)]
 pub struct Rolled {
     pub waves: u32,

@@ -4,12 +4,12 @@ ghost use Rattle.rollover_driver.specs.Calls.{FleetCall, Drains, Starts};
 
 use rollover_watch::{Drained, Started};
 
-/// Leaves by number, each of which can be drained and started. What a call did stands in its answer.
+/// Leaves by number, which can be drained and started. The answer of a call says what it did.
 pub trait Fleet {
-    /// What has to hold of a leaf before it is drained or started: it is one of those that the fleet has.
+    /// The precondition of a drain or a start: the fleet has the leaf.
     ghost has: { Self → ℕ → Type 0 };
 
-    /// How it stands after these calls to what it was before them.
+    /// The relation between the fleet before and after these calls.
     ghost stands: { Self → List FleetCall → Self → Type 0 };
 
     /// Drains a leaf.

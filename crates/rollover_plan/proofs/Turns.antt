@@ -4,7 +4,7 @@ use Rattle.std.proofs.lemmas.Nat.{mul-add-lt, div-mul-add, mod-mul-add, div-add-
 use Rattle.std.proofs.Math.Nat.{mul_comm, mul-le-mul_right, lt_of_mul-lt-mul_right, suc-mul, zero-mul}
 use Rattle.std.proofs.lemmas.List.{map-append}
 use Rattle.std.specs.List.{flat_map, range_with_len}
-use Rattle.rollover_plan.specs.Plan.{at_place, by_place}
+use Rattle.rollover_plan.specs.Plan.{by_place}
 
 -- the leaf of a turn, where turns go round the machines
 abbrev pub leaf_at : ℕ → ℕ → ℕ → ℕ
@@ -85,13 +85,13 @@ module _ (m p : ℕ) (some : 0 < m) where
       ap (λ leaf. leaf ∷ map (λ machine. machine * p + place) (range_with_len (i + 1) k)) (in_round place i (omega arith))
       ∙ ap (λ leaves. leaf_at m p (place * m + i) ∷ leaves) (one_round place (i + 1) k (omega arith) ∙ ap (λ j. map (leaf_at m p) (range_with_len j k)) next)
 
-  rounds : (place k : ℕ) → flat_map (at_place m p) (range_with_len place k) ≡ map (leaf_at m p) (range_with_len (place * m) (k * m))
+  rounds : (place k : ℕ) → flat_map (λ place. map (λ machine. machine * p + place) (range_with_len 0 m)) (range_with_len place k) ≡ map (leaf_at m p) (range_with_len (place * m) (k * m))
   rounds place zero = let none : 0 ≡ 0 * m = sym (zero-mul m) in ap (λ n. map (leaf_at m p) (range_with_len (place * m) n)) none
   rounds place (suc k) =
       let start : place * m + 0 ≡ place * m = omega arith in
       let next : (place + 1) * m ≡ place * m + m = ap (λ n. n * m) add_one ∙ suc-mul place m in
       let more : m + k * m ≡ suc k * m = omega (arith, suc-mul k m) in
-      ap (λ leaves. leaves ++ flat_map (at_place m p) (range_with_len (place + 1) k)) (one_round place 0 m (omega arith) ∙ ap (λ j. map (leaf_at m p) (range_with_len j m)) start)
+      ap (λ leaves. leaves ++ flat_map (λ place. map (λ machine. machine * p + place) (range_with_len 0 m)) (range_with_len (place + 1) k)) (one_round place 0 m (omega arith) ∙ ap (λ j. map (leaf_at m p) (range_with_len j m)) start)
       ∙ ap (λ leaves. map (leaf_at m p) (range_with_len (place * m) m) ++ leaves) (rounds (place + 1) k ∙ ap (λ j. map (leaf_at m p) (range_with_len j (k * m))) next)
       ∙ sym (map-append (leaf_at m p) (range_with_len (place * m) m) (range_with_len (place * m + m) (k * m)))
       ∙ ap (map (leaf_at m p)) (range_append (place * m) m (k * m) ∙ ap (range_with_len (place * m)) more)

@@ -14,13 +14,9 @@ module _ (machines per_machine : ℕ) where
   abbrev pub share : ℕ → ℕ
   share percent = min machines (max 1 (machines * per_machine * percent / 100))
 
-  -- the leaves at one place of each machine
-  abbrev pub at_place : ℕ → List ℕ
-  at_place place = map (λ machine. machine * per_machine + place) (range_with_len 0 machines)
-
   -- the leaves in the order of their place on the machine, then of the machine
   abbrev pub by_place : List ℕ
-  by_place = flat_map at_place (range_with_len 0 per_machine)
+  by_place = flat_map (λ place. map (λ machine. machine * per_machine + place) (range_with_len 0 machines)) (range_with_len 0 per_machine)
 
   -- the waves of a rollover: its leaves in order, cut by the share
   abbrev pub IsPlan : ℕ → List (List ℕ) → Type 0

@@ -51,9 +51,9 @@ fn cut(alloc: Global, leaves: &[u32], share: u32) -> Result<Vec<Wave>, AllocErro
     Ok(waves)
 }
 
-/// The waves of a rollover over `machines` machines with `per_machine` leaves each. A wave takes at most `percent`
-/// percent of all leaves, but at least one, and at most one of each machine. No other waves that have every leaf, and
-/// at most as many in each, are fewer. An Err is want of memory.
+/// The waves of a rollover over `machines` machines with `per_machine` leaves each. A wave takes at most one leaf of
+/// each machine, and at most `percent` percent of all leaves, but at least one. The number of waves is the least that
+/// these rules allow. Err if memory runs out.
 pub fn waves(
     alloc: Global,
     machines: u32,
@@ -67,7 +67,8 @@ pub fn waves(
     requires high { percent ≤ 100 }
     ensures plan { IfOk result (λ waves. IsPlan machines per_machine percent waves) }
     ensures each_once { IfOk result (λ waves. RollsEachOnce machines per_machine percent waves) }
-    ensures fewest { IfOk result (λ waves. IsFewest (machines * per_machine) (share machines per_machine percent) waves) }
+    ensures fewest { IfOk result (λ waves. IsFewest (machines * per_machine) (share machines per_machine percent)
+        waves) }
     ensures count { IfOk result (λ waves. length waves ≤ machines * per_machine) }
 {
     let leaves = by_place(alloc, machines, per_machine)?;

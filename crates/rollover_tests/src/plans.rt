@@ -15,7 +15,7 @@ fn put_wave(text: &mut String, wave: &Wave) -> Result<(), AllocError> {
     text.push_str(" )")
 }
 
-/// The waves of a fleet, one behind another.
+/// The waves of a fleet, one after another.
 fn planned(
     alloc: Global,
     machines: u32,

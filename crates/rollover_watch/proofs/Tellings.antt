@@ -5,35 +5,35 @@ use Rattle.std.proofs.Math.ListN.{set}
 use Rattle.std.proofs.lemmas.List.{append-nil, append_assoc, length-set, length-map, length-append, length-take-le, length-drop, take_more_set, take_all, take_at, drop_all, drop_at, drop_more, drop-set-lt, take-set, map-set, take-map, drop-map}
 use Rattle.rollover_watch.specs.declared.event.RollEvent.{RollEvent}
 use Rattle.rollover_watch.specs.declared.event.Wish.TheVariants.{Stay, Leave, Halt}
-use Rattle.rollover_watch.specs.Watches.{Held, HasHeard, AreTold, is_staying, stays, is_halting, halts}
+use Rattle.rollover_watch.specs.Watches.{Held, HasHeard, AreTold, is_staying, is_halting}
 
 -- the watches before a place were told; what those behind it come to completes the list
 pub record IsTelling (event : RollEvent) (all now : List Held) (place : ℕ) (halted : Bool) : Type 0 where
   pub within : place ≤ length now
   pub left : (further : List Held) → AreTold event (drop place now) further → AreTold event all (take place now ++ further)
-  pub halts : list_any (halts event) all ≡ (halted || list_any (halts event) (drop place now))
+  pub halts : list_any (λ (watch : Held). is_halting (watch.wish [] event)) all ≡ (halted || list_any (λ (watch : Held). is_halting (watch.wish [] event)) (drop place now))
 
 pub telling_begins : (event : RollEvent) (all : List Held) → IsTelling event all all 0 false
 telling_begins event all = record { within = omega arith; left = λ further h. h; halts = refl }
 
 pub telling_ends : (event : RollEvent) (all now : List Held) (place : ℕ) (halted : Bool) → IsTelling event all now place halted → length now ≤ place
-    → AreTold event all now × (halted ≡ list_any (halts event) all)
+    → AreTold event all now × (halted ≡ list_any (λ (watch : Held). is_halting (watch.wish [] event)) all)
 telling_ends event all now place halted t end =
     let none : drop place now ≡ [] = drop_all place now end in
     let last : AreTold event (drop place now) [] = subst (λ ws. AreTold event ws []) (sym none) tt in
     let whole : take place now ++ [] ≡ now = append-nil (take place now) ∙ take_all place now end in
-    (subst (λ ws. AreTold event all ws) whole (t.left [] last), sym (t.halts ∙ ap (λ ws. halted || list_any (halts event) ws) none ∙ or_false halted))
+    (subst (λ ws. AreTold event all ws) whole (t.left [] last), sym (t.halts ∙ ap (λ ws. halted || list_any (λ (watch : Held). is_halting (watch.wish [] event)) ws) none ∙ or_false halted))
   where
     or_false : (b : Bool) → (b || false) ≡ b
     or_false true = refl
     or_false false = refl
 
 -- the first watch of a list stays, or leaves
-kept : (event : RollEvent) (w : Held) (ws vs : List Held) (v : Held) → stays event w ≡ true → HasHeard event w v → AreTold event ws vs → AreTold event (w ∷ ws) (v ∷ vs)
-kept event w ws vs v stay heard rest = subst (λ b. AllZip (HasHeard event) (cond b (w ∷ filter (stays event) ws) (filter (stays event) ws)) (v ∷ vs)) (sym stay) (heard, rest)
+kept : (event : RollEvent) (w : Held) (ws vs : List Held) (v : Held) → is_staying (w.wish [] event) ≡ true → HasHeard event w v → AreTold event ws vs → AreTold event (w ∷ ws) (v ∷ vs)
+kept event w ws vs v stay heard rest = subst (λ b. AllZip (HasHeard event) (cond b (w ∷ filter (λ (watch : Held). is_staying (watch.wish [] event)) ws) (filter (λ (watch : Held). is_staying (watch.wish [] event)) ws)) (v ∷ vs)) (sym stay) (heard, rest)
 
-gone : (event : RollEvent) (w : Held) (ws vs : List Held) → stays event w ≡ false → AreTold event ws vs → AreTold event (w ∷ ws) vs
-gone event w ws vs leave rest = subst (λ b. AllZip (HasHeard event) (cond b (w ∷ filter (stays event) ws) (filter (stays event) ws)) vs) (sym leave) rest
+gone : (event : RollEvent) (w : Held) (ws vs : List Held) → is_staying (w.wish [] event) ≡ false → AreTold event ws vs → AreTold event (w ∷ ws) vs
+gone event w ws vs leave rest = subst (λ b. AllZip (HasHeard event) (cond b (w ∷ filter (λ (watch : Held). is_staying (watch.wish [] event)) ws) (filter (λ (watch : Held). is_staying (watch.wish [] event)) ws)) vs) (sym leave) rest
 
 -- whether one asked for a halt, among those told and the rest
 asked : (halted b : Bool) (rest : Bool) → (halted || (b || rest)) ≡ ((halted || b) || rest)
@@ -42,11 +42,11 @@ asked false b rest = refl
 
 module _ (event : RollEvent) (all now : List Held) (place : ℕ) (halted : Bool) (w v : Held) (t : IsTelling event all now place halted) (inside : place < length now)
     (first : drop place now ≡ w ∷ drop (place + 1) now) where
-  ahead : list_any (halts event) all ≡ ((halted || halts event w) || list_any (halts event) (drop (place + 1) now))
-  ahead = t.halts ∙ ap (λ ws. halted || list_any (halts event) ws) first ∙ asked halted (halts event w) _
+  ahead : list_any (λ (watch : Held). is_halting (watch.wish [] event)) all ≡ ((halted || is_halting (w.wish [] event)) || list_any (λ (watch : Held). is_halting (watch.wish [] event)) (drop (place + 1) now))
+  ahead = t.halts ∙ ap (λ ws. halted || list_any (λ (watch : Held). is_halting (watch.wish [] event)) ws) first ∙ asked halted (is_halting (w.wish [] event)) _
 
   -- a watch that was told and stays in its place
-  told : stays event w ≡ true → HasHeard event w v → IsTelling event all (set now place v) (place + 1) (halted || halts event w)
+  told : is_staying (w.wish [] event) ≡ true → HasHeard event w v → IsTelling event all (set now place v) (place + 1) (halted || is_halting (w.wish [] event))
   told stay heard = record {
     within = omega (arith, length-set now place v);
     left = λ further rest.
@@ -57,7 +57,7 @@ module _ (event : RollEvent) (all now : List Held) (place : ℕ) (halted : Bool)
         let joined : take place now ++ (v ∷ further) ≡ take (place + 1) (set now place v) ++ further =
         sym (ap (λ ws. ws ++ further) (take_more_set now place v inside) ∙ append_assoc (take place now) (v ∷ []) further) in
         subst (λ ws. AreTold event all ws) joined (t.left (v ∷ further) here);
-    halts = ahead ∙ ap (λ ws. (halted || halts event w) || list_any (halts event) ws) (sym (drop-set-lt (place + 1) now place v (omega arith)));
+    halts = ahead ∙ ap (λ ws. (halted || is_halting (w.wish [] event)) || list_any (λ (watch : Held). is_halting (watch.wish [] event)) ws) (sym (drop-set-lt (place + 1) now place v (omega arith)));
   }
 
   pub telling_stays : w.wish [] event ≡ Stay → HasHeard event w v → IsTelling event all (set now place v) (place + 1) halted
@@ -84,8 +84,8 @@ module _ (event : RollEvent) (all now : List Held) (place : ℕ) (halted : Bool)
         subst (λ ws. AreTold event ws further) (sym first)
         (gone event w (drop (place + 1) now) further (ap is_staying wish) (subst (λ ws. AreTold event ws further) behind h)) in
         subst (λ ws. AreTold event all (ws ++ further)) (sym before) (t.left further here);
-    halts = ahead ∙ ap (λ b. b || list_any (halts event) (drop (place + 1) now)) (ap (λ x. halted || is_halting x) wish ∙ or_false halted)
-        ∙ ap (λ ws. halted || list_any (halts event) ws) (sym behind);
+    halts = ahead ∙ ap (λ b. b || list_any (λ (watch : Held). is_halting (watch.wish [] event)) (drop (place + 1) now)) (ap (λ x. halted || is_halting x) wish ∙ or_false halted)
+        ∙ ap (λ ws. halted || list_any (λ (watch : Held). is_halting (watch.wish [] event)) ws) (sym behind);
   }
     where
       or_false : (b : Bool) → (b || false) ≡ b

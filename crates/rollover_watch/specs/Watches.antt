@@ -8,9 +8,8 @@ use Rattle.rollover_watch.specs.declared.event.RollEvent.TheVariants as event
 use Rattle.rollover_watch.specs.declared.event.Wish.{Wish}
 use Rattle.rollover_watch.specs.declared.event.Wish.TheVariants.{Leave, Halt}
 
--- The meaning of a watch: what its line will show, and what it will wish at an event, each by the events that it is
--- told from now on; the number of drains that ended well, and of starts that found the tables in memory, that it was
--- told; and the events that it was told, if it keeps them.
+-- The meaning of a watch. By the events that it is told from now on: the line that it shows, and its wish at an event.
+-- So far: the number of drains that ended well and of starts from memory, and the events, if it keeps them.
 pub record Held : Type 0 where
   pub line : List RollEvent → List ℕ
   pub drained : ℕ
@@ -47,24 +46,16 @@ abbrev pub is_staying : Wish → Bool
 is_staying Leave = false
 is_staying _ = true
 
--- whether a watch stays at an event
-abbrev pub stays : RollEvent → Held → Bool
-stays event watch = is_staying (watch.wish [] event)
-
 -- whether a wish is that no further wave begins
 abbrev pub is_halting : Wish → Bool
 is_halting Halt = true
 is_halting _ = false
 
--- whether a watch asks for a halt at an event
-abbrev pub halts : RollEvent → Held → Bool
-halts event watch = is_halting (watch.wish [] event)
-
 -- each watch of a list was told an event; those that wished to leave are gone; the others are in their order, and have
 -- heard it
 abbrev pub AreTold : RollEvent → List Held → List Held → Type 0
-AreTold event old new = AllZip (HasHeard event) (filter (stays event) old) new
+AreTold event old new = AllZip (HasHeard event) (filter (λ (watch : Held). is_staying (watch.wish [] event)) old) new
 
 -- whether a watch of the list asks for a halt
 abbrev pub is_halt_asked : RollEvent → List Held → Bool
-is_halt_asked event watches = list_any (halts event) watches
+is_halt_asked event watches = list_any (λ (watch : Held). is_halting (watch.wish [] event)) watches

@@ -70,7 +70,7 @@ impl RollEvent {
     }
 }
 
-/// What a watch answers to an event: to be told more, to be told no more, or that no further wave begins.
+/// The answer of a watch to an event: tell it more, tell it no more, or begin no further wave.
 #[derive(Clone, Copy, PartialEq, Eq)]
 pub enum Wish {
     Stay,

@@ -5,17 +5,17 @@ use Rattle.std.specs.List.Sorted.{IsStrictlySortedBy}
 use Rattle.std.proofs.lemmas.List.{ext_get_or, get_or-map, length-map}
 use Rattle.std.proofs.lemmas.List.Elements.{All-from_recursion, recursion_from_All}
 use Rattle.std.proofs.lemmas.List.FromFn.{fill_by_all, get_or-map-range_with_len, length-map-range_with_len}
-use Rattle.leaf_model.specs.declared.rows.Value.{Value}
-use Rattle.leaf_model.specs.declared.rows.Value.TheVariants as values
-use Rattle.leaf_model.specs.declared.rows.Row.{Row}
-use Rattle.leaf_model.specs.Values.{IsRow, IsTime, time_name}
+use Rattle.row_model.specs.declared.rows.Value.{Value}
+use Rattle.row_model.specs.declared.rows.Value.TheVariants as values
+use Rattle.row_model.specs.declared.rows.Row.{Row}
+use Rattle.row_model.specs.Values.{IsRow, IsTime, time_name}
 use Rattle.column_bytes.specs.Cells.{Coded, cell_at}
 use Rattle.column_bytes.specs.Column.{kind_in}
 use Rattle.column_bytes.specs.declared.kind.Kind.TheVariants.{Ints}
 use Rattle.row_blocks.specs.declared.column.BlockColumn.{BlockColumn}
 use Rattle.row_blocks.specs.Columns.{IsSeen, MeanCells, cells_in}
 use Rattle.row_blocks.specs.Headings.{heading, heading_cmp}
-use Rattle.row_blocks.specs.Blocks.{AreTimes, Block, IsBlock, IsOther, IsTimeCell, cells_at, row_at, rows_in, time_of, times_of, value_in}
+use Rattle.row_blocks.specs.Blocks.{AreTimes, Block, IsBlock, IsOther, IsTimeCell, cells_at, row_at, rows_in, time_in_cell, times_of, value_in}
 use Rattle.row_blocks.specs.declared.fault.BlockFault.{BlockFault}
 use Rattle.row_blocks.specs.declared.fault.BlockFault.TheVariants.{NoMemory, NoRows}
 use Rattle.time_range.specs.declared.times.TimeRange.{TimeRange}
@@ -37,7 +37,7 @@ pub record AreParts (n : ℕ) (first : BlockColumn) (others : List BlockColumn) 
   pub ascend : IsStrictlySortedBy heading_cmp (map heading others)
   pub fit : (i : ℕ) → i < n → FitARow (cells_at i others)
 
-time_fits : (v : Option Value) → IsTimeCell v → IsTime (time_of v)
+time_fits : (v : Option Value) → IsTimeCell v → IsTime (time_in_cell v)
 time_fits None is = absurd is
 time_fits (Some (values.Int n)) is = is
 time_fits (Some (values.Text text)) is = absurd is
@@ -93,7 +93,7 @@ times_are n first others times timed cells =
     let sized : length times ≡ n = sym (length-map times (λ (t : ℤ). Some (values.Int t))) ∙ ap (λ (l : List (Option Value)). length l) (sym cells) ∙ counted first.bytes n timed.cells in
     map_map (λ (row : Row). row.time) (row_at (first ∷ others)) (range_with_len 0 n)
     ∙ sym (fill_by_all (λ i. (row_at (first ∷ others) i).time) times n (pos 0) sized (λ k within.
-    sym (ap time_of (ap (λ (l : List (Option Value)). slice_index_or l k None) cells
+    sym (ap time_in_cell (ap (λ (l : List (Option Value)). slice_index_or l k None) cells
     ∙ get_or-map (λ (t : ℤ). Some (values.Int t)) times k (pos 0) None (omega (arith, sized, within))))))
 
 pub range_is : (n : ℕ) (first : BlockColumn) (others : List BlockColumn) (times : List ℤ) (range : TimeRange) → AreTimes n first → cells_in first.bytes ≡ map (λ (t : ℤ). Some (values.Int t)) times

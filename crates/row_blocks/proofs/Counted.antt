@@ -5,11 +5,11 @@ use Rattle.std.specs.List.{AllByRecursion}
 use Rattle.std.proofs.lemmas.List.{length-append, take-append-drop}
 use Rattle.std.proofs.lemmas.List.Concat.{flat_map-append}
 use Rattle.std.proofs.lemmas.List.Elements.{All-from_recursion}
-use Rattle.leaf_model.specs.declared.rows.Cell.{Cell}
+use Rattle.row_model.specs.declared.rows.Cell.{Cell}
 use Rattle.column_bytes.specs.Cells.{Coded, cell_at}
 use Rattle.row_blocks.specs.declared.column.BlockColumn.{BlockColumn}
 use Rattle.row_blocks.specs.Columns.{IsSeen}
-use Rattle.row_blocks.specs.Blocks.{IsOther, cell_of, cells_at, value_in}
+use Rattle.row_blocks.specs.Blocks.{IsOther, cell_at_place, cells_at, value_in}
 use Rattle.row_blocks.specs.Counts.{IsOver}
 use Rattle.row_blocks.specs.Places.{AreSeen, no_column}
 use Rattle.row_blocks.proofs.Standing.{one_more_cell, seen_at, seen_count, seen_pair}
@@ -39,7 +39,7 @@ first_cells : (i k : ℕ) (columns : List BlockColumn) → length (cells_at i (t
 first_cells i k columns =
     let parts : length (cells_at i columns) ≡ length (cells_at i (take k columns)) + length (cells_at i (drop k columns))
     = ap (λ (l : List BlockColumn). length (cells_at i l)) (sym (take-append-drop k columns))
-    ∙ ap (λ (l : List Cell). length l) (flat_map-append (λ (d : BlockColumn). cell_of d.name (value_in d.bytes i)) (take k columns) (drop k columns))
+    ∙ ap (λ (l : List Cell). length l) (flat_map-append (λ (d : BlockColumn). cell_at_place d.name (value_in d.bytes i)) (take k columns) (drop k columns))
     ∙ length-append (cells_at i (take k columns)) (cells_at i (drop k columns)) in
     omega (arith, parts)
 

@@ -5,7 +5,7 @@ use Rattle.std.specs.declared.cmp.Ordering.{Ordering}
 use Rattle.std.specs.declared.cmp.Ordering.TheVariants.{Less, Equal, Greater}
 use Rattle.std.proofs.lemmas.Cmp.{upto, tied_itself}
 use Rattle.std.proofs.lemmas.List.{get_or_append_left, get_or_at, length_push}
-use Rattle.leaf_model.specs.declared.rows.Cell.{Cell}
+use Rattle.row_model.specs.declared.rows.Cell.{Cell}
 use Rattle.row_blocks.specs.Headings.{Heading, heading_of, heading_cmp}
 use Rattle.row_blocks.specs.Merging.{BeginsWith, IsEarliest, IsNotBefore, earlier, front}
 use Rattle.row_blocks.proofs.Order.{heading_total}

@@ -4,8 +4,8 @@ use Rattle.std.specs.Ordering.{is_eq}
 use Rattle.std.specs.declared.cmp.Ordering.{Ordering}
 use Rattle.std.specs.declared.cmp.Ordering.TheVariants.{Equal}
 use Rattle.std.proofs.lemmas.Cmp.{tied_itself}
-use Rattle.leaf_model.specs.declared.rows.Cell.{Cell}
-use Rattle.leaf_model.specs.declared.rows.Row.{Row}
+use Rattle.row_model.specs.declared.rows.Cell.{Cell}
+use Rattle.row_model.specs.declared.rows.Row.{Row}
 use Rattle.row_blocks.specs.declared.column.BlockColumn.{BlockColumn}
 use Rattle.row_blocks.specs.Headings.{Heading, heading_cmp, heading_of}
 use Rattle.row_blocks.specs.Held.{rows_and_cells}

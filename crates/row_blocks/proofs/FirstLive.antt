@@ -3,7 +3,7 @@ use Rattle.std.proofs.Common.{◌≡◌, ℕ, zero, suc, ◌+◌, ◌-◌, ◌<�
 use Rattle.std.proofs.lemmas.Int.{ints}
 use Rattle.std.proofs.lemmas.Bool.{cases_lt, false_from_ne_true, true_from_ne_false}
 use Rattle.std.proofs.lemmas.List.{drop-drop, drop_all, drop_more, length-drop}
-use Rattle.leaf_model.specs.declared.rows.Row.{Row}
+use Rattle.row_model.specs.declared.rows.Row.{Row}
 use Rattle.row_blocks.specs.Blocks.{Block, rows_in, times_of}
 use Rattle.row_blocks.specs.Held.{live_rows}
 use Rattle.row_blocks.specs.Live.{time_at}

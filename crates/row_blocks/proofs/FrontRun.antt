@@ -13,14 +13,14 @@ use Rattle.std.proofs.lemmas.Cmp.{tied_itself}
 use Rattle.std.proofs.lemmas.List.{append-nil, get_or_past, get_or-set_other, get_or-set_same, get_or-map, length-drop, length-map, map-append, take-append-drop, take_all}
 use Rattle.std.proofs.lemmas.List.Elements.{All-from_recursion, All-take, filter-append}
 use Rattle.std.proofs.lemmas.List.Sums.{prefix_len-le-length}
-use Rattle.leaf_model.specs.declared.rows.Value.{Value}
-use Rattle.leaf_model.specs.declared.rows.Cell.{Cell}
+use Rattle.row_model.specs.declared.rows.Value.{Value}
+use Rattle.row_model.specs.declared.rows.Cell.{Cell}
 use Rattle.leaf_model.specs.declared.lent_cells.LentValue.{LentValue}
 use Rattle.leaf_model.specs.Lent.{each_value, lent_cell, lent_value}
 use Rattle.column_bytes.specs.Coding.{AreOfKind}
 use Rattle.row_blocks.specs.declared.runs.PlacedCell.{PlacedCell}
-use Rattle.leaf_model.specs.declared.rows.Row.{Row}
-use Rattle.leaf_model.specs.Values.{IsRow}
+use Rattle.row_model.specs.declared.rows.Row.{Row}
+use Rattle.row_model.specs.Values.{IsRow}
 use Rattle.row_blocks.specs.declared.column.BlockColumn.{BlockColumn}
 use Rattle.row_blocks.specs.Headings.{Heading, heading, heading_cmp, heading_of}
 use Rattle.row_blocks.specs.Columns.{MeanCells, cells_in}

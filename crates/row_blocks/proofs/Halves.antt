@@ -4,11 +4,11 @@ use Rattle.std.proofs.lemmas.Bool.{false_from_ne_true, true_from_ne_false}
 use Rattle.std.proofs.lemmas.Int.{ints}
 use Rattle.std.proofs.lemmas.List.Sums.{length-filter, sum_by-cons}
 use Rattle.std.proofs.lemmas.List.Sorted.{sum_by-IsPermutation}
-use Rattle.leaf_model.specs.declared.rows.Row.{Row}
+use Rattle.row_model.specs.declared.rows.Row.{Row}
 use Rattle.leaf_model.specs.Content.{rows_from}
 use Rattle.row_blocks.specs.Blocks.{Block, rows_in, times_of}
 use Rattle.row_blocks.specs.Held.{live_rows}
-use Rattle.row_blocks.specs.Ordered.{Parts}
+use Rattle.row_blocks.specs.Ordered.{PartsTimes}
 use Rattle.time_range.specs.Ranges.{NeverFall}
 
 -- ---- one look more
@@ -68,7 +68,7 @@ rows_late h (row ∷ rows) =
     ∙ ap (λ (n : ℕ). cond (int_le h row.time) 1 0 + n) (sym (length-filter (λ (r : Row). int_le h r.time) rows) ∙ rows_late h rows)
     ∙ sym (one_more h row.time (times_of rows) (int_le h row.time) refl)
 
-pub sorted_counted : (b : Block) (h : ℤ) (sorted : List ℤ) (place : ℕ) → IsPermutation (times_of (rows_in b)) sorted → Parts sorted h place → length sorted - place ≡ length (live_rows 0 h b)
+pub sorted_counted : (b : Block) (h : ℤ) (sorted : List ℤ) (place : ℕ) → IsPermutation (times_of (rows_in b)) sorted → PartsTimes sorted h place → length sorted - place ≡ length (live_rows 0 h b)
 sorted_counted b h sorted place same parts =
     let late = late_from h sorted place parts.within parts.below parts.above in
     let moved : late_count h sorted ≡ late_count h (times_of (rows_in b)) = sum_by-IsPermutation (λ (t : ℤ). cond (int_le h t) 1 0) (times_of (rows_in b)) sorted same in

@@ -3,11 +3,11 @@ use Rattle.std.proofs.Common.{◌≡◌, ℕ, suc, ◌+◌, ◌<◌, List, [], �
 use Rattle.std.specs.List.{AllByRecursion}
 use Rattle.std.proofs.lemmas.List.Elements.{All-from_recursion}
 use Rattle.std.proofs.lemmas.List.{get_or_append_left, get_or-map, get_or_push, length-map, length_push, map_push, take_more}
-use Rattle.leaf_model.specs.declared.rows.Value.{Value}
-use Rattle.leaf_model.specs.declared.rows.Value.TheVariants as values
-use Rattle.leaf_model.specs.declared.rows.Cell.{Cell}
-use Rattle.leaf_model.specs.declared.rows.Row.{Row}
-use Rattle.leaf_model.specs.Values.{IsRow}
+use Rattle.row_model.specs.declared.rows.Value.{Value}
+use Rattle.row_model.specs.declared.rows.Value.TheVariants as values
+use Rattle.row_model.specs.declared.rows.Cell.{Cell}
+use Rattle.row_model.specs.declared.rows.Row.{Row}
+use Rattle.row_model.specs.Values.{IsRow}
 use Rattle.leaf_model.specs.declared.lent_cells.LentCells.{LentCells}
 use Rattle.leaf_model.specs.declared.lent_cells.LentValue.{LentValue}
 use Rattle.leaf_model.specs.Lent.{each_cells, lent_cells, lent_value}

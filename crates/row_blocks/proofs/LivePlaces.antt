@@ -6,14 +6,14 @@ use Rattle.std.proofs.lemmas.Bool.{false_from_ne_true, true_from_ne_false}
 use Rattle.std.proofs.lemmas.Int.{ints}
 use Rattle.std.proofs.lemmas.List.{append-nil, drop-drop, drop_all, drop_more, get_or-map, length-drop, length-map}
 use Rattle.std.proofs.lemmas.List.FromFn.{get_or-map-range_with_len, length-map-range_with_len}
-use Rattle.leaf_model.specs.declared.rows.Value.{Value}
-use Rattle.leaf_model.specs.declared.rows.Value.TheVariants as values
-use Rattle.leaf_model.specs.declared.rows.Cell.{Cell}
-use Rattle.leaf_model.specs.declared.rows.Row.{Row}
+use Rattle.row_model.specs.declared.rows.Value.{Value}
+use Rattle.row_model.specs.declared.rows.Value.TheVariants as values
+use Rattle.row_model.specs.declared.rows.Cell.{Cell}
+use Rattle.row_model.specs.declared.rows.Row.{Row}
 use Rattle.leaf_model.specs.Content.{rows_from}
 use Rattle.column_bytes.specs.Cells.{Coded}
 use Rattle.row_blocks.specs.declared.column.BlockColumn.{BlockColumn}
-use Rattle.row_blocks.specs.Blocks.{Block, IsBlock, IsTimeCell, cell_of, row_at, rows_in, time_of, times_of, value_in}
+use Rattle.row_blocks.specs.Blocks.{Block, IsBlock, IsTimeCell, cell_at_place, row_at, rows_in, time_in_cell, times_of, value_in}
 use Rattle.time_range.specs.Ranges.{IsRange}
 use Rattle.row_blocks.specs.Columns.{IsSeen}
 use Rattle.row_blocks.specs.Held.{live_rows}
@@ -148,7 +148,7 @@ place_next b h i left one there within some few is e =
 
 -- ---- times that were read
 
-timed : (v : Option Value) → IsTimeCell v → v ≡ Some (values.Int (time_of v))
+timed : (v : Option Value) → IsTimeCell v → v ≡ Some (values.Int (time_in_cell v))
 timed None is = absurd is
 timed (Some (values.Int n)) is = refl
 timed (Some (values.Text text)) is = absurd is
@@ -178,10 +178,10 @@ any_default [] k c d within = absurd (omega (arith, within))
 any_default (x ∷ xs) zero c d within = refl
 any_default (x ∷ xs) (suc k) c d within = any_default xs k c d (omega (arith, within))
 
-pub no_cell : (name : List ℕ) (v : Option Value) (cells : List Cell) → v ≡ None → cells ≡ cells ++ cell_of name v
-no_cell name v cells e = sym (append-nil cells) ∙ ap (λ (w : Option Value). cells ++ cell_of name w) (sym e)
+pub no_cell : (name : List ℕ) (v : Option Value) (cells : List Cell) → v ≡ None → cells ≡ cells ++ cell_at_place name v
+no_cell name v cells e = sym (append-nil cells) ∙ ap (λ (w : Option Value). cells ++ cell_at_place name w) (sym e)
 
 pub one_cell : (name own : List ℕ) (v : Option Value) (value : Value) (cells : List Cell) → v ≡ Some value → own ≡ name
-    → cells ++ record { name = own; value = value } ∷ [] ≡ cells ++ cell_of name v
+    → cells ++ record { name = own; value = value } ∷ [] ≡ cells ++ cell_at_place name v
 one_cell name own v value cells e same =
-    ap (λ (n : List ℕ). cells ++ record { name = n; value = value } ∷ []) same ∙ ap (λ (w : Option Value). cells ++ cell_of name w) (sym e)
+    ap (λ (n : List ℕ). cells ++ record { name = n; value = value } ∷ []) same ∙ ap (λ (w : Option Value). cells ++ cell_at_place name w) (sym e)

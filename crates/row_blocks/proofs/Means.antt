@@ -1,6 +1,6 @@
 -- Bytes mean one list of cells.
 use Rattle.std.proofs.Common.{◌≡◌, ℕ, ◌<◌, ◌≤◌, List, length, Option, unwrap_or, sym, ap, subst, ◌∙◌, arith}
-use Rattle.leaf_model.specs.declared.rows.Value.{Value}
+use Rattle.row_model.specs.declared.rows.Value.{Value}
 use Rattle.column_bytes.specs.declared.form.Form.{Form}
 use Rattle.column_bytes.specs.declared.form.Form.TheVariants.{Offset}
 use Rattle.column_bytes.specs.Cells.{cells_of}

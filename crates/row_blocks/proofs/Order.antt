@@ -6,7 +6,7 @@ use Rattle.std.specs.declared.cmp.Ordering.{Ordering}
 use Rattle.std.specs.declared.cmp.Ordering.TheVariants.{Less, Equal, Greater}
 use Rattle.std.proofs.lemmas.Cmp.{nat_cmp_total, nat_list_cmp_total, on_total, then_total}
 use Rattle.std.proofs.lemmas.Map.Lookups.{exact_bytes}
-use Rattle.leaf_model.specs.Groups.{text_cmp}
+use Rattle.row_model.specs.Texts.{text_cmp}
 use Rattle.column_bytes.specs.declared.kind.Kind.{Kind}
 use Rattle.column_bytes.specs.declared.kind.Kind.TheVariants.{Ints, Texts, Sets}
 use Rattle.row_blocks.specs.Headings.{Heading, heading_cmp, kind_place}

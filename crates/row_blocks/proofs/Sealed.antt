@@ -4,17 +4,17 @@ use Rattle.std.specs.List.{AllByRecursion}
 use Rattle.std.specs.List.Sorted.{IsStrictlySortedBy}
 use Rattle.std.proofs.lemmas.List.{get_or-map, length-map}
 use Rattle.std.proofs.lemmas.List.FromFn.{fill_by_all}
-use Rattle.leaf_model.specs.declared.rows.Value.{Value}
-use Rattle.leaf_model.specs.declared.rows.Value.TheVariants.{Int}
-use Rattle.leaf_model.specs.declared.rows.Cell.{Cell}
-use Rattle.leaf_model.specs.declared.rows.Row.{Row}
-use Rattle.leaf_model.specs.Values.{IsRow, time_name}
+use Rattle.row_model.specs.declared.rows.Value.{Value}
+use Rattle.row_model.specs.declared.rows.Value.TheVariants.{Int}
+use Rattle.row_model.specs.declared.rows.Cell.{Cell}
+use Rattle.row_model.specs.declared.rows.Row.{Row}
+use Rattle.row_model.specs.Values.{IsRow, time_name}
 use Rattle.column_bytes.specs.Coding.{AreIntegers}
 use Rattle.column_bytes.specs.Column.{kind_in}
 use Rattle.column_bytes.specs.declared.kind.Kind.TheVariants.{Ints}
 use Rattle.row_blocks.specs.declared.column.BlockColumn.{BlockColumn}
 use Rattle.row_blocks.specs.Columns.{MeanCells, cells_in}
-use Rattle.row_blocks.specs.Blocks.{Block, IsBlock, IsTimeCell, row_at, rows_in, time_of, times_of, value_in}
+use Rattle.row_blocks.specs.Blocks.{Block, IsBlock, IsTimeCell, row_at, rows_in, time_in_cell, times_of, value_in}
 use Rattle.time_range.specs.declared.times.TimeRange.{TimeRange}
 use Rattle.row_blocks.specs.Merging.{AreBare, HoldCells, cells_of_rows}
 use Rattle.time_range.specs.Ranges.{IsRangeOf}
@@ -89,7 +89,7 @@ means_rows rows times others timed hold =
     sym (fill_by_all (row_at (times ∷ others)) rows (length rows) no_row refl (λ k within.
     let row = slice_index_or rows k no_row in
     ap (λ (cells : List Cell). record { time = row.time; cells = cells }) (sym (hold.cells k within ∙ cells_at_row rows k within))
-    ∙ ap (λ (t : ℤ). record { time = t; cells = (row_at (times ∷ others) k).cells }) (sym (ap time_of (time_at rows times k timed within)))))
+    ∙ ap (λ (t : ℤ). record { time = t; cells = (row_at (times ∷ others) k).cells }) (sym (ap time_in_cell (time_at rows times k timed within)))))
 
 pub sealed : (rows : List Row) (times : BlockColumn) (others : List BlockColumn) → 0 < length rows → length rows ≤ 65536 → AllByRecursion IsRow rows
     → HoldsTimes rows times → HoldCells rows others → IsBlock (block_of rows times others)

@@ -12,14 +12,14 @@ use Rattle.std.proofs.lemmas.Cmp.{nat_list_cmp_total}
 use Rattle.std.proofs.lemmas.List.{append-nil, drop_all, drop_more, length-append, take_more}
 use Rattle.std.proofs.lemmas.List.Concat.{flat_map-append}
 use Rattle.std.proofs.lemmas.List.FromFn.{get_or-map-range_with_len}
-use Rattle.leaf_model.specs.declared.rows.Value.{Value}
-use Rattle.leaf_model.specs.declared.rows.Cell.{Cell}
-use Rattle.leaf_model.specs.Values.{IsCell, IsValue}
-use Rattle.leaf_model.specs.Groups.{text_cmp}
+use Rattle.row_model.specs.declared.rows.Value.{Value}
+use Rattle.row_model.specs.declared.rows.Cell.{Cell}
+use Rattle.row_model.specs.Values.{IsCell, IsValue}
+use Rattle.row_model.specs.Texts.{text_cmp}
 use Rattle.column_bytes.specs.Cells.{Coded, cell_at}
 use Rattle.row_blocks.specs.declared.column.BlockColumn.{BlockColumn}
 use Rattle.row_blocks.specs.Columns.{IsSeen}
-use Rattle.row_blocks.specs.Blocks.{IsOther, cell_of, cells_at, value_in}
+use Rattle.row_blocks.specs.Blocks.{IsOther, cell_at_place, cells_at, value_in}
 use Rattle.row_blocks.specs.Places.{AreSeen, FitARow, last_name, names_of, next_of, no_column}
 use Rattle.row_blocks.proofs.Means.{one_count}
 use Rattle.row_blocks.proofs.Taking.{all_push, all_weaker}
@@ -44,7 +44,7 @@ less_is Greater e = absurd cc
 ascend_with : (i : ℕ) (columns : List BlockColumn) (last name : List ℕ) (value : Option Value)
     → ((l : List ℕ) → is_some (last_name i columns l) ≡ true → IsStrictlySortedBy (slice_cmp nat_cmp) (l ∷ names_of (cells_at i columns)))
     → is_some (option_and_then (last_name i columns) (next_of last name (is_some value))) ≡ true
-    → IsStrictlySortedBy (slice_cmp nat_cmp) (last ∷ names_of (cell_of name value ++ cells_at i columns))
+    → IsStrictlySortedBy (slice_cmp nat_cmp) (last ∷ names_of (cell_at_place name value ++ cells_at i columns))
 unfolding IsStrictlySortedBy
 ascend_with i columns last name None rest e = rest last e
 ascend_with i columns last name (Some value) rest e = by (is_lt (text_cmp last name)) refl e
@@ -70,7 +70,7 @@ ascend_from i (c ∷ columns) last e = ascend_with i columns last c.name (value_
 
 found_with : (i : ℕ) (columns : List BlockColumn) (last name : List ℕ) (value : Option Value)
     → ((l : List ℕ) → IsStrictlySortedBy (slice_cmp nat_cmp) (l ∷ names_of (cells_at i columns)) → is_some (last_name i columns l) ≡ true)
-    → IsStrictlySortedBy (slice_cmp nat_cmp) (last ∷ names_of (cell_of name value ++ cells_at i columns))
+    → IsStrictlySortedBy (slice_cmp nat_cmp) (last ∷ names_of (cell_at_place name value ++ cells_at i columns))
     → is_some (option_and_then (last_name i columns) (next_of last name (is_some value))) ≡ true
 unfolding IsStrictlySortedBy
 found_with i columns last name None rest sorted = rest last sorted
@@ -92,7 +92,7 @@ all_behind rows i [] are = tt
 all_behind rows i (c ∷ columns) are = by (value_in c.bytes i) (all_behind rows i columns are.1)
   where
     by : (value : Option Value) → AllByRecursion (λ y. slice_cmp nat_cmp [] y ≡ Less) (names_of (cells_at i columns))
-        → AllByRecursion (λ y. slice_cmp nat_cmp [] y ≡ Less) (names_of (cell_of c.name value ++ cells_at i columns))
+        → AllByRecursion (λ y. slice_cmp nat_cmp [] y ≡ Less) (names_of (cell_at_place c.name value ++ cells_at i columns))
     by None rest = rest
     by (Some value) rest = (behind_nothing c.name are.0.name.some, rest)
 
@@ -107,20 +107,20 @@ names_ascend rows i columns are sorted = found_from i columns [] (all_behind row
 
 -- ---- columns with names of their own
 
-at_most_one : (name : List ℕ) (value : Option Value) → length (cell_of name value) ≤ 1
+at_most_one : (name : List ℕ) (value : Option Value) → length (cell_at_place name value) ≤ 1
 at_most_one name None = omega arith
 at_most_one name (Some value) = omega arith
 
 no_more_cells : (i : ℕ) (columns : List BlockColumn) → length (cells_at i columns) ≤ length columns
 no_more_cells i [] = omega arith
 no_more_cells i (c ∷ columns) =
-    omega (arith, length-append (cell_of c.name (value_in c.bytes i)) (cells_at i columns), at_most_one c.name (value_in c.bytes i), no_more_cells i columns)
+    omega (arith, length-append (cell_at_place c.name (value_in c.bytes i)) (cells_at i columns), at_most_one c.name (value_in c.bytes i), no_more_cells i columns)
 
 below_cells : (P : List ℕ → Type 0) (i : ℕ) (columns : List BlockColumn) → AllByRecursion P (map (λ (c : BlockColumn). c.name) columns) → AllByRecursion P (names_of (cells_at i columns))
 below_cells P i [] all = tt
 below_cells P i (c ∷ columns) all = by (value_in c.bytes i) (below_cells P i columns all.1)
   where
-    by : (value : Option Value) → AllByRecursion P (names_of (cells_at i columns)) → AllByRecursion P (names_of (cell_of c.name value ++ cells_at i columns))
+    by : (value : Option Value) → AllByRecursion P (names_of (cells_at i columns)) → AllByRecursion P (names_of (cell_at_place c.name value ++ cells_at i columns))
     by None rest = rest
     by (Some value) rest = (all.0, rest)
 
@@ -129,7 +129,7 @@ unfolding IsStrictlySortedBy
 own_names i [] sorted = tt
 own_names i (c ∷ columns) sorted = by (value_in c.bytes i) (own_names i columns sorted.1)
   where
-    by : (value : Option Value) → IsStrictlySortedBy (slice_cmp nat_cmp) (names_of (cells_at i columns)) → IsStrictlySortedBy (slice_cmp nat_cmp) (names_of (cell_of c.name value ++ cells_at i columns))
+    by : (value : Option Value) → IsStrictlySortedBy (slice_cmp nat_cmp) (names_of (cells_at i columns)) → IsStrictlySortedBy (slice_cmp nat_cmp) (names_of (cell_at_place c.name value ++ cells_at i columns))
     by None rest = rest
     by (Some value) rest = (below_cells (λ y. slice_cmp nat_cmp c.name y ≡ Less) i columns sorted.0, rest)
 
@@ -152,7 +152,7 @@ cells_are rows i (v ∷ views) [] within are seen = absurd seen
 cells_are rows i (v ∷ views) (c ∷ columns) within are seen =
     by (value_in c.bytes i) (seen.0.values i (omega (arith, seen_count rows v c seen.0 are.0, within))) (cells_are rows i views columns within are.1 seen.1)
   where
-    by : (value : Option Value) → IfSome value IsValue → AllByRecursion IsCell (cells_at i columns) → AllByRecursion IsCell (cell_of c.name value ++ cells_at i columns)
+    by : (value : Option Value) → IfSome value IsValue → AllByRecursion IsCell (cells_at i columns) → AllByRecursion IsCell (cell_at_place c.name value ++ cells_at i columns)
     by None fits rest = rest
     by (Some value) fits rest = (record { name = are.0.name; value = fits }, rest)
 
@@ -192,7 +192,7 @@ pub no_further : (i k : ℕ) (columns : List BlockColumn) (last : List ℕ) (who
 no_further i k columns last whole past before =
     sym (ap (λ (l : List BlockColumn). is_some (last_name i l last)) (drop_all k columns past)) ∙ ap is_some before
 
-length_of_cell : (name : List ℕ) (value : Option Value) → length (cell_of name value) ≡ from_bool (is_some value)
+length_of_cell : (name : List ℕ) (value : Option Value) → length (cell_at_place name value) ≡ from_bool (is_some value)
 length_of_cell name None = refl
 length_of_cell name (Some value) = refl
 
@@ -201,9 +201,9 @@ pub one_more_cell : (i k : ℕ) (columns : List BlockColumn) → k < length colu
     → length (cells_at i (take k columns)) + from_bool (is_some (value_in (slice_index_or columns k no_column).bytes i)) ≡ length (cells_at i (take (k + 1) columns))
 one_more_cell i k columns within =
     let c = slice_index_or columns k no_column in
-    ap (λ (n : ℕ). length (cells_at i (take k columns)) + n) (sym (length_of_cell c.name (value_in c.bytes i)) ∙ ap (λ (l : List Cell). length l) (sym (append-nil (cell_of c.name (value_in c.bytes i)))))
+    ap (λ (n : ℕ). length (cells_at i (take k columns)) + n) (sym (length_of_cell c.name (value_in c.bytes i)) ∙ ap (λ (l : List Cell). length l) (sym (append-nil (cell_at_place c.name (value_in c.bytes i)))))
     ∙ sym (length-append (cells_at i (take k columns)) (cells_at i (c ∷ [])))
-    ∙ ap (λ (l : List Cell). length l) (sym (flat_map-append (λ (d : BlockColumn). cell_of d.name (value_in d.bytes i)) (take k columns) (c ∷ [])))
+    ∙ ap (λ (l : List Cell). length l) (sym (flat_map-append (λ (d : BlockColumn). cell_at_place d.name (value_in d.bytes i)) (take k columns) (c ∷ [])))
     ∙ ap (λ (l : List BlockColumn). length (cells_at i l)) (sym (take_more columns k no_column within))
 
 pub one_at_most : (b : Bool) → from_bool b ≤ 1

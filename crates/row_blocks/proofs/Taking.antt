@@ -9,16 +9,16 @@ use Rattle.std.specs.declared.cmp.Ordering.TheVariants.{Less, Equal, Greater}
 use Rattle.std.proofs.lemmas.List.{append-nil, length-append, length-map, get_or-map, map_push}
 use Rattle.std.proofs.lemmas.List.Concat.{flat_map-append}
 use Rattle.std.proofs.lemmas.List.Elements.{All-from_recursion}
-use Rattle.leaf_model.specs.declared.rows.Value.{Value}
-use Rattle.leaf_model.specs.declared.rows.Value.TheVariants as values
-use Rattle.leaf_model.specs.declared.rows.Cell.{Cell}
-use Rattle.leaf_model.specs.declared.rows.Row.{Row}
-use Rattle.leaf_model.specs.Values.{IsCell, IsCellName, IsRow, IsValue}
+use Rattle.row_model.specs.declared.rows.Value.{Value}
+use Rattle.row_model.specs.declared.rows.Value.TheVariants as values
+use Rattle.row_model.specs.declared.rows.Cell.{Cell}
+use Rattle.row_model.specs.declared.rows.Row.{Row}
+use Rattle.row_model.specs.Values.{IsCell, IsCellName, IsRow, IsValue}
 use Rattle.row_blocks.specs.declared.column.BlockColumn.{BlockColumn}
 use Rattle.row_blocks.specs.Columns.{MeanCells, cells_in}
 use Rattle.row_blocks.specs.Headings.{Heading, heading, heading_of, heading_cmp, kind_of, kind_place}
 use Rattle.column_bytes.specs.Coding.{AreOfKind, IsOfKind}
-use Rattle.row_blocks.specs.Blocks.{IsOther, cell_of, cells_at, value_in}
+use Rattle.row_blocks.specs.Blocks.{IsOther, cell_at_place, cells_at, value_in}
 use Rattle.row_blocks.specs.Merging.{AreCells, AreTaken, BeginsWith, HoldCells, IsBehind, IsEarliest, IsNotBefore, cells_count, cells_of_rows, front_value, rest_after}
 use Rattle.row_blocks.proofs.Fewer.{one_fewer}
 use Rattle.row_blocks.proofs.Order.{exact_heading, heading_total}
@@ -86,11 +86,11 @@ comes_behind h (c ∷ cells) are not_before = by (heading_cmp h (heading_of c)) 
     by Greater e = absurd (not_before e)
 
 -- the cell that the column takes and what is left are the cells
-put_back : (h : Heading) (cells : List Cell) → cell_of h.name (front_value h cells) ++ rest_after h cells ≡ cells
+put_back : (h : Heading) (cells : List Cell) → cell_at_place h.name (front_value h cells) ++ rest_after h cells ≡ cells
 put_back h [] = refl
 put_back h (c ∷ cells) = by (heading_cmp h (heading_of c)) refl
   where
-    by : (o : Ordering) → heading_cmp h (heading_of c) ≡ o → cell_of h.name (if is_eq o then Some c.value else None) ++ (if is_eq o then cells else c ∷ cells) ≡ c ∷ cells
+    by : (o : Ordering) → heading_cmp h (heading_of c) ≡ o → cell_at_place h.name (if is_eq o then Some c.value else None) ++ (if is_eq o then cells else c ∷ cells) ≡ c ∷ cells
     by Less e = refl
     by Equal e = ap (λ (g : Heading). record { name = g.name; value = c.value } ∷ cells) (exact_heading h (heading_of c) e)
     by Greater e = refl
@@ -177,14 +177,14 @@ one_more_taken rows columns rests c column are taken first head mean cells =
           let rest = slice_index_or rests i [] in
           let value : value_in column.bytes i ≡ front_value h rest
           = ap (λ (all : List (Option Value)). slice_index_or all i None) cells ∙ get_or-map (front_value h) rests i [] None inside in
-          let here : cells_at i (column ∷ []) ≡ cell_of h.name (front_value h rest)
-          = append-nil (cell_of column.name (value_in column.bytes i)) ∙ ap (λ (v : Option Value). cell_of column.name v) value
-          ∙ ap (λ (name : List ℕ). cell_of name (front_value h rest)) named in
-          ap (λ (all : List Cell). all ++ slice_index_or (map (rest_after h) rests) i []) (flat_map-append (λ (d : BlockColumn). cell_of d.name (value_in d.bytes i)) columns (column ∷ []))
+          let here : cells_at i (column ∷ []) ≡ cell_at_place h.name (front_value h rest)
+          = append-nil (cell_at_place column.name (value_in column.bytes i)) ∙ ap (λ (v : Option Value). cell_at_place column.name v) value
+          ∙ ap (λ (name : List ℕ). cell_at_place name (front_value h rest)) named in
+          ap (λ (all : List Cell). all ++ slice_index_or (map (rest_after h) rests) i []) (flat_map-append (λ (d : BlockColumn). cell_at_place d.name (value_in d.bytes i)) columns (column ∷ []))
           ∙ append_assoc (cells_at i columns) (cells_at i (column ∷ [])) (slice_index_or (map (rest_after h) rests) i [])
           ∙ ap (λ (back : List Cell). cells_at i columns ++ back)
           (ap (λ (all : List Cell). all ++ slice_index_or (map (rest_after h) rests) i []) here
-          ∙ ap (λ (all : List Cell). cell_of h.name (front_value h rest) ++ all) (get_or-map (rest_after h) rests i [] [] inside)
+          ∙ ap (λ (all : List Cell). cell_at_place h.name (front_value h rest) ++ all) (get_or-map (rest_after h) rests i [] [] inside)
           ∙ put_back h rest)
           ∙ taken.taken i within;
       few =

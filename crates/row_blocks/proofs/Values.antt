@@ -8,8 +8,8 @@ use Rattle.std.proofs.lemmas.List.{get_or-drop, get_or_past}
 use Rattle.std.proofs.lemmas.List.FromFn.{get_or-map-range_with_len, length-map-range_with_len}
 use Rattle.byteorder.specs.Endian.{little_number}
 use Rattle.byteorder.specs.Numbers.{little_from-lt}
-use Rattle.leaf_model.specs.declared.rows.Value.{Value}
-use Rattle.leaf_model.specs.Values.{IsSet, IsValue}
+use Rattle.row_model.specs.declared.rows.Value.{Value}
+use Rattle.row_model.specs.Values.{IsSet, IsValue}
 use Rattle.delta_codes.specs.Slots.{after, slot, unzigzag}
 use Rattle.column_bytes.specs.declared.form.Form.{Form}
 use Rattle.column_bytes.specs.declared.form.Form.TheVariants as forms

@@ -2,11 +2,11 @@
 use Rattle.std.specs.Prelude.{◌≡◌, ℕ, ◌<◌, ◌≤◌, ◌==◌, List, [], ◌∷◌, map, slice_index_or, ℤ, pos, Option, Some, None, Bool, ◌&&◌, bytes_eq}
 use Rattle.std.specs.List.{range_with_len, flat_map, AllByRecursion}
 use Rattle.std.specs.List.Sorted.{IsStrictlySortedBy}
-use Rattle.leaf_model.specs.declared.rows.Value.{Value}
-use Rattle.leaf_model.specs.declared.rows.Value.TheVariants as values
-use Rattle.leaf_model.specs.declared.rows.Cell.{Cell}
-use Rattle.leaf_model.specs.declared.rows.Row.{Row}
-use Rattle.leaf_model.specs.Values.{IsRow, IsCellName, IsTime, time_name}
+use Rattle.row_model.specs.declared.rows.Value.{Value}
+use Rattle.row_model.specs.declared.rows.Value.TheVariants as values
+use Rattle.row_model.specs.declared.rows.Cell.{Cell}
+use Rattle.row_model.specs.declared.rows.Row.{Row}
+use Rattle.row_model.specs.Values.{IsRow, IsCellName, IsTime, time_name}
 use Rattle.column_bytes.specs.declared.kind.Kind.{Kind}
 use Rattle.column_bytes.specs.declared.kind.Kind.TheVariants.{Ints}
 use Rattle.column_bytes.specs.Column.{kind_in}
@@ -26,23 +26,23 @@ abbrev pub value_in : List ℕ → ℕ → Option Value
 value_in bytes i = slice_index_or (cells_in bytes) i None
 
 -- the cell of a column at a place, with its name
-abbrev pub cell_of : List ℕ → Option Value → List Cell
-cell_of name None = []
-cell_of name (Some value) = record { name = name; value = value } ∷ []
+abbrev pub cell_at_place : List ℕ → Option Value → List Cell
+cell_at_place name None = []
+cell_at_place name (Some value) = record { name = name; value = value } ∷ []
 
 -- the cells at place i, in the order of the columns
 abbrev pub cells_at : ℕ → List BlockColumn → List Cell
-cells_at i columns = flat_map (λ (c : BlockColumn). cell_of c.name (value_in c.bytes i)) columns
+cells_at i columns = flat_map (λ (c : BlockColumn). cell_at_place c.name (value_in c.bytes i)) columns
 
 -- the time that a cell holds
-abbrev pub time_of : Option Value → ℤ
-time_of (Some (values.Int n)) = n
-time_of v = pos 0
+abbrev pub time_in_cell : Option Value → ℤ
+time_in_cell (Some (values.Int n)) = n
+time_in_cell v = pos 0
 
 -- the row at place i: the first column has its time, the others have its cells
 abbrev pub row_at : List BlockColumn → ℕ → Row
 row_at [] i = record { time = pos 0; cells = [] }
-row_at (times ∷ others) i = record { time = time_of (value_in times.bytes i); cells = cells_at i others }
+row_at (times ∷ others) i = record { time = time_in_cell (value_in times.bytes i); cells = cells_at i others }
 
 abbrev pub rows_in : Block → List Row
 rows_in b = map (row_at b.columns) (range_with_len 0 b.rows)

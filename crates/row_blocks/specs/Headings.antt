@@ -2,10 +2,10 @@
 use Rattle.std.specs.Prelude.{ℕ, List}
 use Rattle.std.specs.declared.cmp.Ordering.{Ordering}
 use Rattle.std.specs.Ordering.{nat_cmp, ordering_then}
-use Rattle.leaf_model.specs.declared.rows.Value.{Value}
-use Rattle.leaf_model.specs.declared.rows.Value.TheVariants as values
-use Rattle.leaf_model.specs.declared.rows.Cell.{Cell}
-use Rattle.leaf_model.specs.Groups.{text_cmp}
+use Rattle.row_model.specs.declared.rows.Value.{Value}
+use Rattle.row_model.specs.declared.rows.Value.TheVariants as values
+use Rattle.row_model.specs.declared.rows.Cell.{Cell}
+use Rattle.row_model.specs.Texts.{text_cmp}
 use Rattle.column_bytes.specs.declared.kind.Kind.{Kind}
 use Rattle.column_bytes.specs.declared.kind.Kind.TheVariants.{Ints, Texts, Sets}
 use Rattle.column_bytes.specs.Column.{kind_in}

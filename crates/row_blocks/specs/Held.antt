@@ -1,7 +1,7 @@
 -- The rows that a table holds: those of its blocks, then those of its tail.
 use Rattle.std.specs.Prelude.{◌≡◌, ℕ, suc, ◌+◌, ◌<◌, List, [], ◌∷◌, ◌++◌, length, drop, ℤ}
 use Rattle.std.specs.List.{flat_map}
-use Rattle.leaf_model.specs.declared.rows.Row.{Row}
+use Rattle.row_model.specs.declared.rows.Row.{Row}
 use Rattle.leaf_model.specs.Content.{rows_from}
 use Rattle.row_blocks.specs.Blocks.{Block, rows_in}
 
@@ -17,7 +17,7 @@ rows_held blocks tail skip horizon = rows_from horizon (drop skip (block_rows bl
 abbrev pub blocks_held : List Block → ℕ → ℤ → List Row
 blocks_held blocks skip horizon = rows_from horizon (drop skip (block_rows blocks))
 
--- the part of these rows that stands in one block, of which `skip` rows are cut off
+-- the live rows of one block after its first `skip` rows, which are cut off
 abbrev pub live_rows : ℕ → ℤ → Block → List Row
 live_rows skip horizon b = rows_from horizon (drop skip (rows_in b))
 

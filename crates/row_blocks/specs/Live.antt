@@ -1,8 +1,8 @@
 -- The rows of a block at or after a horizon.
 use Rattle.std.specs.Prelude.{◌≡◌, ℕ, ◌<◌, length, slice_index_or, ℤ, pos, int_le, Some, Bool}
 use Rattle.std.specs.List.{list_any}
-use Rattle.leaf_model.specs.declared.rows.Value.TheVariants.{Int}
-use Rattle.leaf_model.specs.declared.rows.Row.{Row}
+use Rattle.row_model.specs.declared.rows.Value.TheVariants.{Int}
+use Rattle.row_model.specs.declared.rows.Row.{Row}
 use Rattle.column_bytes.specs.Cells.{Coded, cell_at}
 use Rattle.row_blocks.specs.Blocks.{Block, rows_in, times_of}
 

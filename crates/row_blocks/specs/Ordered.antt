@@ -17,7 +17,7 @@ abbrev pub AreSorted : List ℤ → Option (Vec ℤ Global) → Type 0
 AreSorted times sorted = IfSome sorted (λ v. IsPermutation times v.items × NeverFall v.items)
 
 -- the times before `place` are below the horizon, and those from `place` on are not
-pub record Parts (times : List ℤ) (horizon : ℤ) (place : ℕ) : Type 0 where
+pub record PartsTimes (times : List ℤ) (horizon : ℤ) (place : ℕ) : Type 0 where
   pub within : place ≤ length times
   pub below : (i : ℕ) → i < place → int_le horizon (slice_index_or times i (pos 0)) ≡ false
   pub above : (i : ℕ) → place ≤ i → i < length times → int_le horizon (slice_index_or times i (pos 0)) ≡ true

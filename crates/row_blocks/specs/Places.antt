@@ -5,8 +5,8 @@ use Rattle.std.specs.List.{AllZip}
 use Rattle.std.specs.List.Sorted.{IsStrictlySortedBy}
 use Rattle.std.specs.Ordering.{nat_cmp, is_lt}
 use Rattle.std.specs.Cmp.Lexicographic.{slice_cmp}
-use Rattle.leaf_model.specs.declared.rows.Cell.{Cell}
-use Rattle.leaf_model.specs.Groups.{text_cmp}
+use Rattle.row_model.specs.declared.rows.Cell.{Cell}
+use Rattle.row_model.specs.Texts.{text_cmp}
 use Rattle.column_bytes.specs.Cells.{Coded}
 use Rattle.row_blocks.specs.declared.column.BlockColumn.{BlockColumn}
 use Rattle.row_blocks.specs.Columns.{IsSeen}

@@ -36,7 +36,9 @@ impl Model for RowBlock {
 
     ghost view = { λ b. record { rows = b.rows; columns = b.columns } };
 
-    ghost invariant = { λ b. IsBlock (record { rows = b.rows; columns = b.columns }) × IsRangeOf (times_of (rows_in (record { rows = b.rows; columns = b.columns }))) b.range × AreSorted (times_of (rows_in (record { rows = b.rows; columns = b.columns }))) b.order.sorted };
+    ghost invariant = { λ b. IsBlock (record { rows = b.rows; columns = b.columns })
+        × IsRangeOf (times_of (rows_in (record { rows = b.rows; columns = b.columns }))) b.range
+        × AreSorted (times_of (rows_in (record { rows = b.rows; columns = b.columns }))) b.order.sorted };
 }
 
 impl RowBlock {

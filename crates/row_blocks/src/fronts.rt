@@ -340,9 +340,8 @@ fn search_column<'a>(
     take_column(alloc, &like, rests, nexts)
 }
 
-/// The next column. `nexts` gets the cells that are then left of each row. None if no cell was left. The first cell
-/// that is met mostly has the earliest heading. So a walk begins with its heading, and ends at a row with an earlier
-/// one.
+/// The next column. `nexts` gets the cells that are then left of each row. None if no cell was left. A walk begins with
+/// the heading of the first cell that it meets, which is mostly the earliest, and ends at a row with an earlier one.
 pub(crate) fn next_column<'a>(
     alloc: Global,
     rests: &[LentCells<'a>],

@@ -3,7 +3,7 @@ ghost use Rattle.std.specs.Prelude.{◌≡◌, ◌<◌, ◌≤◌, ℕ, length, 
 ghost use Rattle.row_blocks.specs.Blocks.{rows_in, times_of};
 ghost use Rattle.row_blocks.specs.Held.{live_rows};
 ghost use Rattle.row_blocks.specs.Live.{AreTimesOf};
-ghost use Rattle.row_blocks.specs.Ordered.{AreSorted, Parts};
+ghost use Rattle.row_blocks.specs.Ordered.{AreSorted, PartsTimes};
 ghost use Rattle.time_range.specs.Ranges.{NeverFall};
 
 use crate::block::RowBlock;
@@ -65,7 +65,7 @@ pub(crate) fn sorted_times(alloc: Global, block: &RowBlock) -> Option<Vec<i64>>
 /// The place of the first time at or after the horizon. If there is none, the number of times.
 pub(crate) fn first_from(sorted: &[i64], horizon: i64) -> usize
     requires order { NeverFall sorted.now }
-    ensures { Parts sorted.now horizon result }
+    ensures { PartsTimes sorted.now horizon result }
 {
     let mut first = 0;
     let mut end = sorted.len();

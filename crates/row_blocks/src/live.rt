@@ -143,7 +143,7 @@ impl RowBlock {
         horizon <= self.range().1
     }
 
-    /// How many rows from place `skip` on are at or after the horizon. It takes no memory.
+    /// The number of rows from place `skip` on that are at or after the horizon. Takes no memory.
     pub fn count_live(&self, skip: u32, horizon: i64) -> u32
         requires { skip ≤ self.now.rows }
         ensures { result ≡ length (live_rows skip horizon self.now) }

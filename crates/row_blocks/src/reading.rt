@@ -1,7 +1,7 @@
 // Reads a column for a caller that counts no steps.
 ghost use Rattle.std.specs.Prelude.{◌≡◌, ◌<◌, ℕ, List, length, Option, IfSome, IsSome, option_map};
-ghost use Rattle.leaf_model.specs.declared.rows.Value.{Value};
-ghost use Rattle.column_bytes.specs.Cells.{cells_of, kind_of};
+ghost use Rattle.row_model.specs.declared.rows.Value.{Value};
+ghost use Rattle.column_bytes.specs.Cells.{cells_of, kind_of_book};
 ghost use Rattle.column_bytes.specs.Column.{HasCells, kind_in};
 ghost use Rattle.row_blocks.specs.Columns.{IsSeen, MeanCells};
 
@@ -15,7 +15,7 @@ fn view_counted<L: Ledger>(bytes: &[u8], blank: Blank) -> Option<ColumnView<'_>>
     requires parts { blank.parts ≡ L.parts }
     requires some { 0 < blank.parts }
     ensures cells { IfSome result (λ view. HasCells bytes.now (length view.codes) (cells_of view)) }
-    ensures kind { IfSome result (λ view. kind_of view.book ≡ kind_in bytes.now) }
+    ensures kind { IfSome result (λ view. kind_of_book view.book ≡ kind_in bytes.now) }
     ensures exact { (n : ℕ) (cells : List (Option Value)) → HasCells bytes.now n cells → IsSome result }
 {
     let mut steps = Steps::<L>::new(blank);

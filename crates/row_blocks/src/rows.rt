@@ -1,7 +1,7 @@
 // Owned values and cells, copied from what a column lends.
 ghost use Rattle.std.specs.Prelude.{◌≡◌, ◌<◌, ◌++◌, length, IfOk};
-ghost use Rattle.column_bytes.specs.Cells.{cell_at, value_of};
-ghost use Rattle.row_blocks.specs.Blocks.{cell_of};
+ghost use Rattle.column_bytes.specs.Cells.{cell_at, value_lent};
+ghost use Rattle.row_blocks.specs.Blocks.{cell_at_place};
 
 use column_bytes::{ColumnView, SetRef, ValueRef};
 use leaf_model::{Cell, Text, Texts, Value};
@@ -20,7 +20,7 @@ fn own_texts(alloc: Global, members: &SetRef) -> Result<Texts, AllocError>
 
 /// An owned copy of a value that a column lends.
 pub fn own_value(alloc: Global, value: &ValueRef) -> Result<Value, AllocError>
-    ensures { IfOk result (λ own. own ≡ value_of value.now) }
+    ensures { IfOk result (λ own. own ≡ value_lent value.now) }
 {
     match value {
         ValueRef::Int(number) => Ok(Value::Int(*number)),
@@ -44,7 +44,8 @@ pub fn push_cell(
     cells: &mut Vec<Cell>,
 ) -> Result<(), AllocError>
     requires { place < length view.now.codes }
-    ensures { IfOk result (λ done. cells.new.items ≡ cells.old.items ++ cell_of name.now (cell_at view.now place)) }
+    ensures { IfOk result (λ done. cells.new.items ≡ cells.old.items
+        ++ cell_at_place name.now (cell_at view.now place)) }
 {
     match view.cell(place) {
         None => Ok(()),

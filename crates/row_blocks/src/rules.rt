@@ -4,11 +4,11 @@ ghost use Rattle.std.specs.List.{AllByRecursion};
 ghost use Rattle.std.specs.List.Sorted.{IsStrictlySortedBy};
 ghost use Rattle.std.specs.Ordering.{nat_cmp};
 ghost use Rattle.std.specs.Cmp.Lexicographic.{slice_cmp};
-ghost use Rattle.leaf_model.specs.declared.rows.Value.TheVariants.{Int};
-ghost use Rattle.leaf_model.specs.Values.{IsCellName, time_name};
+ghost use Rattle.row_model.specs.declared.rows.Value.TheVariants.{Int};
+ghost use Rattle.row_model.specs.Values.{IsCellName, time_name};
 ghost use Rattle.column_bytes.specs.declared.kind.Kind.TheVariants.{Ints};
 ghost use Rattle.column_bytes.specs.Column.{kind_in};
-ghost use Rattle.column_bytes.specs.Cells.{Coded, cell_at, kind_of};
+ghost use Rattle.column_bytes.specs.Cells.{Coded, cell_at, kind_of_book};
 ghost use Rattle.row_blocks.specs.declared.column.BlockColumn.{BlockColumn};
 ghost use Rattle.row_blocks.specs.Blocks.{AreTimes, IsOther, IsTimeCell};
 ghost use Rattle.row_blocks.specs.Columns.{IsSeen, MeanCells, cells_in};
@@ -69,7 +69,7 @@ pub(crate) fn views_of_others(
 }
 
 fn fill_times(view: &ColumnView, codes: &mut [u64], present: &mut [bool], times: &mut [i64])
-    requires kind { kind_of view.now.book ≡ Ints }
+    requires kind { kind_of_book view.now.book ≡ Ints }
     requires codes { length codes.old ≡ length view.now.codes }
     requires present { length present.old ≡ length view.now.codes }
     requires times { length times.old ≡ length view.now.codes }
@@ -102,7 +102,7 @@ fn is_time(present: bool, time: i64) -> bool
 /// The times of a column of integers. None if a cell is missing or no time. All are decoded in order, so each
 /// difference is added once.
 fn times_in(alloc: Global, view: &ColumnView) -> Result<Option<Vec<i64>>, AllocError>
-    requires { kind_of view.now.book ≡ Ints }
+    requires { kind_of_book view.now.book ≡ Ints }
     ensures { IfOk result (λ found.
         MatchOption found (((i : ℕ) → i < length view.now.codes → IsTimeCell (cell_at view.now i)) → ⊥) (λ times.
         AreFound view.now (length view.now.codes) times.items)) }

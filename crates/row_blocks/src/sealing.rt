@@ -1,9 +1,9 @@
 // Seals rows into a block: first the column of the times, then column by column the cells that are left of the rows.
 ghost use Rattle.std.specs.Prelude.{◌≡◌, ◌<◌, ◌≤◌, length, map, replicate, true, ℤ, Some, IfOk, OnOk};
 ghost use Rattle.std.specs.List.{AllByRecursion};
-ghost use Rattle.leaf_model.specs.declared.rows.Value.TheVariants.{Int};
+ghost use Rattle.row_model.specs.declared.rows.Value.TheVariants.{Int};
 ghost use Rattle.leaf_model.specs.Lent.{each_cells, each_value, lent_cell, lent_rows};
-ghost use Rattle.leaf_model.specs.Values.{IsRow, time_name};
+ghost use Rattle.row_model.specs.Values.{IsRow, time_name};
 ghost use Rattle.column_bytes.specs.Column.{kind_in};
 ghost use Rattle.column_bytes.specs.Coding.{AreOfKind};
 ghost use Rattle.column_bytes.specs.declared.kind.Kind.TheVariants.{Ints};
@@ -70,8 +70,8 @@ fn column_like(
     })
 }
 
-/// How many walks over all rows cost at most as much as to sort the cells. A sort looks at a cell once for each binary
-/// digit of the number of cells.
+/// The number of walks over all rows that cost at most as much as a sort of the cells. A sort looks at a cell once for
+/// each binary digit of the number of cells.
 fn walks_worth(rests: &[LentCells]) -> usize {
     let mut cells = 0usize;
     for rest in rests {

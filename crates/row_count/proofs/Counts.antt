@@ -2,8 +2,8 @@
 use Rattle.std.proofs.Common.{◌≡◌, ℕ, suc, ◌+◌, ◌<◌, ◌≤◌, List, [], ◌∷◌, ◌++◌, map, length, Bool, true, false, cond, Result, Ok, Err, Bor, refl, ap, sym, subst, ◌∙◌, arith, zero-add, add-zero, add_assoc, length-append}
 use Rattle.std.specs.List.{AllZip}
 use Rattle.std.proofs.lemmas.List.Sums.{sum_by-cons}
-use Rattle.leaf_model.specs.declared.rows.Row.{Row}
-use Rattle.row_json.specs.declared.object.RowFault.{RowFault}
+use Rattle.row_model.specs.declared.rows.Row.{Row}
+use Rattle.row_model.specs.declared.row_fault.RowFault.{RowFault}
 use Rattle.row_json.specs.Row.{row_of}
 use Rattle.row_count.specs.declared.count.CountError.{CountError}
 use Rattle.row_count.specs.declared.count.CountError.TheVariants.{Fault, NoMemory}

@@ -6,13 +6,13 @@ use Rattle.std.proofs.lemmas.Bool.{cond-false, cond-true}
 use Rattle.std.proofs.lemmas.Bool.Decides.{nat_tests}
 use Rattle.std.proofs.lemmas.List.{take-append-drop, length-take}
 use Rattle.berth_face.specs.Streams.{ReadsAll, TakesAtMost, TakesCount}
-use Rattle.text_faults.specs.declared.fault.Why.TheVariants as why
+use Rattle.row_model.specs.declared.script_fault.Why.TheVariants as why
 use Rattle.run_ends.specs.Outcome.{IfScript, IsRefused, TakesText, UnlessCutOff, UnlessWritten, if_short, read_status}
 use Rattle.run_ends.specs.Source.{Took, PassesAll, longest_text, most_taken}
 use Rattle.run_ends.specs.declared.status.Status.{Status}
 use Rattle.run_ends.specs.declared.status.Status.TheVariants as status
-use Rattle.run_ends.specs.declared.stream.ReadError.{ReadError}
-use Rattle.run_ends.specs.declared.stream.ReadError.TheVariants as read
+use Rattle.run_ends.specs.declared.stream.SourceError.{SourceError}
+use Rattle.run_ends.specs.declared.stream.SourceError.TheVariants as read
 use Rattle.run_ends.proofs.Taken.{consumes_none, consumes_more}
 use Rattle.text_lines.specs.Lines.{lines_of}
 use Rattle.text_lines.specs.Parts.{ends_line}
@@ -23,7 +23,7 @@ use Rattle.row_count.specs.declared.count.LineFault.{LineFault}
 use Rattle.row_count.specs.declared.count.PartCount.{PartCount}
 use Rattle.row_count.specs.declared.count.Range.{Range}
 use Rattle.row_count.specs.Count.{IfFault, IsCountedBehind, IsPartCounted, count_of, error_behind}
-use Rattle.row_count.specs.Outcome.{IsAtFault, IsCountOf, IsStopped, count_verdict, error_status, status_of}
+use Rattle.row_count.specs.Outcome.{IsAtFault, IsCountOf, CountIsStopped, count_verdict, error_status, status_of}
 use Rattle.row_count.proofs.Counts.{Within, count_is, count_lines, count_then, later, lines_joined, lines_shifted, lines_within, more_by}
 
 -- ---- two texts, of which the first ends with a line's end
@@ -218,7 +218,7 @@ count_taken before mid now text most k first more few =
 raised : (before now : Option (List ℕ)) (least most : ℕ) → least ≤ most → TakesAtMost before now least → TakesAtMost before now most
 raised before now least most more taken = (taken.0, taken.1, omega (arith, taken.2, more))
 
-stopped_fault : (range : Range) (before now : Option (List ℕ)) → TakesAtMost before now longest_text → IsStopped range before now status.ReadFault
+stopped_fault : (range : Range) (before now : Option (List ℕ)) → TakesAtMost before now longest_text → CountIsStopped range before now status.ReadFault
 stopped_fault range before now few = record {
   not_done = λ is. absurd (cc);
   not_words = λ is. absurd (cc);
@@ -229,7 +229,7 @@ stopped_fault range before now few = record {
   text = few;
 }
 
-pub stopped_memory : (range : Range) (before now : Option (List ℕ)) → TakesAtMost before now longest_text → IsStopped range before now status.NoMemory
+pub stopped_memory : (range : Range) (before now : Option (List ℕ)) → TakesAtMost before now longest_text → CountIsStopped range before now status.NoMemory
 stopped_memory range before now few = record {
   not_done = λ is. absurd (cc);
   not_words = λ is. absurd (cc);
@@ -240,7 +240,7 @@ stopped_memory range before now few = record {
   text = few;
 }
 
-stopped_long : (range : Range) (before now : Option (List ℕ)) → TakesCount before now most_taken → IsStopped range before now (status.Script 0 why.TooLong)
+stopped_long : (range : Range) (before now : Option (List ℕ)) → TakesCount before now most_taken → CountIsStopped range before now (status.Script 0 why.TooLong)
 stopped_long range before now many = record {
   not_done = λ is. absurd (cc);
   not_words = λ is. absurd (cc);
@@ -252,14 +252,14 @@ stopped_long range before now many = record {
 }
 
 -- a source that could not be read on, behind the text that was taken
-pub stopped_read : {T : Type 0} (range : Range) (before mid now : Option (List ℕ)) (text : List ℕ) (many few : ℕ) (error : ReadError) → Consumes before mid text → length text + many ≡ most_taken → length text + few ≡ longest_text
-    → (IsErrOf {T = T} (Err error) read.TooLong → TakesCount mid now many) → ((IsErrOf {T = T} (Err error) read.TooLong → ⊥) → TakesAtMost mid now few) → IsStopped range before now (read_status error)
+pub stopped_read : {T : Type 0} (range : Range) (before mid now : Option (List ℕ)) (text : List ℕ) (many few : ℕ) (error : SourceError) → Consumes before mid text → length text + many ≡ most_taken → length text + few ≡ longest_text
+    → (IsErrOf {T = T} (Err error) read.TooLong → TakesCount mid now many) → ((IsErrOf {T = T} (Err error) read.TooLong → ⊥) → TakesAtMost mid now few) → CountIsStopped range before now (read_status error)
 stopped_read {T} range before mid now text many few read.Failed first one all long short = stopped_fault range before now (more_taken before mid now text longest_text few first (short (λ is. absurd (cc))) (omega (arith, all)))
 stopped_read {T} range before mid now text many few read.TooLong first one all long short = stopped_long range before now (count_taken before mid now text most_taken many first (long refl) one)
 stopped_read {T} range before mid now text many few read.NoMemory first one all long short = stopped_memory range before now (more_taken before mid now text longest_text few first (short (λ is. absurd (cc))) (omega (arith, all)))
 
 -- a text that was read to its end
-pub stopped_whole : (range : Range) (before now : Option (List ℕ)) (text : List ℕ) (error : CountError) → Consumes before now text → IsAtEnd now → length text ≤ longest_text → IfFault error (λ found. count_of range text ≡ Err found) → IsStopped range before now (error_status error)
+pub stopped_whole : (range : Range) (before now : Option (List ℕ)) (text : List ℕ) (error : CountError) → Consumes before now text → IsAtEnd now → length text ≤ longest_text → IfFault error (λ found. count_of range text ≡ Err found) → CountIsStopped range before now (error_status error)
 stopped_whole range before now text (Fault found) taken over small is = record {
   not_done = λ is. absurd (cc);
   not_words = λ is. absurd (cc);
@@ -272,13 +272,13 @@ stopped_whole range before now text (Fault found) taken over small is = record {
 stopped_whole range before now text NoMemory taken over small is = stopped_memory range before now (text, taken, small)
 
 -- a text with a fault, which is read to its end
-pub refused_whole : (range : Range) (before mid now : Option (List ℕ)) (taken : ℕ) (error : CountError) → IsAtFault range before mid taken error → taken ≤ longest_text → PassesAll mid now (longest_text - taken) → IsStopped range before now (error_status error)
+pub refused_whole : (range : Range) (before mid now : Option (List ℕ)) (taken : ℕ) (error : CountError) → IsAtFault range before mid taken error → taken ≤ longest_text → PassesAll mid now (longest_text - taken) → CountIsStopped range before now (error_status error)
 refused_whole range before mid now taken error at within rest =
     let size : length (at.text ++ rest.0) ≤ longest_text = omega (arith, length-append at.text rest.0, at.size, rest.2, within) in
     stopped_whole range before now (at.text ++ rest.0) error (consumes_more before mid now at.text rest.0 at.bytes rest.1.0) rest.1.1 size (at.refused rest.0)
 
-pub refused_read : {T : Type 0} (range : Range) (before mid now : Option (List ℕ)) (taken : ℕ) (error : CountError) (stop : ReadError) → IsAtFault range before mid taken error → taken ≤ longest_text
-    → (IsErrOf {T = T} (Err stop) read.TooLong → TakesCount mid now (most_taken - taken)) → ((IsErrOf {T = T} (Err stop) read.TooLong → ⊥) → TakesAtMost mid now (longest_text - taken)) → IsStopped range before now (read_status stop)
+pub refused_read : {T : Type 0} (range : Range) (before mid now : Option (List ℕ)) (taken : ℕ) (error : CountError) (stop : SourceError) → IsAtFault range before mid taken error → taken ≤ longest_text
+    → (IsErrOf {T = T} (Err stop) read.TooLong → TakesCount mid now (most_taken - taken)) → ((IsErrOf {T = T} (Err stop) read.TooLong → ⊥) → TakesAtMost mid now (longest_text - taken)) → CountIsStopped range before now (read_status stop)
 refused_read {T} range before mid now taken error stop at within long short =
     stopped_read {T = T} range before mid now at.text (most_taken - taken) (longest_text - taken) stop at.bytes (omega (arith, at.size, within)) (omega (arith, at.size, within)) long short
 
@@ -299,13 +299,13 @@ module _ (range : Range) (before now : Option (List ℕ)) (text : List ℕ) (pas
   last_exact over small count is =
       subst (λ (s : Status). IfSome before (λ xs. s ≡ count_verdict range xs)) (ap status_of (all_rows range before now text passed so_far t count is)) (read_decides range before now (t.done ++ text) t.bytes over (whole_small small))
 
-  pub last_refused : IsAtEnd now → passed + length text ≤ longest_text → (error : CountError) (s : Status) → IsCountedBehind range so_far text (Err error) → s ≡ error_status error → IsStopped range before now s
+  pub last_refused : IsAtEnd now → passed + length text ≤ longest_text → (error : CountError) (s : Status) → IsCountedBehind range so_far text (Err error) → s ≡ error_status error → CountIsStopped range before now s
   last_refused over small error s is same =
-      subst (λ (it : Status). IsStopped range before now it) (sym same) (stopped_whole range before now (t.done ++ text) error t.bytes over (whole_small small) (tallied_fault range before now text passed so_far t error is))
+      subst (λ (it : Status). CountIsStopped range before now it) (sym same) (stopped_whole range before now (t.done ++ text) error t.bytes over (whole_small small) (tallied_fault range before now text passed so_far t error is))
 
   -- a source that could not be read on
-  pub not_read : {T : Type 0} (after : Option (List ℕ)) (k : ℕ) (error : ReadError) (s : Status) → k ≡ length text → passed + length text ≤ longest_text
-      → (IsErrOf {T = T} (Err error) read.TooLong → TakesCount now after (most_taken - passed - k)) → ((IsErrOf {T = T} (Err error) read.TooLong → ⊥) → TakesAtMost now after (longest_text - passed - k)) → s ≡ read_status error → IsStopped range before after s
+  pub not_read : {T : Type 0} (after : Option (List ℕ)) (k : ℕ) (error : SourceError) (s : Status) → k ≡ length text → passed + length text ≤ longest_text
+      → (IsErrOf {T = T} (Err error) read.TooLong → TakesCount now after (most_taken - passed - k)) → ((IsErrOf {T = T} (Err error) read.TooLong → ⊥) → TakesAtMost now after (longest_text - passed - k)) → s ≡ read_status error → CountIsStopped range before after s
   not_read {T} after k error s len small long short same =
-      subst (λ (it : Status). IsStopped range before after it) (sym same) (stopped_read {T = T} range before now after (t.done ++ text) (most_taken - passed - k) (longest_text - passed - k) error t.bytes
+      subst (λ (it : Status). CountIsStopped range before after it) (sym same) (stopped_read {T = T} range before now after (t.done ++ text) (most_taken - passed - k) (longest_text - passed - k) error t.bytes
       (omega (arith, tallied_size range before now text passed so_far t, len, small)) (omega (arith, tallied_size range before now text passed so_far t, len, small)) long short)

@@ -1,8 +1,8 @@
 -- The rows of a text, and how many have a time in a range.
 use Rattle.std.specs.Prelude.{◌≡◌, ℕ, ◌+◌, ◌&&◌, List, [], ◌∷◌, map, count_by, length, Bool, if◌then◌else◌, Result, Ok, Err, IfOk, IfErr}
 use Rattle.std.specs.Int.RustNames.{int_le}
-use Rattle.leaf_model.specs.declared.rows.Row.{Row}
-use Rattle.row_json.specs.declared.object.RowFault.{RowFault}
+use Rattle.row_model.specs.declared.rows.Row.{Row}
+use Rattle.row_model.specs.declared.row_fault.RowFault.{RowFault}
 use Rattle.row_json.specs.Row.{row_of}
 use Rattle.text_lines.specs.Lines.{lines, lines_of, without_return, is_blank}
 use Rattle.row_count.specs.declared.count.CountError.{CountError}

@@ -2,7 +2,7 @@
 use Rattle.std.specs.Prelude.{◌≡◌, ◌≢◌, ℕ, List, [], ◌∷◌, ◌++◌, length, Option, Result, Ok, Err, IfSome, codes, decimal}
 use Rattle.std.specs.Io.KnownBytes.{Appends, Consumes}
 use Rattle.berth_face.specs.Streams.{ReadsAll, TakesAtMost, WritesFront}
-use Rattle.text_faults.specs.declared.fault.Why.TheVariants as why
+use Rattle.row_model.specs.declared.script_fault.Why.TheVariants as why
 use Rattle.run_ends.specs.Outcome.{IfScript, IsRefused, TakesText, UnlessCutOff, if_short}
 use Rattle.run_ends.specs.Source.{most_taken}
 use Rattle.run_ends.specs.declared.status.Status.{Status}
@@ -16,17 +16,18 @@ use Rattle.row_count.specs.declared.count.Range.{Range}
 abbrev pub count_line : ℕ → List ℕ
 count_line n = codes "count " ++ decimal n ++ 10 ∷ []
 
--- the source was read to its end, and this many rows of its text are in the range
-abbrev pub IsCountOf : Range → Option (List ℕ) → Option (List ℕ) → ℕ → Type 0
-IsCountOf range before after count = (text : List ℕ) × ReadsAll before after text × (count_of range text ≡ Ok count)
+module _ (range : Range) (before after : Option (List ℕ)) where
+  -- the source was read to its end, and this many rows of its text are in the range
+  abbrev pub IsCountOf : ℕ → Type 0
+  IsCountOf count = (text : List ℕ) × ReadsAll before after text × (count_of range text ≡ Ok count)
 
--- the rows were counted, and the line was written
-abbrev pub IsCounted : Range → Option (List ℕ) → Option (List ℕ) → Option (List ℕ) → Option (List ℕ) → Type 0
-IsCounted range before after was now = (count : ℕ) × IsCountOf range before after count × Appends was now (count_line count)
+  -- the rows were counted, and the line was written
+  abbrev pub IsCounted : Option (List ℕ) → Option (List ℕ) → Type 0
+  IsCounted was now = (count : ℕ) × IsCountOf count × Appends was now (count_line count)
 
--- the rows were counted, and a prefix of the line was written
-abbrev pub IsCutShort : Range → Option (List ℕ) → Option (List ℕ) → Option (List ℕ) → Option (List ℕ) → Type 0
-IsCutShort range before after was now = (count : ℕ) × IsCountOf range before after count × WritesFront was now (count_line count)
+  -- the rows were counted, and a prefix of the line was written
+  abbrev pub IsCutShort : Option (List ℕ) → Option (List ℕ) → Type 0
+  IsCutShort was now = (count : ℕ) × IsCountOf count × WritesFront was now (count_line count)
 
 -- ---- which status the text decides
 
@@ -54,7 +55,7 @@ pub record IsAtFault (range : Range) (before now : Option (List ℕ)) (taken : �
   pub refused : (more : List ℕ) → IfFault error (λ found. count_of range (text ++ more) ≡ Err found)
 
 -- the status of a count that stopped, and what it implies of the source
-pub record IsStopped (range : Range) (before after : Option (List ℕ)) (status : Status) : Type 0 where
+pub record CountIsStopped (range : Range) (before after : Option (List ℕ)) (status : Status) : Type 0 where
   pub not_done : status ≢ Status.Done
   pub not_words : status ≢ Status.Words
   pub not_written : status ≢ Status.WriteFault

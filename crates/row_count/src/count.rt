@@ -3,25 +3,24 @@ ghost use Rattle.std.specs.Prelude.{◌≡◌, ◌≢◌, ◌+◌, ◌<◌, ◌�
 ghost use Rattle.std.specs.Borrow.{Bor};
 ghost use Rattle.std.specs.List.{AllZip};
 ghost use Rattle.row_json.specs.Row.{row_of};
-ghost use Rattle.leaf_model.specs.declared.rows.Cell.{Cell};
+ghost use Rattle.row_model.specs.declared.rows.Cell.{Cell};
 ghost use Rattle.berth_face.specs.Causes.{Rose};
 ghost use Rattle.berth_face.specs.Streams.{TakesAtMost};
 ghost use Rattle.text_lines.specs.Lines.{lines_of};
 ghost use Rattle.row_count.specs.declared.count.CountError.TheVariants.{NoMemory};
 ghost use Rattle.row_count.specs.Count.{count_of, is_in, IfFault, IsCountedBehind, IsPartCounted, error_behind};
 ghost use Rattle.run_ends.specs.Outcome.{IsRefused, IfScript, UnlessCutOff, UnlessWritten, TakesText};
-ghost use Rattle.row_count.specs.Outcome.{IsAtFault, IsCountOf, IsCounted, IsCutShort, IsStopped, count_verdict, error_status};
+ghost use Rattle.row_count.specs.Outcome.{IsAtFault, IsCountOf, IsCounted, IsCutShort, CountIsStopped, count_verdict, error_status};
 ghost use Rattle.run_ends.specs.Source.{longest_text, most_taken};
 
 use berth_face::{Sink, Source};
-use leaf_model::Row;
 use rayon::prelude::*;
 use row_json::{RowFault, RowRoom, quick_time};
+use row_model::{Row, Why};
 use run_ends::{LONGEST_TEXT, Status, pass_rest, read_piece, write_all};
 use std::alloc::{AllocError, Global};
 use std::collections::VecDeque;
 use std::thread::Threads;
-use text_faults::Why;
 use text_lines::{cut_line, is_blank, last_end, parts_of, without_return};
 
 /// The times in `from..=to`.
@@ -105,7 +104,7 @@ fn count_text<R: Threads + Sync, S: Source>(
     ensures counted { IfOk result (λ count. IsCountOf range (S.left source.old) (S.left source.new) count) }
     ensures exact { OnOk result (IfSome (S.left source.old) (λ text. Status.Done ≡ count_verdict range text)) }
     ensures takes { OnOk result (TakesAtMost (S.left source.old) (S.left source.new) longest_text) }
-    ensures stopped { IfErr result (λ status. IsStopped range (S.left source.old) (S.left source.new) status) }
+    ensures stopped { IfErr result (λ status. CountIsStopped range (S.left source.old) (S.left source.new) status) }
     ensures failed { IfErr result (λ status.
         status ≡ Status.ReadFault → Rose (S.faults source.old) (S.faults source.new)) }
 {
@@ -138,12 +137,13 @@ fn count_text<R: Threads + Sync, S: Source>(
     }
 }
 
-/// The status of a text with this fault, of which `taken` bytes were read. A text that is too long, or a source that
-/// fails, comes before the fault. So the source is read to its end.
+/// The status of a text with this fault, after `taken` bytes. It reads the source to its end, because a source that
+/// fails or is too long comes before the fault.
 fn refusal<S: Source>(alloc: Global, source: &mut S, taken: usize, error: CountError) -> Status
     requires { taken ≤ LONGEST_TEXT }
     ensures stopped { (range : Range) (before : Option (List ℕ))
-        → IsAtFault range before (S.left source.old) taken error → IsStopped range before (S.left source.new) result }
+        → IsAtFault range before (S.left source.old) taken error
+        → CountIsStopped range before (S.left source.new) result }
     ensures failed { result ≡ Status.ReadFault → Rose (S.faults source.old) (S.faults source.new) }
     ensures later { S.faults source.old ≤ S.faults source.new }
 {

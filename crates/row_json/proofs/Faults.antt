@@ -2,14 +2,14 @@
 use Rattle.std.proofs.Common.{◌≡◌, ◌≢◌, inl, inr, ℕ, List, [], Option, Some, None, Ok, Err, true, false, true≢false, refl, ap, sym, subst, ◌∙◌}
 use Rattle.std.specs.List.Sorted.{IsStrictlySortedBy}
 use Rattle.serde_json.specs.Data.{Data, null, Members, no_members, member}
-use Rattle.leaf_model.specs.Values.{time_name}
-use Rattle.leaf_model.specs.declared.rows.Value.{Value}
-use Rattle.leaf_model.specs.declared.rows.Cell.{Cell}
+use Rattle.row_model.specs.Values.{time_name}
+use Rattle.row_model.specs.declared.rows.Value.{Value}
+use Rattle.row_model.specs.declared.rows.Cell.{Cell}
 use Rattle.row_json.specs.Row.{is_bad_name, named_cell, cell_of, cells_of}
 use Rattle.row_json.specs.Meaning.{HoldsValue, IsFine, IsFaultOf, IsFirstFault}
-use Rattle.row_json.specs.declared.object.RowFault.{RowFault}
-use Rattle.row_json.specs.declared.object.RowFault.TheVariants.{Json, NotObject, NoTime, TooMany, Name, NoMemory}
-use Rattle.row_json.specs.declared.object.RowFault.TheVariants as fault
+use Rattle.row_model.specs.declared.row_fault.RowFault.{RowFault}
+use Rattle.row_model.specs.declared.row_fault.RowFault.TheVariants.{Json, NotObject, NoTime, TooMany, Name, NoMemory}
+use Rattle.row_model.specs.declared.row_fault.RowFault.TheVariants as fault
 use Rattle.row_json.proofs.Rows.{with_cell}
 use Rattle.row_json.specs.QuickRow.{Ascending, Below}
 use Rattle.row_json.proofs.Found.{not_below_itself, not_both_below, found_here, found_later, found_cases, found_none, found_all}

@@ -9,10 +9,10 @@ use Rattle.std.specs.Result.{IfOk}
 use Rattle.json.specs.Token.{Token}
 use Rattle.serde_json.specs.Data.{Data, object, Members, no_members, member}
 use Rattle.serde_json.specs.Read.{read}
-use Rattle.leaf_model.specs.Values.{IsCell, IsRow, IsTime, time_name}
-use Rattle.leaf_model.specs.declared.rows.Cell.{Cell}
-use Rattle.leaf_model.specs.declared.rows.Row.{Row}
-use Rattle.row_json.specs.declared.object.RowFault.{RowFault}
+use Rattle.row_model.specs.Values.{IsCell, IsRow, IsTime, time_name}
+use Rattle.row_model.specs.declared.rows.Cell.{Cell}
+use Rattle.row_model.specs.declared.rows.Row.{Row}
+use Rattle.row_model.specs.declared.row_fault.RowFault.{RowFault}
 use Rattle.row_json.specs.Row.{is_time, is_missing, cell_of, cell_count, cells_of, row_of}
 use Rattle.row_json.specs.Quick.{Knows}
 use Rattle.row_json.specs.QuickRow.{Ascend, Ascending, IsMadeOf}

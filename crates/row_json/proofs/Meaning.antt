@@ -6,14 +6,14 @@ use Rattle.std.specs.Str.{is_utf8, IsUtf8}
 use Rattle.serde_json.specs.Data.{Data, null, boolean, number, string, array, object, Members}
 use Rattle.serde_json.specs.Find.{get_member, as_number, as_object, as_i64}
 use Rattle.serde_json.specs.Read.{read}
-use Rattle.leaf_model.specs.Values.{time_name}
-use Rattle.leaf_model.specs.declared.rows.Cell.{Cell}
-use Rattle.leaf_model.specs.declared.rows.Row.{Row}
+use Rattle.row_model.specs.Values.{time_name}
+use Rattle.row_model.specs.declared.rows.Cell.{Cell}
+use Rattle.row_model.specs.declared.rows.Row.{Row}
 use Rattle.row_json.specs.Row.{not_negative, time_of, cell_count, cells_of, row_of_members, row_of_data, row_of}
 use Rattle.row_json.specs.Meaning.{IsObject, IsTimeOf, HasTime, IsRowOf, HasFault, IsThisRow, Refuses}
-use Rattle.row_json.specs.declared.object.RowFault.{RowFault}
-use Rattle.row_json.specs.declared.object.RowFault.TheVariants.{Json, NotObject, NoTime, TooMany, Name, NoMemory}
-use Rattle.row_json.specs.declared.object.RowFault.TheVariants as fault
+use Rattle.row_model.specs.declared.row_fault.RowFault.{RowFault}
+use Rattle.row_model.specs.declared.row_fault.RowFault.TheVariants.{Json, NotObject, NoTime, TooMany, Name, NoMemory}
+use Rattle.row_model.specs.declared.row_fault.RowFault.TheVariants as fault
 use Rattle.row_json.proofs.Rows.{row_with, row_of-some, row_of-none}
 use Rattle.row_json.proofs.Found.{found_none, read_ascends}
 use Rattle.row_json.proofs.Cells.{err≢ok, ok≢err, cells_whole, cells_only}

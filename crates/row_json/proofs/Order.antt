@@ -9,12 +9,12 @@ use Rattle.std.specs.Cmp.Lexicographic.{slice_cmp}
 use Rattle.serde_json.specs.Data.{Data, Members, no_members, member}
 use Rattle.serde_json.specs.View.{members_view}
 use Rattle.serde_json.specs.declared.value.Value.{Value}
-use Rattle.leaf_model.specs.declared.rows.Value.{Value as CellValue}
-use Rattle.leaf_model.specs.declared.rows.Cell.{Cell}
-use Rattle.leaf_model.specs.Values.{IsCell}
-use Rattle.row_json.specs.declared.object.RowFault.{RowFault}
-use Rattle.row_json.specs.declared.object.RowFault.TheVariants.{Name}
-use Rattle.row_json.specs.declared.object.RowFault.TheVariants as fault
+use Rattle.row_model.specs.declared.rows.Value.{Value as CellValue}
+use Rattle.row_model.specs.declared.rows.Cell.{Cell}
+use Rattle.row_model.specs.Values.{IsCell}
+use Rattle.row_model.specs.declared.row_fault.RowFault.{RowFault}
+use Rattle.row_model.specs.declared.row_fault.RowFault.TheVariants.{Name}
+use Rattle.row_model.specs.declared.row_fault.RowFault.TheVariants as fault
 use Rattle.row_json.specs.Row.{is_time, is_bad_name, is_missing, value_of, named_cell, cell_of, and_then, cells_of, cell_count}
 use Rattle.row_json.specs.QuickRow.{Ascend, Below, cell_names, names_of}
 use Rattle.row_json.proofs.Rows.{with_cell}

@@ -8,8 +8,8 @@ use Rattle.std.specs.Cmp.Lexicographic.{slice_cmp}
 use Rattle.std.specs.List.{AllByRecursion}
 use Rattle.std.specs.List.Sorted.{IsStrictlySortedBy}
 use Rattle.std.specs.Ordering.{ordering_reverse}
-use Rattle.leaf_model.specs.declared.rows.Value.TheVariants.{Text}
-use Rattle.leaf_model.specs.declared.rows.Cell.{Cell}
+use Rattle.row_model.specs.declared.rows.Value.TheVariants.{Text}
+use Rattle.row_model.specs.declared.rows.Cell.{Cell}
 use Rattle.row_json.specs.Row.{text_of}
 use Rattle.row_json.specs.QuickRow.{Ascend, Below, IsPlace, cell_names}
 

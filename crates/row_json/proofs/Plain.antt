@@ -29,7 +29,7 @@ use Rattle.serde_json.specs.Read.{number_of, number_from, converted, of_json, of
 use Rattle.row_json.proofs.Grown.{all_read, converted_object, one_more, whole_text}
 use Rattle.row_json.proofs.Seen.{from_zero_is, below_zero_is, of_token}
 use Rattle.row_json.specs.Quick.{AreOfRow, data_of}
-use Rattle.row_json.specs.Plain.{HasDigits, IsNatural, Reads, ReadsKey, is_ended, tokens_from}
+use Rattle.row_json.specs.Plain.{HasDigits, IsNatural, Reads, ReadsKey, is_ended, json_tokens_from}
 
 -- ---- strings
 
@@ -137,15 +137,15 @@ pub colon_lexed : (r : List ℕ) → lex between (58 ∷ r) ≡ colon ∷ lex be
 unfolding lex
 colon_lexed r = refl
 
-pub comma_taken : (r : List ℕ) → tokens_from after_value (44 ∷ r) ≡ tokens_from after_comma r
+pub comma_taken : (r : List ℕ) → json_tokens_from after_value (44 ∷ r) ≡ json_tokens_from after_comma r
 unfolding lex punctuate
 comma_taken r = refl
 
-pub brace_taken : tokens_from after_value (125 ∷ []) ≡ json.end_object ∷ []
+pub brace_taken : json_tokens_from after_value (125 ∷ []) ≡ json.end_object ∷ []
 unfolding lex punctuate
 brace_taken = refl
 
-pub object_begun : (r : List ℕ) → tokens_from fresh (123 ∷ r) ≡ json.begin_object ∷ tokens_from fresh r
+pub object_begun : (r : List ℕ) → json_tokens_from fresh (123 ∷ r) ≡ json.begin_object ∷ json_tokens_from fresh r
 unfolding lex punctuate
 object_begun r = refl
 
@@ -285,21 +285,21 @@ digits_next text n at digit h inside least most is small =
 
 -- ---- one member more, and the end
 
-module _ (p : Place) (text name held rest : List ℕ) (old : Members) (n : ℕ) (d : Data) (may : may_begin p ≡ true) (key : ReadsKey text name held) (reads : Reads held rest d) (enough : length (tokens_from p text) ≤ n) where
-  first_tokens : tokens_from p text ≡ json.key name ∷ reads.token ∷ tokens_from after_value rest
+module _ (p : Place) (text name held rest : List ℕ) (old : Members) (n : ℕ) (d : Data) (may : may_begin p ≡ true) (key : ReadsKey text name held) (reads : Reads held rest d) (enough : length (json_tokens_from p text) ≤ n) where
+  first_tokens : json_tokens_from p text ≡ json.key name ∷ reads.token ∷ json_tokens_from after_value rest
   first_tokens = key p may ∙ ap (λ (ts : List Token). json.key name ∷ ts) reads.first
 
-  pub counted_tokens : length (tokens_from after_value rest) + 2 ≤ n
+  pub counted_tokens : length (json_tokens_from after_value rest) + 2 ≤ n
   counted_tokens = omega (arith, enough, ap length first_tokens)
 
-  pub member_read : converted (λ ms. of_members ms old) (members (value 126) n (tokens_from p text)) ≡ converted (λ ms. of_members ms (put name d old)) (members (value 126) (n - 1) (tokens_from after_value rest))
+  pub member_read : converted (λ ms. of_members ms old) (members (value 126) n (json_tokens_from p text)) ≡ converted (λ ms. of_members ms (put name d old)) (members (value 126) (n - 1) (json_tokens_from after_value rest))
   member_read =
-      let done : converted of_json (value 126 (reads.token ∷ tokens_from after_value rest)) ≡ Some (d, tokens_from after_value rest) = of_token 126 reads.token (tokens_from after_value rest) d reads.is in
+      let done : converted of_json (value 126 (reads.token ∷ json_tokens_from after_value rest)) ≡ Some (d, json_tokens_from after_value rest) = of_token 126 reads.token (json_tokens_from after_value rest) d reads.is in
       ap (λ (ts : List Token). converted (λ ms. of_members ms old) (members (value 126) n ts)) first_tokens
-      ∙ one_more (value 126) old n name (json.key name ∷ reads.token ∷ tokens_from after_value rest) (reads.token ∷ tokens_from after_value rest) (tokens_from after_value rest) d (omega (arith, counted_tokens)) refl done
+      ∙ one_more (value 126) old n name (json.key name ∷ reads.token ∷ json_tokens_from after_value rest) (reads.token ∷ json_tokens_from after_value rest) (json_tokens_from after_value rest) d (omega (arith, counted_tokens)) refl done
 
-pub members_closed : (old : Members) (n : ℕ) (rest : List ℕ) → rest ≡ 125 ∷ [] → length (tokens_from after_value rest) ≤ n → converted (λ ms. of_members ms old) (members (value 126) n (tokens_from after_value rest)) ≡ Some (old, [])
-members_closed old n rest is enough = all_read (value 126) old n (tokens_from after_value rest) [] enough (ap (λ r. read_key (tokens_from after_value r)) is ∙ ap read_key brace_taken)
+pub members_closed : (old : Members) (n : ℕ) (rest : List ℕ) → rest ≡ 125 ∷ [] → length (json_tokens_from after_value rest) ≤ n → converted (λ ms. of_members ms old) (members (value 126) n (json_tokens_from after_value rest)) ≡ Some (old, [])
+members_closed old n rest is enough = all_read (value 126) old n (json_tokens_from after_value rest) [] enough (ap (λ r. read_key (json_tokens_from after_value r)) is ∙ ap read_key brace_taken)
 
 -- the one byte of a list
 pub only_byte : (x : ℕ) (bs : List ℕ) → length bs ≡ 1 → get_or bs 0 0 ≡ x → bs ≡ x ∷ []
@@ -310,12 +310,12 @@ only_byte x (b ∷ c ∷ bs) one is = absurd (omega (arith, one))
 -- ---- the whole text
 
 pub walked : (found : Option ℤ) (text : List ℕ) → 0 < length text → get_or text 0 0 ≡ 123
-    → IfSome found (λ time. (all : Members) × (converted (λ ms. of_members ms no_members) (members (value 126) (length (tokens_from fresh (drop 1 text))) (tokens_from fresh (drop 1 text))) ≡ Some (all, [])) × AreOfRow time all)
+    → IfSome found (λ time. (all : Members) × (converted (λ ms. of_members ms no_members) (members (value 126) (length (json_tokens_from fresh (drop 1 text))) (json_tokens_from fresh (drop 1 text))) ≡ Some (all, [])) × AreOfRow time all)
     → IfSome found (λ time. (all : Members) × (read text ≡ Some (object all)) × AreOfRow time all)
 walked None text some brace h = tt
 walked (Some t) text some brace h =
-    let s = tokens_from fresh (drop 1 text) in
-    let first : tokens_from fresh text ≡ json.begin_object ∷ s = ap (tokens_from fresh) (first_byte 123 text some brace) ∙ object_begun (drop 1 text) in
+    let s = json_tokens_from fresh (drop 1 text) in
+    let first : json_tokens_from fresh text ≡ json.begin_object ∷ s = ap (json_tokens_from fresh) (first_byte 123 text some brace) ∙ object_begun (drop 1 text) in
     let opened = ap (converted of_json) (ap (value 127) first ∙ value-begin_object 127 s (omega arith)) ∙ converted_object (members (value 126) (length s) s) in
-    let done : converted of_json (value 127 (tokens_from fresh text)) ≡ Some (object h.0, []) = opened ∙ ap (parse_map object) h.1 in
-    (h.0, whole_text (value 127 (tokens_from fresh text)) (object h.0) done, h.2)
+    let done : converted of_json (value 127 (json_tokens_from fresh text)) ≡ Some (object h.0, []) = opened ∙ ap (parse_map object) h.1 in
+    (h.0, whole_text (value 127 (json_tokens_from fresh text)) (object h.0) done, h.2)

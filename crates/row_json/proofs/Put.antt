@@ -11,12 +11,12 @@ use Rattle.std.specs.Option.{IfSome}
 use Rattle.std.specs.Result.{IfOk}
 use Rattle.std.specs.Ordering.{match_ordering, ordering_reverse}
 use Rattle.serde_json.specs.Data.{Data, Members, no_members, member, put}
-use Rattle.leaf_model.specs.Values.{IsCellName, time_name}
-use Rattle.leaf_model.specs.declared.rows.Value.{Value}
-use Rattle.leaf_model.specs.declared.rows.Cell.{Cell}
-use Rattle.row_json.specs.declared.object.RowFault.{RowFault}
+use Rattle.row_model.specs.Values.{IsCellName, time_name}
+use Rattle.row_model.specs.declared.rows.Value.{Value}
+use Rattle.row_model.specs.declared.rows.Cell.{Cell}
+use Rattle.row_model.specs.declared.row_fault.RowFault.{RowFault}
 use Rattle.row_json.specs.Row.{is_time, named_cell, cell_of, cells_of}
-use Rattle.row_json.specs.QuickRow.{Ascending, Below, IsPlace, Means, Puts, cell_names, names_of}
+use Rattle.row_json.specs.QuickRow.{Ascending, Below, IsPlace, MeansValue, Puts, cell_names, names_of}
 use Rattle.row_json.proofs.Rows.{before_none, with_cell}
 use Rattle.row_json.proofs.Order.{IsCellOf, at_ok, cell_is, cells_above}
 use Rattle.row_json.proofs.Found.{below_all, not_below_itself, not_both_below, same_name}
@@ -148,7 +148,7 @@ pub no_time : (name : List ℕ) (b : Bool) → is_time name ≡ b → name ≢ t
 no_time name true is other = absurd (other ((bytes_eq-Decides name time_name).0 is))
 no_time name false is other = is
 
-pub cell_means : (name : List ℕ) (d : Data) (v : Option Value) → IsCellName name → Means d v → cell_of name d ≡ Ok (option_map (named_cell name) v)
+pub cell_means : (name : List ℕ) (d : Data) (v : Option Value) → IsCellName name → MeansValue d v → cell_of name d ≡ Ok (option_map (named_cell name) v)
 cell_means name d None is h =
     let other : is_time name ≡ false = no_time name (is_time name) refl is.other in
     subst (λ (e : Data). cell_of name e ≡ Ok None) (sym h) (rw (other, good_name name is.some is.short) refl)
@@ -156,14 +156,14 @@ cell_means name d (Some v) is h =
     let other : is_time name ≡ false = no_time name (is_time name) refl is.other in
     rw (other, good_name name is.some is.short, h.0, h.1) refl
 
-pub puts_none : (name : List ℕ) (value : Option Value) (cells : List Cell) (place : ℕ) → value ≡ None → IsCellName name → IsPlace cells name place → (d : Data) → Means d value → Puts name d cells cells
+pub puts_none : (name : List ℕ) (value : Option Value) (cells : List Cell) (place : ℕ) → value ≡ None → IsCellName name → IsPlace cells name place → (d : Data) → MeansValue d value → Puts name d cells cells
 puts_none name value cells place none named is d means =
-    let made : cell_of name d ≡ Ok None = cell_means name d None named (subst (Means d) none means) in
+    let made : cell_of name d ≡ Ok None = cell_means name d None named (subst (MeansValue d) none means) in
     puts_at name d None cells cells place made is (sym (take-append-drop place cells))
 
 pub puts_some : (name : List ℕ) (value : Option Value) (cells after : List Cell) (place : ℕ) (c : Cell) → value ≡ Some c.value → c.name ≡ name → IsCellName name → IsPlace cells name place
-    → after ≡ take place cells ++ c ∷ drop place cells → (d : Data) → Means d value → Puts name d cells after
+    → after ≡ take place cells ++ c ∷ drop place cells → (d : Data) → MeansValue d value → Puts name d cells after
 puts_some name value cells after place c some same named is put_in d means =
-    let made : cell_of name d ≡ Ok (Some (named_cell name c.value)) = cell_means name d (Some c.value) named (subst (Means d) some means) in
+    let made : cell_of name d ≡ Ok (Some (named_cell name c.value)) = cell_means name d (Some c.value) named (subst (MeansValue d) some means) in
     let renamed : named_cell c.name c.value ≡ named_cell name c.value = ap (λ n. named_cell n c.value) same in
     puts_at name d (Some c) cells after place (made ∙ ap (λ x. Ok (Some x)) (sym renamed)) is put_in

@@ -16,13 +16,13 @@ use Rattle.serde_json.specs.Data.{Data, Num, unsigned, negative, null, number, s
 use Rattle.serde_json.specs.Find.{get_member, as_i64, as_number}
 use Rattle.serde_json.specs.Read.{converted, of_json, number_from, is_integer, read}
 use Rattle.serde_json.proofs.Views.{get_member-put, get_member-put_other}
-use Rattle.leaf_model.specs.Values.{time_name}
-use Rattle.leaf_model.specs.declared.rows.Cell.{Cell}
-use Rattle.leaf_model.specs.declared.rows.Value.TheVariants.{Int, Text}
+use Rattle.row_model.specs.Values.{time_name}
+use Rattle.row_model.specs.declared.rows.Cell.{Cell}
+use Rattle.row_model.specs.declared.rows.Value.TheVariants.{Int, Text}
 use Rattle.row_json.specs.Row.{is_time, is_missing, is_bad_name, named_cell, cell_of, cell_count, cells_of, not_negative, row_of, row_of_data}
 use Rattle.row_json.proofs.Rows.{row_of-some}
 use Rattle.row_json.proofs.Found.{found_none}
-use Rattle.row_json.specs.Quick.{AreFine, AreOfRow, IsFine, Knows, data_of, natural_of}
+use Rattle.row_json.specs.Quick.{AreFine, AreOfRow, HasNoFault, Knows, data_of, natural_of}
 
 -- ---- numbers
 
@@ -45,13 +45,13 @@ below_zero_is p z is fits same less =
 same_name : (k l : List ℕ) → slice_cmp nat_cmp k l ≡ Equal → k ≡ l
 same_name k l is = (bytes_eq-Decides k l).0 (sym (is_eq-slice_cmp k l) ∙ ap is_eq is)
 
-fine_at : (o : Ordering) (k l : List ℕ) (d e : Data) (ms : Members) → slice_cmp nat_cmp k l ≡ o → IsFine k d → AreFine (member l e ms) → AreFine (put k d ms)
+fine_at : (o : Ordering) (k l : List ℕ) (d e : Data) (ms : Members) → slice_cmp nat_cmp k l ≡ o → HasNoFault k d → AreFine (member l e ms) → AreFine (put k d ms)
     → AreFine (match_ordering o (member k d (member l e ms)) (member l d ms) (member l e (put k d ms)))
 fine_at Less k l d e ms is one all more = (one, all)
-fine_at Equal k l d e ms is one all more = (subst (λ (n : List ℕ). IsFine n d) (same_name k l is) one, all.1)
+fine_at Equal k l d e ms is one all more = (subst (λ (n : List ℕ). HasNoFault n d) (same_name k l is) one, all.1)
 fine_at Greater k l d e ms is one all more = (all.0, more)
 
-pub fine_put : (k : List ℕ) (d : Data) (ms : Members) → IsFine k d → AreFine ms → AreFine (put k d ms)
+pub fine_put : (k : List ℕ) (d : Data) (ms : Members) → HasNoFault k d → AreFine ms → AreFine (put k d ms)
 fine_put k d no_members one all = (one, tt)
 fine_put k d (member l e ms) one all = fine_at (slice_cmp nat_cmp k l) k l d e ms refl one all (fine_put k d ms one all.1)
 
@@ -120,16 +120,16 @@ row_is t all h = let found = fine_cells all h.fine in (found.0, rw (h.known, le-
 pub good_name : (name : List ℕ) → 0 < length name → length name ≤ 255 → is_bad_name name ≡ false
 good_name name some few = rw (ne_eqb (length name) 0 (λ e. omega (arith, e, some)), le-ltb 255 (length name) few)
 
-pub fine_number : (name : List ℕ) (num : Num) (z : ℤ) → is_time name ≡ false → is_bad_name name ≡ false → as_i64 num ≡ Some z → IsFine name (number num)
+pub fine_number : (name : List ℕ) (num : Num) (z : ℤ) → is_time name ≡ false → is_bad_name name ≡ false → as_i64 num ≡ Some z → HasNoFault name (number num)
 fine_number name num z t b e = (Some (named_cell name (Int z)), rw (t, b, e))
 
-pub fine_string : (name s : List ℕ) → is_time name ≡ false → is_bad_name name ≡ false → length s ≤ 65535 → IsFine name (string s)
+pub fine_string : (name s : List ℕ) → is_time name ≡ false → is_bad_name name ≡ false → length s ≤ 65535 → HasNoFault name (string s)
 fine_string name s t b few = (Some (named_cell name (Text s)), rw (t, b, le-ltb 65535 (length s) few))
 
-pub fine_null : (name : List ℕ) → is_time name ≡ false → is_bad_name name ≡ false → IsFine name null
+pub fine_null : (name : List ℕ) → is_time name ≡ false → is_bad_name name ≡ false → HasNoFault name null
 fine_null name t b = (None, rw (t, b))
 
-pub fine_time : (name : List ℕ) (d : Data) → is_time name ≡ true → IsFine name d
+pub fine_time : (name : List ℕ) (d : Data) → is_time name ≡ true → HasNoFault name d
 fine_time name d t = (None, rw t)
 
 pub not_negative_is : (z : ℤ) → pos 0 ≤ℤ z → not_negative z ≡ Some z

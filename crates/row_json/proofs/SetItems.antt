@@ -11,9 +11,9 @@ use Rattle.serde_json.specs.Data.{item, string}
 use Rattle.serde_json.specs.View.{view, items_view}
 use Rattle.serde_json.specs.declared.value.Value.{Value, the_lemmas}
 use Rattle.serde_json.specs.declared.value.Value as Json
-use Rattle.leaf_model.specs.declared.rows.Value.TheVariants.{Set}
-use Rattle.leaf_model.specs.Groups.{text_cmp}
-use Rattle.leaf_model.specs.Values.{IsSet, bytes_in}
+use Rattle.row_model.specs.declared.rows.Value.TheVariants.{Set}
+use Rattle.row_model.specs.Texts.{text_cmp}
+use Rattle.row_model.specs.Values.{IsSet, bytes_in}
 use Rattle.row_json.specs.Row.{item_count, set_of, texts_with}
 
 abbrev pub texts_of : List (String Global) → List (List ℕ)

@@ -10,11 +10,11 @@ use Rattle.std.specs.List.Sorted.{IsStrictlySortedBy}
 use Rattle.std.specs.Ordering.{match_ordering, ordering_reverse}
 use Rattle.std.specs.BTreeMap.{is_at}
 use Rattle.serde_json.specs.Data.{Data, null, boolean, number, string, array, object, Items, no_items, item}
-use Rattle.leaf_model.specs.declared.rows.Value.{Value}
-use Rattle.leaf_model.specs.declared.rows.Value.TheVariants.{Set}
-use Rattle.leaf_model.specs.Groups.{text_cmp}
-use Rattle.leaf_model.specs.Names.{is_among}
-use Rattle.leaf_model.specs.Values.{bytes_in}
+use Rattle.row_model.specs.declared.rows.Value.{Value}
+use Rattle.row_model.specs.declared.rows.Value.TheVariants.{Set}
+use Rattle.row_model.specs.Texts.{text_cmp}
+use Rattle.row_model.specs.Names.{is_among}
+use Rattle.row_model.specs.Values.{bytes_in}
 use Rattle.row_json.specs.Row.{item_count, set_of, texts_with, value_of}
 use Rattle.row_json.specs.Meaning.{AreTexts, HoldsValue, IsSetValue}
 use Rattle.row_json.proofs.Found.{found_none}

@@ -8,16 +8,16 @@ use Rattle.std.specs.List.Sorted.{IsStrictlySortedBy}
 use Rattle.serde_json.specs.Data.{Data, null, string, array, object, Items, no_items, item, Members}
 use Rattle.serde_json.specs.Find.{get_member, as_number, as_str, as_object, as_i64}
 use Rattle.serde_json.specs.Read.{read}
-use Rattle.leaf_model.specs.Groups.{text_cmp}
-use Rattle.leaf_model.specs.Names.{is_among}
-use Rattle.leaf_model.specs.Values.{bytes_in, time_name}
-use Rattle.leaf_model.specs.declared.rows.Value.{Value}
-use Rattle.leaf_model.specs.declared.rows.Value.TheVariants.{Int, Text, Set}
-use Rattle.leaf_model.specs.declared.rows.Row.{Row}
+use Rattle.row_model.specs.Texts.{text_cmp}
+use Rattle.row_model.specs.Names.{is_among}
+use Rattle.row_model.specs.Values.{bytes_in, time_name}
+use Rattle.row_model.specs.declared.rows.Value.{Value}
+use Rattle.row_model.specs.declared.rows.Value.TheVariants.{Int, Text, Set}
+use Rattle.row_model.specs.declared.rows.Row.{Row}
 use Rattle.row_json.specs.Row.{cell_count, is_bad_name, named_cell}
-use Rattle.row_json.specs.declared.object.RowFault.{RowFault}
-use Rattle.row_json.specs.declared.object.RowFault.TheVariants.{Json, NotObject, NoTime, TooMany, Name, NoMemory}
-use Rattle.row_json.specs.declared.object.RowFault.TheVariants as fault
+use Rattle.row_model.specs.declared.row_fault.RowFault.{RowFault}
+use Rattle.row_model.specs.declared.row_fault.RowFault.TheVariants.{Json, NotObject, NoTime, TooMany, Name, NoMemory}
+use Rattle.row_model.specs.declared.row_fault.RowFault.TheVariants as fault
 
 -- the text is this object; of members with the same name the last counts
 pub record IsObject (text : List ℕ) (all : Members) : Type 0 where
@@ -115,7 +115,7 @@ pub record IsThisRow (text : List ℕ) (row : Row) : Type 0 where
   pub few : cell_count all ≤ 1024
   pub is : IsRowOf all row
 
--- the text is no row, for this reason
+-- this is why the text is no row
 abbrev pub Refuses : List ℕ → RowFault → Type 0
 Refuses text Json = IsUtf8 text → read text ≡ None
 Refuses text NotObject = IsUtf8 text × ((d : Data) × (read text ≡ Some d) × (as_object d ≡ None))

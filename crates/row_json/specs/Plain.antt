@@ -8,8 +8,8 @@ use Rattle.serde_json.specs.Data.{Data}
 use Rattle.row_json.specs.Quick.{data_of}
 
 -- the tokens of a text, given its place among commas and colons
-abbrev pub tokens_from : Place → List ℕ → List Token
-tokens_from p text = punctuate p (lex between text)
+abbrev pub json_tokens_from : Place → List ℕ → List Token
+json_tokens_from p text = punctuate p (lex between text)
 
 -- the text begins with a comma or a closing brace
 abbrev pub is_ended : List ℕ → Bool
@@ -33,9 +33,9 @@ pub record IsNatural (text : List ℕ) (n : ℕ) : Type 0 where
 -- the text begins with the one token of this value, and `rest` follows
 pub record Reads (text rest : List ℕ) (d : Data) : Type 0 where
   pub token : Token
-  pub first : tokens_from fresh text ≡ token ∷ tokens_from after_value rest
+  pub first : json_tokens_from fresh text ≡ token ∷ json_tokens_from after_value rest
   pub is : data_of token ≡ Some d
 
 -- if a key may stand here, the text begins with this name and its colon, and `rest` follows
 abbrev pub ReadsKey : List ℕ → List ℕ → List ℕ → Type 0
-ReadsKey text name rest = (p : Place) → may_begin p ≡ true → tokens_from p text ≡ json.key name ∷ tokens_from fresh rest
+ReadsKey text name rest = (p : Place) → may_begin p ≡ true → json_tokens_from p text ≡ json.key name ∷ json_tokens_from fresh rest

@@ -4,7 +4,7 @@ use Rattle.json.specs.Token.{Token}
 use Rattle.serde_json.specs.Data.{Data, null, number, string, object, Members, no_members, member, put}
 use Rattle.serde_json.specs.Find.{as_i64, as_number}
 use Rattle.serde_json.specs.Read.{number_of}
-use Rattle.leaf_model.specs.declared.rows.Cell.{Cell}
+use Rattle.row_model.specs.declared.rows.Cell.{Cell}
 use Rattle.row_json.specs.Row.{cell_of, cell_count, not_negative, time_of}
 
 -- the value of a token that is a number, a string or null
@@ -19,13 +19,13 @@ abbrev pub natural_of : Data → Option ℤ
 natural_of d = option_and_then not_negative (option_and_then as_i64 (as_number d))
 
 -- the member is the time, a cell or a null, but no fault
-abbrev pub IsFine : List ℕ → Data → Type 0
-IsFine name d = (cell : Option Cell) × (cell_of name d ≡ Ok cell)
+abbrev pub HasNoFault : List ℕ → Data → Type 0
+HasNoFault name d = (cell : Option Cell) × (cell_of name d ≡ Ok cell)
 
 -- no member is a fault
 abbrev pub AreFine : Members → Type 0
 AreFine no_members = Unit {0}
-AreFine (member name d rest) = IsFine name d × AreFine rest
+AreFine (member name d rest) = HasNoFault name d × AreFine rest
 
 -- if a time is known, it is that of the members
 abbrev pub Knows : Option ℤ → Members → Type 0

@@ -6,9 +6,9 @@ use Rattle.std.specs.List.Sorted.{IsStrictlySortedBy}
 use Rattle.std.specs.Ordering.{nat_cmp}
 use Rattle.std.specs.declared.cmp.Ordering.TheVariants.{Less}
 use Rattle.serde_json.specs.Data.{Data, null, object, Members, no_members, member, put}
-use Rattle.leaf_model.specs.declared.rows.Value.{Value}
-use Rattle.leaf_model.specs.declared.rows.Cell.{Cell}
-use Rattle.leaf_model.specs.declared.rows.Row.{Row}
+use Rattle.row_model.specs.declared.rows.Value.{Value}
+use Rattle.row_model.specs.declared.rows.Cell.{Cell}
+use Rattle.row_model.specs.declared.rows.Row.{Row}
 use Rattle.row_json.specs.Row.{cell_count, cells_of, is_missing, time_of, value_of}
 
 abbrev pub names_of : Members → List (List ℕ)
@@ -37,9 +37,9 @@ pub record IsPlace (cells : List Cell) (name : List ℕ) (place : ℕ) : Type 0 
   pub greater : AllByRecursion (λ cell. Below name cell.name) (drop place cells)
 
 -- the value that a cell holds of a JSON value; None of null
-abbrev pub Means : Data → Option Value → Type 0
-Means d None = d ≡ null
-Means d (Some v) = (is_missing d ≡ false) × (value_of d ≡ Some v)
+abbrev pub MeansValue : Data → Option Value → Type 0
+MeansValue d None = d ≡ null
+MeansValue d (Some v) = (is_missing d ≡ false) × (value_of d ≡ Some v)
 
 -- if the members had the cells `before`, they have the cells `after` once this member is put
 abbrev pub Puts : List ℕ → Data → List Cell → List Cell → Type 0

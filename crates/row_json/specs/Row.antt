@@ -7,15 +7,15 @@ use Rattle.std.specs.BTreeSet.{insert_key}
 use Rattle.serde_json.specs.Data.{Data, number, string, array, object, Items, no_items, item, Members, no_members, member}
 use Rattle.serde_json.specs.Find.{get, as_number, as_null, as_i64}
 use Rattle.serde_json.specs.Read.{read}
-use Rattle.leaf_model.specs.Groups.{text_cmp}
-use Rattle.leaf_model.specs.Values.{bytes_in, time_name}
-use Rattle.leaf_model.specs.declared.rows.Value.{Value}
-use Rattle.leaf_model.specs.declared.rows.Value.TheVariants.{Int, Text, Set}
-use Rattle.leaf_model.specs.declared.rows.Cell.{Cell}
-use Rattle.leaf_model.specs.declared.rows.Row.{Row}
-use Rattle.row_json.specs.declared.object.RowFault.{RowFault}
-use Rattle.row_json.specs.declared.object.RowFault.TheVariants.{Json, NotObject, NoTime, TooMany, Name}
-use Rattle.row_json.specs.declared.object.RowFault.TheVariants as fault
+use Rattle.row_model.specs.Texts.{text_cmp}
+use Rattle.row_model.specs.Values.{bytes_in, time_name}
+use Rattle.row_model.specs.declared.rows.Value.{Value}
+use Rattle.row_model.specs.declared.rows.Value.TheVariants.{Int, Text, Set}
+use Rattle.row_model.specs.declared.rows.Cell.{Cell}
+use Rattle.row_model.specs.declared.rows.Row.{Row}
+use Rattle.row_model.specs.declared.row_fault.RowFault.{RowFault}
+use Rattle.row_model.specs.declared.row_fault.RowFault.TheVariants.{Json, NotObject, NoTime, TooMany, Name}
+use Rattle.row_model.specs.declared.row_fault.RowFault.TheVariants as fault
 
 -- the name is that of the row's time
 abbrev pub is_time : List ℕ → Bool

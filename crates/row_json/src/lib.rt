@@ -7,6 +7,7 @@ mod quick_rows;
 mod sets;
 mod walk;
 
-pub use object::{RowFault, row, row_meaning};
+pub use object::{row, row_meaning};
 pub use quick::{RowRoom, quick_time};
 pub use quick_rows::quick_row;
+pub use row_model::RowFault;

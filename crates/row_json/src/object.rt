@@ -4,29 +4,17 @@ ghost use Rattle.std.specs.List.{AllByRecursion};
 ghost use Rattle.std.specs.List.Sorted.{IsStrictlySortedBy};
 ghost use Rattle.std.specs.Map.{keys_of};
 ghost use Rattle.serde_json.specs.View.{view, members_view};
-ghost use Rattle.leaf_model.specs.declared.rows.Value.TheVariants.{Int};
-ghost use Rattle.leaf_model.specs.Values.{IsCell, IsRow, IsValue};
+ghost use Rattle.row_model.specs.declared.rows.Value.TheVariants.{Int};
+ghost use Rattle.row_model.specs.Values.{IsCell, IsRow, IsValue};
 ghost use Rattle.row_json.specs.Meaning.{IsThisRow, Refuses};
 ghost use Rattle.row_json.specs.Row.{row_of, row_of_data, row_of_members, time_of, cell_count, cells_of, cell_of, value_of, text_of, items_of};
 
 use crate::sets::set_in;
-use leaf_model::{Cell, Cells, MAX_CELLS, MAX_NAME, MAX_TEXT, Row, Text, Value};
+use row_model::{Cell, Cells, MAX_CELLS, MAX_NAME, MAX_TEXT, Row, RowFault, Text, Value};
 use std::alloc::Global;
 use std::collections::BTreeMap;
 
-/// Why a text is no row. `Name` and `Value` carry the name of the member at fault.
-#[derive(Debug, Drop)]
-pub enum RowFault {
-    Json,
-    NotObject,
-    NoTime,
-    TooMany,
-    Name(Text),
-    Value(Text),
-    NoMemory,
-}
-
-type Members = BTreeMap<String, serde_json::Value>;
+type ObjectMembers = BTreeMap<String, serde_json::Value>;
 
 /// Reads a text of JSON as a row, or gives its first fault. The order is `Json`, `NotObject`, `NoTime`, `TooMany`, and
 /// then `Name` or `Value` of the first member at fault by name. `NoMemory` may come at any point.
@@ -68,7 +56,7 @@ fn row_of_value(alloc: Global, value: serde_json::Value) -> Result<Row, RowFault
     }
 }
 
-fn row_of_members(alloc: Global, time: Option<i64>, members: Members) -> Result<Row, RowFault>
+fn row_of_members(alloc: Global, time: Option<i64>, members: ObjectMembers) -> Result<Row, RowFault>
     requires { IfSome time (λ t. pos 0 ≤ℤ t) }
     ensures exact { result ≢ Err RowFault.NoMemory → result ≡ row_of_members time (members_view members.entries) }
     ensures is_row { IfOk result IsRow }
@@ -97,14 +85,14 @@ fn time_of(value: &serde_json::Value) -> Option<i64>
 
 /// Whether the object has more cells than a row may have. Most objects have fewer members than that.
 #[tactic(auto, using(crate::proofs::Few::cells_at_most))]
-fn has_too_many(members: &Members) -> bool
+fn has_too_many(members: &ObjectMembers) -> bool
     ensures { result ≡ nat_lt 1024 (cell_count (members_view members.now.entries)) }
 {
     members.len() > MAX_CELLS && cell_count(members) > MAX_CELLS
 }
 
 /// The number of members other than the time that are not null.
-fn cell_count(members: &Members) -> usize
+fn cell_count(members: &ObjectMembers) -> usize
     ensures { result ≡ cell_count (members_view members.now.entries) }
 {
     let mut count = 0;
@@ -118,7 +106,7 @@ fn cell_count(members: &Members) -> usize
 
 /// The cells of an object, ascending by name, or the first fault.
 #[tactic(auto, using(crate::proofs::Rows::before_append, crate::proofs::Order::are_cells_with))]
-fn cells(alloc: Global, members: Members) -> Result<Vec<Cell>, RowFault>
+fn cells(alloc: Global, members: ObjectMembers) -> Result<Vec<Cell>, RowFault>
     ensures exact { result ≢ Err RowFault.NoMemory → items_of result ≡ cells_of (members_view members.entries) }
     ensures are_cells { IfOk result (λ cells. AllByRecursion IsCell cells.items) }
     ensures ordered { IsStrictlySortedBy string_cmp (keys_of members.entries) }
@@ -135,7 +123,7 @@ fn cells(alloc: Global, members: Members) -> Result<Vec<Cell>, RowFault>
 }
 
 /// A list with room for a cell for each member other than the time. A row that is kept keeps this room.
-fn room_for_cells(alloc: Global, members: &Members) -> Result<Vec<Cell>, RowFault>
+fn room_for_cells(alloc: Global, members: &ObjectMembers) -> Result<Vec<Cell>, RowFault>
     ensures none { IfOk result (λ cells. cells.items ≡ []) }
     ensures refused { IfErr result (λ fault. fault ≡ RowFault.NoMemory) }
 {

@@ -5,15 +5,15 @@ ghost use Rattle.json.specs.Reads.{token_of};
 ghost use Rattle.serde_json.specs.Data.{Data, Num, Members, no_members, object, put};
 ghost use Rattle.serde_json.specs.Find.{as_i64};
 ghost use Rattle.serde_json.specs.Read.{converted, of_members, number_of, number_from, read};
-ghost use Rattle.leaf_model.specs.declared.rows.Cell.{Cell};
-ghost use Rattle.leaf_model.specs.Values.{time_name};
+ghost use Rattle.row_model.specs.declared.rows.Cell.{Cell};
+ghost use Rattle.row_model.specs.Values.{time_name};
 ghost use Rattle.row_json.specs.Row.{is_time, row_of};
-ghost use Rattle.row_json.specs.Quick.{AreOfRow, IsFine, Knows, data_of, natural_of};
+ghost use Rattle.row_json.specs.Quick.{AreOfRow, HasNoFault, Knows, data_of, natural_of};
 
 use crate::walk::plain_time;
 use fast_float::Numeral;
 use json::{Reader, Scratch, Token};
-use leaf_model::{MAX_CELLS, MAX_NAME, MAX_TEXT};
+use row_model::{MAX_CELLS, MAX_NAME, MAX_TEXT};
 use std::alloc::Global;
 
 /// The memory that reading a text takes. It is used again for each text.
@@ -86,7 +86,7 @@ pub(crate) fn time_in(token: Token<'_>) -> Option<i64>
 /// Tests whether a cell of this name can hold the token's value, or the token is null.
 fn cell_in(name: &str, token: Token<'_>) -> Option<()>
     requires { is_time name.now ≡ false }
-    ensures { IfSome result (λ _. (d : Data) × (data_of (token_of token.entry) ≡ Some d) × IsFine name.now d) }
+    ensures { IfSome result (λ _. (d : Data) × (data_of (token_of token.entry) ≡ Some d) × HasNoFault name.now d) }
 {
     if name.is_empty() || name.len() > MAX_NAME {
         return None;
@@ -111,7 +111,7 @@ fn cell_in(name: &str, token: Token<'_>) -> Option<()>
 /// The known time after one more member. None if that member is not valid.
 fn with_member(time: Option<i64>, name: &str, token: Token<'_>) -> Option<Option<i64>>
     ensures { IfSome result (λ now. (d : Data) × (data_of (token_of token.entry) ≡ Some d)
-        × IsFine name.now d × ((old : Members) → Knows time old → Knows now (put name.now d old))) }
+        × HasNoFault name.now d × ((old : Members) → Knows time old → Knows now (put name.now d old))) }
 {
     if name == "time" {
         let now = time_in(token)?;
@@ -143,7 +143,7 @@ fn members_time(reader: &mut Reader<'_>) -> Option<i64>
     None
 }
 
-/// The time of the row that a JSON text means. None if that is not seen.
+/// The time of the row that a JSON text means. None says nothing of the text.
 fn text_time(text: &str, scratch: &mut Scratch) -> Option<i64>
     ensures { IfSome result (λ time. (all : Members) × (read text.now ≡ Some (object all)) × AreOfRow time all) }
 {

@@ -5,18 +5,18 @@ ghost use Rattle.json.specs.Json.{members, value};
 ghost use Rattle.json.specs.Reads.{token_of};
 ghost use Rattle.serde_json.specs.Data.{Data, Members, no_members, object, put};
 ghost use Rattle.serde_json.specs.Read.{converted, of_members, read};
-ghost use Rattle.leaf_model.specs.Values.{IsCell, IsCellName, IsRow, IsTime, IsValue};
+ghost use Rattle.row_model.specs.Values.{IsCell, IsCellName, IsRow, IsTime, IsValue};
 ghost use Rattle.row_json.specs.Row.{row_of};
 ghost use Rattle.row_json.specs.Quick.{Knows, data_of};
-ghost use Rattle.row_json.specs.QuickRow.{Ascend, IsMadeOf, IsPlace, Means, Puts};
+ghost use Rattle.row_json.specs.QuickRow.{Ascend, IsMadeOf, IsPlace, MeansValue, Puts};
 
 use crate::quick::{RowRoom, integer, time_in};
 use json::{Reader, Scratch, Token};
-use leaf_model::{Cell, Cells, MAX_CELLS, MAX_NAME, MAX_TEXT, Row, Text, Value};
+use row_model::{Cell, Cells, MAX_CELLS, MAX_NAME, MAX_TEXT, Row, Text, Value};
 use std::alloc::Global;
 use std::cmp::Ordering;
 
-/// The most cells that a new one is moved in front of: the time then grows only linearly with the row.
+/// The most cells that an insert moves. So the time of a row grows only linearly with its cells.
 const MAX_STEPS: usize = 64;
 
 /// Whether a cell may have the name.
@@ -36,9 +36,10 @@ fn own(alloc: Global, text: &str) -> Option<Text>
     }
 }
 
-/// The value that a cell holds of a token: none of a null. The outer None: a cell cannot hold it, or memory ran out.
+/// The value of a token; Some(None) for a null. None if a cell cannot hold it, or memory ran out.
 fn value_in(alloc: Global, token: Token<'_>) -> Option<Option<Value>>
-    ensures exact { IfSome result (λ found. (d : Data) × (data_of (token_of token.entry) ≡ Some d) × Means d found) }
+    ensures exact { IfSome result (λ found. (d : Data) × (data_of (token_of token.entry) ≡ Some d)
+        × MeansValue d found) }
     ensures is_value { IfSome result (λ found. IfSome found IsValue) }
 {
     match token {
@@ -81,7 +82,8 @@ fn put_cell(alloc: Global, cells: &mut Vec<Cell>, name: &str, value: Option<Valu
     requires value { IfSome value IsValue }
     requires ordered { Ascend cells.old.items }
     requires cells { AllByRecursion IsCell cells.old.items }
-    ensures puts { IfSome result (λ _. (d : Data) → Means d value → Puts name.now d cells.old.items cells.new.items) }
+    ensures puts { IfSome result (λ _. (d : Data) → MeansValue d value
+        → Puts name.now d cells.old.items cells.new.items) }
     ensures are_cells { IfSome result (λ _. AllByRecursion IsCell cells.new.items) }
 {
     let place = place_of(cells.as_slice(), name)?;
@@ -158,7 +160,7 @@ fn members_row(alloc: Global, reader: &mut Reader<'_>, room: usize) -> Option<Ro
     None
 }
 
-/// The row that a JSON text means. None if that is not seen.
+/// The row that a JSON text means. None says nothing of the text.
 fn text_row(alloc: Global, text: &str, scratch: &mut Scratch, room: usize) -> Option<Row>
     ensures exact { IfSome result (λ row. (all : Members) × (read text.now ≡ Some (object all)) × IsMadeOf all row) }
     ensures is_row { IfSome result IsRow }

@@ -2,12 +2,11 @@
 ghost use Rattle.std.specs.Prelude.{◌≡◌, ◌≤◌, ℕ, List, [], length, map, Some, IfOk, IfErr, IfSome, option_map, option_and_then, string_bytes, string_cmp};
 ghost use Rattle.std.specs.List.Sorted.{IsStrictlySortedBy};
 ghost use Rattle.serde_json.specs.View.{items_view};
-ghost use Rattle.leaf_model.specs.Groups.{text_cmp};
-ghost use Rattle.leaf_model.specs.Values.{IsValue};
+ghost use Rattle.row_model.specs.Texts.{text_cmp};
+ghost use Rattle.row_model.specs.Values.{IsValue};
 ghost use Rattle.row_json.specs.Row.{item_count, set_of, texts_with};
 
-use crate::object::RowFault;
-use leaf_model::{MAX_MEMBERS, Text, Texts, Value};
+use row_model::{MAX_MEMBERS, RowFault, Text, Texts, Value};
 use std::alloc::Global;
 use std::collections::BTreeSet;
 

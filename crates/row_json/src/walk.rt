@@ -10,12 +10,12 @@ ghost use Rattle.serde_json.specs.Data.{Data, Num, Members, no_members, null, nu
 ghost use Rattle.serde_json.specs.Data as held;
 ghost use Rattle.serde_json.specs.Find.{as_i64};
 ghost use Rattle.serde_json.specs.Read.{converted, of_members, read};
-ghost use Rattle.leaf_model.specs.declared.rows.Cell.{Cell};
+ghost use Rattle.row_model.specs.declared.rows.Cell.{Cell};
 ghost use Rattle.row_json.specs.Row.{is_bad_name, is_time, row_of};
-ghost use Rattle.row_json.specs.Quick.{AreOfRow, IsFine, Knows, natural_of};
-ghost use Rattle.row_json.specs.Plain.{HasDigits, IsNatural, Reads, ReadsKey, is_ended, tokens_from};
+ghost use Rattle.row_json.specs.Quick.{AreOfRow, HasNoFault, Knows, natural_of};
+ghost use Rattle.row_json.specs.Plain.{HasDigits, IsNatural, Reads, ReadsKey, is_ended, json_tokens_from};
 
-use leaf_model::{MAX_CELLS, MAX_NAME, MAX_TEXT};
+use row_model::{MAX_CELLS, MAX_NAME, MAX_TEXT};
 
 /// Digits are read while their number is below this: one more digit still gives an i64.
 const MOST: u64 = 100_000_000_000_000_000;
@@ -147,7 +147,7 @@ fn integer_at(text: &[u8]) -> Option<(i64, &[u8])>
 fn cell_at<'a>(name: &[u8], text: &'a [u8]) -> Option<&'a [u8]>
     requires other { is_time name.now ≡ false }
     requires good { is_bad_name name.now ≡ false }
-    ensures { IfSome result (λ rest. (d : Data) × Reads text.now rest.now d × IsFine name.now d) }
+    ensures { IfSome result (λ rest. (d : Data) × Reads text.now rest.now d × HasNoFault name.now d) }
 {
     if text.is_empty() {
         return None;
@@ -189,7 +189,7 @@ fn time_at(text: &[u8]) -> Option<(i64, &[u8])>
 #[inline(always)]
 fn member_at<'a>(time: Option<i64>, name: &[u8], text: &'a [u8]) -> Option<(Option<i64>, &'a [u8])>
     ensures { IfSome result (λ cut. (d : Data) × Reads text.now cut.1.now d
-        × IsFine name.now d × ((old : Members) → Knows time old → Knows cut.0 (put name.now d old))) }
+        × HasNoFault name.now d × ((old : Members) → Knows time old → Knows cut.0 (put name.now d old))) }
 {
     if is_time(name) {
         let (now, rest) = time_at(text)?;
@@ -206,7 +206,8 @@ fn member_at<'a>(time: Option<i64>, name: &[u8], text: &'a [u8]) -> Option<(Opti
 /// they are at most 1,024.
 fn members_time(text: &[u8]) -> Option<i64>
     ensures { IfSome result (λ time. (all : Members) × (converted (λ ms. of_members ms no_members) (members (value 126)
-        (length (tokens_from fresh text.now)) (tokens_from fresh text.now)) ≡ Some (all, [])) × AreOfRow time all) }
+        (length (json_tokens_from fresh text.now)) (json_tokens_from fresh text.now)) ≡ Some (all, []))
+        × AreOfRow time all) }
 {
     let mut rest = text;
     let mut time = None;

@@ -3,8 +3,8 @@ use Rattle.std.proofs.Common.{◌≡◌, ℕ, ◌-◌, ◌*◌, ◌/◌, ◌≤�
 use Rattle.std.specs.List.{AllByRecursion}
 use Rattle.std.proofs.lemmas.List.{drop_at}
 use Rattle.std.proofs.lemmas.List.Concat.{flat_map-cons}
-use Rattle.leaf_model.specs.declared.rows.Row.{Row}
-use Rattle.leaf_model.specs.Values.{IsRow}
+use Rattle.row_model.specs.declared.rows.Row.{Row}
+use Rattle.row_model.specs.Values.{IsRow}
 use Rattle.leaf_model.specs.Bytes.{row_bytes, rows_bytes, IsBytes}
 use Rattle.row_records.specs.Bytes.{StandsInFront}
 use Rattle.leaf_model.specs.Reading.{rows_at}

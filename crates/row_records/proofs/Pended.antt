@@ -8,7 +8,7 @@ use Rattle.leaf_model.specs.declared.writes.Write.{Write}
 use Rattle.leaf_model.specs.declared.writes.Write.TheVariants.{Add, Expire, Keep}
 use Rattle.leaf_model.specs.Bytes.{u64_bytes, name_bytes, IsBytes}
 use Rattle.row_records.specs.Bytes.{write_bytes}
-use Rattle.leaf_model.specs.Values.{IsWrite}
+use Rattle.leaf_model.specs.Writes.{IsWrite}
 use Rattle.row_records.specs.Records.{LogRecord, IsRecord, record_body, record_bytes}
 use Rattle.row_records.specs.Reading.{record_of}
 use Rattle.row_records.specs.Pending.{allows_sets, pending_bytes, pending_count, pending_of, with_write, with_push}

@@ -8,7 +8,7 @@ use Rattle.std.proofs.lemmas.List.{append-nil, nil_from_length}
 use Rattle.std.proofs.lemmas.List.Concat.{flat_map-cons}
 use Rattle.leaf_model.specs.declared.writes.Write.{Write}
 use Rattle.leaf_model.specs.declared.writes.Write.TheVariants.{Add, Expire, Keep}
-use Rattle.leaf_model.specs.Values.{IsWrite}
+use Rattle.leaf_model.specs.Writes.{IsWrite}
 use Rattle.leaf_model.specs.Bytes.{name_bytes, rows_bytes, IsBytes}
 use Rattle.row_records.specs.Bytes.{write_bytes}
 use Rattle.row_records.specs.Records.{LogRecord, IsRecord, record_body, record_bytes, record_kind, has_sets, flush_of}

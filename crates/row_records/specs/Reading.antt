@@ -1,7 +1,7 @@
 -- Reading a record from left to right. Each field is a value and the bytes after it, or None.
 use Rattle.std.specs.Prelude.{false, true, ◌≡◌, ℕ, zero, suc, List, [], ◌∷◌, length, Bool, ◌==◌, nat_lt, if◌then◌else◌, Option, Some, None, option_map, Result, Ok, Err}
 use Rattle.std.specs.Int.{w32, w64}
-use Rattle.leaf_model.specs.declared.rows.Cell.{Cell}
+use Rattle.row_model.specs.declared.rows.Cell.{Cell}
 use Rattle.leaf_model.specs.declared.writes.Write.{Write}
 use Rattle.leaf_model.specs.declared.writes.Write.TheVariants.{Add, Expire, Keep}
 use Rattle.leaf_model.specs.Reading.{◌>>=◌, many_at, number_at, name_at, time_at, rows_at}
@@ -9,7 +9,7 @@ use Rattle.row_records.specs.Records.{LogRecord, flush_of, has_sets}
 use Rattle.row_records.specs.declared.fault.ReadError.{ReadError}
 use Rattle.row_records.specs.declared.fault.ReadError.TheVariants as errors
 
--- a failure is want of memory, or reading gives None
+-- Err: memory ran out, or reading gives None
 abbrev pub ReadFails : {Y : Type 0} → ReadError → Option Y → Type 0
 ReadFails errors.Memory read = Unit {0}
 ReadFails errors.Broken read = read ≡ None
@@ -20,13 +20,13 @@ ReadsAs view (Ok x) read = read ≡ Some (view x)
 ReadsAs view (Err e) read = ReadFails e read
 
 -- the same for a function that takes no memory
-abbrev pub Finds : {X Y : Type 0} → (X → Y) → Option X → Option Y → Type 0
-Finds view (Some x) read = read ≡ Some (view x)
-Finds view None read = read ≡ None
+abbrev pub FindsView : {X Y : Type 0} → (X → Y) → Option X → Option Y → Type 0
+FindsView view (Some x) read = read ≡ Some (view x)
+FindsView view None read = read ≡ None
 
 -- the bytes after what was read
-abbrev pub behind : {A : Type 0} → Option (A × List ℕ) → Option (List ℕ)
-behind read = option_map (λ x. x.1) read
+abbrev pub bytes_left_after : {A : Type 0} → Option (A × List ℕ) → Option (List ℕ)
+bytes_left_after read = option_map (λ x. x.1) read
 
 -- the name of a cell, and what follows the cell
 abbrev pub name_and_rest : Option (Cell × List ℕ) → Option (List ℕ × List ℕ)

@@ -1,13 +1,13 @@
 -- A record of the log: the writes of one flush of a table.
 use Rattle.std.specs.Prelude.{◌≡◌, ℕ, ◌<◌, ◌≤◌, ◌^◌, Bool, true, false, List, ◌∷◌, ◌++◌, length, IsUtf8}
 use Rattle.std.specs.List.{flat_map, list_any, AllByRecursion}
-use Rattle.leaf_model.specs.declared.rows.Value.{Value}
-use Rattle.leaf_model.specs.declared.rows.Value.TheVariants.{Set}
-use Rattle.leaf_model.specs.declared.rows.Cell.{Cell}
-use Rattle.leaf_model.specs.declared.rows.Row.{Row}
+use Rattle.row_model.specs.declared.rows.Value.{Value}
+use Rattle.row_model.specs.declared.rows.Value.TheVariants.{Set}
+use Rattle.row_model.specs.declared.rows.Cell.{Cell}
+use Rattle.row_model.specs.declared.rows.Row.{Row}
 use Rattle.leaf_model.specs.declared.writes.Write.TheVariants.{Add}
 use Rattle.leaf_model.specs.declared.writes.Write.{Write}
-use Rattle.leaf_model.specs.Values.{IsWrite}
+use Rattle.leaf_model.specs.Writes.{IsWrite}
 use Rattle.row_records.specs.declared.record_reader.Flush.{Flush}
 use Rattle.leaf_model.specs.Bytes.{name_bytes, u64_bytes}
 use Rattle.row_records.specs.Bytes.{write_bytes}
@@ -71,5 +71,5 @@ abbrev pub flush_of : Bool → List ℕ × List Write → LogRecord
 flush_of sets flush = record { sets = sets; name = flush.0; writes = flush.1 }
 
 -- the record that was read
-abbrev pub record_is : Flush → LogRecord
-record_is flush = record { sets = flush.sets; name = flush.name; writes = flush.writes }
+abbrev pub record_read : Flush → LogRecord
+record_read flush = record { sets = flush.sets; name = flush.name; writes = flush.writes }

@@ -1,5 +1,5 @@
 ghost use Rattle.std.specs.Prelude.{◌≡◌, ◌≤◌, length, Option, Some, None, true, OnOk, OnErr, IfSome, IsSome};
-ghost use Rattle.leaf_model.specs.Values.{IsWrite};
+ghost use Rattle.leaf_model.specs.Writes.{IsWrite};
 ghost use Rattle.leaf_model.specs.Bytes.{IsBytes};
 ghost use Rattle.row_records.specs.Records.{IsRecord};
 ghost use Rattle.row_records.specs.Pending.{allows_sets, pending_bytes, pending_count, pending_of, with_push};
@@ -40,7 +40,7 @@ impl Pending {
         }
     }
 
-    /// How many writes were pushed.
+    /// The number of writes that were pushed.
     pub fn count(&self) -> u64
         ensures { result ≡ pending_count self.now }
     {

@@ -2,7 +2,7 @@
 ghost use Rattle.std.specs.Prelude.{◌≡◌, IfOk, IfSome, Some, option_map};
 ghost use Rattle.std.specs.List.{list_any};
 ghost use Rattle.leaf_model.specs.Lent.{lent_row, lent_rows, lent_value};
-ghost use Rattle.row_records.specs.Records.{LogRecord, IsRecord, has_set, has_sets, is_set_value, record_bytes, record_is, row_has_set};
+ghost use Rattle.row_records.specs.Records.{LogRecord, IsRecord, has_set, has_sets, is_set_value, record_bytes, record_read, row_has_set};
 ghost use Rattle.row_records.specs.Reading.{ReadsAs, add_at, write_at, writes_at, flush_at, whole_at, body_of, record_of};
 
 use crate::fault::ReadError;
@@ -78,7 +78,7 @@ fn flush_of(alloc: Global, bytes: &[u8]) -> Result<((Text, Writes), &[u8]), Read
 
 #[tactic(auto, unfolding(crate::specs::Reading::whole_at))]
 fn whole_of(alloc: Global, sets: bool, bytes: &[u8]) -> Result<Flush, ReadError>
-    ensures { ReadsAs record_is result (whole_at sets bytes.now) }
+    ensures { ReadsAs record_read result (whole_at sets bytes.now) }
 {
     let ((name, writes), rest) = flush_of(alloc, bytes)?;
     if !rest.is_empty() {
@@ -139,7 +139,7 @@ fn has_sets(writes: &[Write]) -> bool
 
 #[tactic(auto, unfolding(crate::specs::Reading::body_of))]
 fn body_of(alloc: Global, bytes: &[u8]) -> Result<Flush, ReadError>
-    ensures { ReadsAs record_is result (body_of bytes.now) }
+    ensures { ReadsAs record_read result (body_of bytes.now) }
 {
     match bytes {
         [1, rest @ ..] => {
@@ -156,7 +156,7 @@ fn body_of(alloc: Global, bytes: &[u8]) -> Result<Flush, ReadError>
 
 #[tactic(auto, unfolding(crate::specs::Reading::record_of))]
 fn record_of(alloc: Global, bytes: &[u8]) -> Result<Flush, ReadError>
-    ensures { ReadsAs record_is result (record_of bytes.now) }
+    ensures { ReadsAs record_read result (record_of bytes.now) }
 {
     let (len, rest) = u64_at(bytes)?;
     if len != rest.len() as u64 {
@@ -169,10 +169,10 @@ fn record_of(alloc: Global, bytes: &[u8]) -> Result<Flush, ReadError>
 pub fn read_record(alloc: Global, bytes: &[u8]) -> Result<Option<Flush>, AllocError>
     // The bytes spell the record that is read.
     ensures found { IfOk result (λ found.
-        IfSome found (λ flush. IsRecord (record_is flush) × (bytes.now ≡ record_bytes (record_is flush)))) }
+        IfSome found (λ flush. IsRecord (record_read flush) × (bytes.now ≡ record_bytes (record_read flush)))) }
     // A record that the bytes spell is read, unless memory runs out.
     ensures only { (r : LogRecord) → IsRecord r
-        → bytes.now ≡ record_bytes r → IfOk result (λ found. option_map record_is found ≡ Some r) }
+        → bytes.now ≡ record_bytes r → IfOk result (λ found. option_map record_read found ≡ Some r) }
 {
     match record_of(alloc, bytes) {
         Ok(flush) => Ok(Some(flush)),

@@ -1,7 +1,7 @@
 // Writes a record with its gate, and adds a write to one.
 ghost use Rattle.std.specs.Prelude.{ℕ, List, ◌≡◌, ◌≤◌, ◌<◌, ◌+◌, ◌-◌, ◌++◌, ◌∷◌, [], length, take, drop, OnOk, OnErr, IfOk, Some};
 ghost use Rattle.std.specs.Int.{w64, to_le_bytes};
-ghost use Rattle.leaf_model.specs.Values.{IsWrite};
+ghost use Rattle.leaf_model.specs.Writes.{IsWrite};
 ghost use Rattle.leaf_model.specs.Bytes.{u64_bytes, BeginsWith};
 ghost use Rattle.row_records.specs.Bytes.{said_bytes, write_kind};
 ghost use Rattle.row_records.specs.Records.{LogRecord, new_record, record_body};

@@ -1,11 +1,11 @@
 // Fields at the start of bytes, tested and borrowed. Each reader gives a value and the bytes after it, or None.
 ghost use Rattle.std.specs.Int.{w16, w32, w64};
 ghost use Rattle.leaf_model.specs.Reading.{number_at, text_at, name_at, time_at, long_text_at};
-ghost use Rattle.row_records.specs.Reading.{Finds};
+ghost use Rattle.row_records.specs.Reading.{FindsView};
 
 /// A number, and what follows it.
 pub(crate) fn u16_in(bytes: &[u8]) -> Option<(u16, &[u8])>
-    ensures { Finds (λ x. (x.0, x.1.now)) result (number_at w16 bytes.now) }
+    ensures { FindsView (λ x. (x.0, x.1.now)) result (number_at w16 bytes.now) }
 {
     match bytes.split_first_chunk::<2>() {
         Some((front, rest)) => Some((u16::from_le_bytes(*front), rest)),
@@ -14,7 +14,7 @@ pub(crate) fn u16_in(bytes: &[u8]) -> Option<(u16, &[u8])>
 }
 
 pub(crate) fn u32_in(bytes: &[u8]) -> Option<(u32, &[u8])>
-    ensures { Finds (λ x. (x.0, x.1.now)) result (number_at w32 bytes.now) }
+    ensures { FindsView (λ x. (x.0, x.1.now)) result (number_at w32 bytes.now) }
 {
     match bytes.split_first_chunk::<4>() {
         Some((front, rest)) => Some((u32::from_le_bytes(*front), rest)),
@@ -23,7 +23,7 @@ pub(crate) fn u32_in(bytes: &[u8]) -> Option<(u32, &[u8])>
 }
 
 pub(crate) fn u64_in(bytes: &[u8]) -> Option<(u64, &[u8])>
-    ensures { Finds (λ x. (x.0, x.1.now)) result (number_at w64 bytes.now) }
+    ensures { FindsView (λ x. (x.0, x.1.now)) result (number_at w64 bytes.now) }
 {
     match bytes.split_first_chunk::<8>() {
         Some((front, rest)) => Some((u64::from_le_bytes(*front), rest)),
@@ -34,7 +34,7 @@ pub(crate) fn u64_in(bytes: &[u8]) -> Option<(u64, &[u8])>
 /// A text of `len` bytes, and what follows it.
 #[tactic(auto, unfolding(leaf_model::specs::Reading::text_at))]
 fn text_in(len: usize, bytes: &[u8]) -> Option<(&str, &[u8])>
-    ensures { Finds (λ x. (x.0.now, x.1.now)) result (text_at len bytes.now) }
+    ensures { FindsView (λ x. (x.0.now, x.1.now)) result (text_at len bytes.now) }
 {
     if bytes.len() < len {
         return None;
@@ -49,7 +49,7 @@ fn text_in(len: usize, bytes: &[u8]) -> Option<(&str, &[u8])>
 /// A name, and what follows it.
 #[tactic(auto, unfolding(leaf_model::specs::Reading::name_at))]
 pub(crate) fn name_in(bytes: &[u8]) -> Option<(&str, &[u8])>
-    ensures { Finds (λ x. (x.0.now, x.1.now)) result (name_at bytes.now) }
+    ensures { FindsView (λ x. (x.0.now, x.1.now)) result (name_at bytes.now) }
 {
     match bytes {
         [] => None,
@@ -60,7 +60,7 @@ pub(crate) fn name_in(bytes: &[u8]) -> Option<(&str, &[u8])>
 /// A text of a value, and what follows it.
 #[tactic(auto, unfolding(leaf_model::specs::Reading::long_text_at))]
 pub(crate) fn long_text_in(bytes: &[u8]) -> Option<(&str, &[u8])>
-    ensures { Finds (λ x. (x.0.now, x.1.now)) result (long_text_at bytes.now) }
+    ensures { FindsView (λ x. (x.0.now, x.1.now)) result (long_text_at bytes.now) }
 {
     let (len, rest) = u16_in(bytes)?;
     text_in(len as usize, rest)
@@ -69,7 +69,7 @@ pub(crate) fn long_text_in(bytes: &[u8]) -> Option<(&str, &[u8])>
 /// A row's time, and what follows it.
 #[tactic(auto, unfolding(leaf_model::specs::Reading::time_at))]
 pub(crate) fn time_in(bytes: &[u8]) -> Option<(i64, &[u8])>
-    ensures { Finds (λ x. (x.0, x.1.now)) result (time_at bytes.now) }
+    ensures { FindsView (λ x. (x.0, x.1.now)) result (time_at bytes.now) }
 {
     let (number, rest) = u64_in(bytes)?;
     if number >= 1 << 63 {

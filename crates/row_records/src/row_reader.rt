@@ -2,8 +2,8 @@
 ghost use Rattle.std.specs.Prelude.{◌≡◌, ◌++◌, ◌*◌, ◌<◌, List, ℕ, length, IfOk, IfSome, MatchOption, Ok, Err, None};
 ghost use Rattle.std.specs.Int.{w32, w64};
 ghost use Rattle.std.specs.List.{AllByRecursion};
-ghost use Rattle.leaf_model.specs.declared.rows.Row.{Row};
-ghost use Rattle.leaf_model.specs.Values.{IsRow};
+ghost use Rattle.row_model.specs.declared.rows.Row.{Row};
+ghost use Rattle.row_model.specs.Values.{IsRow};
 ghost use Rattle.row_records.specs.declared.fault.ReadError.TheVariants.{Broken};
 ghost use Rattle.leaf_model.specs.Bytes.{rows_bytes};
 ghost use Rattle.row_records.specs.Bytes.{StandsInFront};

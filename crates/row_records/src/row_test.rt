@@ -1,16 +1,16 @@
 // Tests whether rows stand at the start of bytes. A test gives what follows them, or None. It takes no memory.
 ghost use Rattle.std.specs.Prelude.{◌≡◌, [], IsSome};
 ghost use Rattle.leaf_model.specs.Reading.{texts_at, set_at, value_at, may_follow, cell_at, cells_at, row_at, rows_at};
-ghost use Rattle.leaf_model.specs.Sets.{is_set};
+ghost use Rattle.row_model.specs.Sets.{is_set};
 ghost use Rattle.leaf_model.specs.Fronts.{front_of};
-ghost use Rattle.row_records.specs.Reading.{Finds, behind, name_and_rest};
+ghost use Rattle.row_records.specs.Reading.{FindsView, bytes_left_after, name_and_rest};
 
 use crate::row_fields::{long_text_in, name_in, time_in, u16_in, u64_in};
 use leaf_model::{LentTexts, MAX_CELLS, SpelledTexts};
 
-/// What follows `count` texts.
+/// The bytes after `count` texts.
 fn behind_texts(count: u16, bytes: &[u8]) -> Option<&[u8]>
-    ensures { Finds (λ rest. rest.now) result (behind (texts_at count bytes.now)) }
+    ensures { FindsView (λ rest. rest.now) result (bytes_left_after (texts_at count bytes.now)) }
 {
     let mut rest = bytes;
     for _ in 0..count {
@@ -28,10 +28,10 @@ fn are_set(count: u16, bytes: &[u8]) -> bool
     LentTexts::Spelled(SpelledTexts::of(bytes, count)).is_set()
 }
 
-/// What follows the texts of a set.
+/// The bytes after the texts of a set.
 #[tactic(auto, unfolding(leaf_model::specs::Reading::set_at))]
 fn behind_set(bytes: &[u8]) -> Option<&[u8]>
-    ensures { Finds (λ rest. rest.now) result (behind (set_at bytes.now)) }
+    ensures { FindsView (λ rest. rest.now) result (bytes_left_after (set_at bytes.now)) }
 {
     let (count, members) = u16_in(bytes)?;
     let rest = behind_texts(count, members)?;
@@ -41,10 +41,10 @@ fn behind_set(bytes: &[u8]) -> Option<&[u8]>
     Some(rest)
 }
 
-/// What follows a value.
+/// The bytes after a value.
 #[tactic(auto, unfolding(leaf_model::specs::Reading::value_at))]
 fn behind_value(bytes: &[u8]) -> Option<&[u8]>
-    ensures { Finds (λ rest. rest.now) result (behind (value_at bytes.now)) }
+    ensures { FindsView (λ rest. rest.now) result (bytes_left_after (value_at bytes.now)) }
 {
     match bytes {
         [1, rest @ ..] => {
@@ -71,7 +71,7 @@ fn may_follow(last: &[u8], name: &str) -> bool
 /// The name of a cell that may follow the last one, and what follows that cell.
 #[tactic(auto, unfolding(leaf_model::specs::Reading::cell_at))]
 fn behind_cell<'a>(last: &[u8], bytes: &'a [u8]) -> Option<(&'a str, &'a [u8])>
-    ensures { Finds (λ x. (x.0.now, x.1.now)) result (name_and_rest (cell_at last.now bytes.now)) }
+    ensures { FindsView (λ x. (x.0.now, x.1.now)) result (name_and_rest (cell_at last.now bytes.now)) }
 {
     let (name, rest) = name_in(bytes)?;
     if !may_follow(last, name) {
@@ -81,9 +81,9 @@ fn behind_cell<'a>(last: &[u8], bytes: &'a [u8]) -> Option<(&'a str, &'a [u8])>
     Some((name, rest))
 }
 
-/// What follows `count` cells.
+/// The bytes after `count` cells.
 fn behind_cells(count: u16, bytes: &[u8]) -> Option<&[u8]>
-    ensures { Finds (λ rest. rest.now) result (behind (cells_at count [] bytes.now)) }
+    ensures { FindsView (λ rest. rest.now) result (bytes_left_after (cells_at count [] bytes.now)) }
 {
     let mut last: &[u8] = &[];
     let mut rest = bytes;
@@ -95,10 +95,10 @@ fn behind_cells(count: u16, bytes: &[u8]) -> Option<&[u8]>
     Some(rest)
 }
 
-/// What follows a row.
+/// The bytes after a row.
 #[tactic(auto, unfolding(leaf_model::specs::Reading::row_at))]
 fn behind_row(bytes: &[u8]) -> Option<&[u8]>
-    ensures { Finds (λ rest. rest.now) result (behind (row_at bytes.now)) }
+    ensures { FindsView (λ rest. rest.now) result (bytes_left_after (row_at bytes.now)) }
 {
     let (_time, rest) = time_in(bytes)?;
     let (count, rest) = u16_in(rest)?;
@@ -108,9 +108,9 @@ fn behind_row(bytes: &[u8]) -> Option<&[u8]>
     behind_cells(count, rest)
 }
 
-/// What follows `count` rows.
+/// The bytes after `count` rows.
 pub(crate) fn behind_rows(count: u64, bytes: &[u8]) -> Option<&[u8]>
-    ensures { Finds (λ rest. rest.now) result (behind (rows_at count bytes.now)) }
+    ensures { FindsView (λ rest. rest.now) result (bytes_left_after (rows_at count bytes.now)) }
 {
     let mut rest = bytes;
     for _ in 0..count {

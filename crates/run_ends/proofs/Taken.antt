@@ -1,6 +1,6 @@
 -- Bytes that are taken one part after another.
 use Rattle.std.proofs.Common.{◌≡◌, ◌≤◌, ◌<◌, ◌+◌, ◌-◌, ℕ, List, [], ◌++◌, length, Option, Some, None, refl, ap, sym, ◌∙◌, append_assoc, arith, length-append}
-use Rattle.std.specs.Io.KnownBytes.{Consumes, Keeps}
+use Rattle.std.specs.Io.KnownBytes.{Consumes}
 use Rattle.berth_face.specs.Streams.{TakesAtMost, TakesCount}
 use Rattle.run_ends.specs.Source.{Took, TookMore}
 
@@ -13,12 +13,6 @@ consumes_more None b c xs ys first second = tt
 consumes_more (Some is) None c xs ys first second = absurd first
 consumes_more (Some is) (Some bs) None xs ys first second = absurd second
 consumes_more (Some is) (Some bs) (Some cs) xs ys first second = first ∙ ap (λ (l : List ℕ). xs ++ l) second ∙ sym (append_assoc xs ys cs)
-
-pub consumes_kept : (a b c : Option (List ℕ)) (xs : List ℕ) → Consumes a b xs → Keeps b c → Consumes a c xs
-consumes_kept None b c xs first kept = tt
-consumes_kept (Some is) None c xs first kept = absurd first
-consumes_kept (Some is) (Some bs) None xs first kept = absurd kept
-consumes_kept (Some is) (Some bs) (Some cs) xs first kept = first ∙ ap (λ (l : List ℕ). xs ++ l) (sym kept)
 
 pub count_none : (o : Option (List ℕ)) (n : ℕ) → n ≡ 0 → TakesCount o o n
 count_none o n is = ([], consumes_none o, sym is)

@@ -2,12 +2,12 @@
 use Rattle.std.specs.Prelude.{ℕ, ◌==◌, List, [], ◌++◌, decimal, codes, if◌then◌else◌}
 use Rattle.serde_json.specs.Data.{string}
 use Rattle.serde_json.specs.Written.{compact_text}
-use Rattle.row_json.specs.declared.object.RowFault.{RowFault}
-use Rattle.row_json.specs.declared.object.RowFault.TheVariants as fault
-use Rattle.leaf_model.specs.declared.query_fault.QueryFault.{QueryFault}
-use Rattle.leaf_model.specs.declared.query_fault.QueryFault.TheVariants as query
-use Rattle.text_faults.specs.declared.fault.Why.{Why}
-use Rattle.text_faults.specs.declared.fault.Why.TheVariants as why
+use Rattle.row_model.specs.declared.row_fault.RowFault.{RowFault}
+use Rattle.row_model.specs.declared.row_fault.RowFault.TheVariants as fault
+use Rattle.row_model.specs.declared.query_fault.QueryFault.{QueryFault}
+use Rattle.row_model.specs.declared.query_fault.QueryFault.TheVariants as query
+use Rattle.row_model.specs.declared.script_fault.Why.{Why}
+use Rattle.row_model.specs.declared.script_fault.Why.TheVariants as why
 use Rattle.run_ends.specs.declared.status.Status.{Status}
 
 -- the name of a cell as a JSON string: the text stays one line whatever the name is

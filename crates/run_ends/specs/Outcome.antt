@@ -1,11 +1,11 @@
 -- How a run ends: why its source is refused, and what each status implies.
 use Rattle.std.specs.Prelude.{◌≡◌, ℕ, List, length, nat_lt, if◌then◌else◌, Option}
 use Rattle.berth_face.specs.Streams.{ReadsAll, TakesAtMost, TakesCount}
-use Rattle.text_faults.specs.declared.fault.Why.{Why}
-use Rattle.text_faults.specs.declared.fault.Why.TheVariants as why
+use Rattle.row_model.specs.declared.script_fault.Why.{Why}
+use Rattle.row_model.specs.declared.script_fault.Why.TheVariants as why
 use Rattle.run_ends.specs.Source.{longest_text, most_taken}
 use Rattle.run_ends.specs.declared.status.Status.{Status}
-use Rattle.run_ends.specs.declared.stream.ReadError.{ReadError}
+use Rattle.run_ends.specs.declared.stream.SourceError.{SourceError}
 
 -- ---- which status the text decides
 
@@ -14,10 +14,10 @@ abbrev pub if_short : List ℕ → Status → Status
 if_short text status = if nat_lt longest_text (length text) then Status.Script 0 why.TooLong else status
 
 -- the status of a source that could not be read to its end
-abbrev pub read_status : ReadError → Status
-read_status ReadError.Failed = Status.ReadFault
-read_status ReadError.TooLong = Status.Script 0 why.TooLong
-read_status ReadError.NoMemory = Status.NoMemory
+abbrev pub read_status : SourceError → Status
+read_status SourceError.Failed = Status.ReadFault
+read_status SourceError.TooLong = Status.Script 0 why.TooLong
+read_status SourceError.NoMemory = Status.NoMemory
 
 -- ---- why a source is refused
 

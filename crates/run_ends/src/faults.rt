@@ -1,14 +1,12 @@
 // The line on standard error that tells a status.
 ghost use Rattle.std.specs.Prelude.{◌≡◌, ◌≢◌, IfOk, string_bytes};
-ghost use Rattle.row_json.specs.declared.object.RowFault.TheVariants as fault;
+ghost use Rattle.row_model.specs.declared.row_fault.RowFault.TheVariants as fault;
 ghost use Rattle.run_ends.specs.Faults.{at_line, cause_of, fault_text, query_cause, quoted, row_cause, with_forms};
 
 use crate::status::Status;
-use leaf_model::{QueryFault, Text};
-use row_json::RowFault;
+use row_model::{QueryFault, RowFault, Text, Why};
 use serde_json::Value;
 use std::alloc::{AllocError, Global};
-use text_faults::Why;
 
 /// The text of a status other than Done: one line, without its line end. Err if memory runs out.
 pub fn fault_text(alloc: Global, status: &Status) -> Result<Text, AllocError>

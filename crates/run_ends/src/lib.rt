@@ -7,4 +7,4 @@ mod stream;
 
 pub use faults::fault_text;
 pub use status::Status;
-pub use stream::{LONGEST_TEXT, PIECE, ReadError, pass_rest, read_all, read_piece, write_all};
+pub use stream::{LONGEST_TEXT, PIECE, SourceError, pass_rest, read_all, read_piece, write_all};

@@ -3,9 +3,9 @@ ghost use Rattle.std.specs.Prelude.{◌≡◌};
 ghost use Rattle.run_ends.specs.Outcome.{read_status};
 ghost use Rattle.run_ends.specs.declared.status.Status.TheVariants.{NoMemory};
 
-use crate::stream::ReadError;
+use crate::stream::SourceError;
+use row_model::Why;
 use std::alloc::AllocError;
-use text_faults::Why;
 
 /// The status of a run: Done, or the first cause that stopped it.
 #[derive(Debug, Drop)]
@@ -32,17 +32,17 @@ impl From<AllocError> for Status {
     }
 }
 
-impl From<ReadError> for Status {
+impl From<SourceError> for Status {
     ghost from_gives = { λ error status. status ≡ read_status error };
 
-    fn from(error: ReadError) -> Status {
+    fn from(error: SourceError) -> Status {
         match error {
-            ReadError::Failed => Status::ReadFault,
-            ReadError::TooLong => Status::Script {
+            SourceError::Failed => Status::ReadFault,
+            SourceError::TooLong => Status::Script {
                 line: 0,
                 why: Why::TooLong,
             },
-            ReadError::NoMemory => Status::NoMemory,
+            SourceError::NoMemory => Status::NoMemory,
         }
     }
 }

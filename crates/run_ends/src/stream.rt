@@ -18,7 +18,7 @@ pub const PIECE: usize = 2_097_152;
 const CHUNK: usize = 65_536;
 
 #[derive(Clone, Copy, Debug, PartialEq, Eq)]
-pub enum ReadError {
+pub enum SourceError {
     Failed,
     TooLong,
     NoMemory,
@@ -31,18 +31,18 @@ fn make_chunk(alloc: Global) -> Result<Vec<u8>, AllocError>
 }
 
 /// Reads all bytes of a source. TooLong once it has a byte too many; it takes no byte after that.
-pub fn read_all<S: Source>(alloc: Global, source: &mut S) -> Result<Vec<u8>, ReadError>
+pub fn read_all<S: Source>(alloc: Global, source: &mut S) -> Result<Vec<u8>, SourceError>
     ensures read { IfOk result (λ text. ReadsAll (S.left source.old) (S.left source.new) text.items) }
     ensures small { IfOk result (λ text. vec_len text ≤ LONGEST_TEXT) }
-    ensures too_long { IsErrOf result ReadError.TooLong
+    ensures too_long { IsErrOf result SourceError.TooLong
         → TakesCount (S.left source.old) (S.left source.new) (LONGEST_TEXT + 1) }
-    ensures takes { ¬ IsErrOf result ReadError.TooLong
+    ensures takes { ¬ IsErrOf result SourceError.TooLong
         → TakesAtMost (S.left source.old) (S.left source.new) LONGEST_TEXT }
-    ensures failed { IsErrOf result ReadError.Failed → Rose (S.faults source.old) (S.faults source.new) }
+    ensures failed { IsErrOf result SourceError.Failed → Rose (S.faults source.old) (S.faults source.new) }
     ensures later { S.faults source.old ≤ S.faults source.new }
 {
     let Ok(mut chunk) = make_chunk(alloc) else {
-        return Err(ReadError::NoMemory);
+        return Err(SourceError::NoMemory);
     };
     let mut text = Vec::new(alloc);
     while text.len() <= LONGEST_TEXT {
@@ -55,31 +55,31 @@ pub fn read_all<S: Source>(alloc: Global, source: &mut S) -> Result<Vec<u8>, Rea
             return Ok(text);
         }
     }
-    Err(ReadError::TooLong)
+    Err(SourceError::TooLong)
 }
 
 /// Appends the next bytes of a source to `text`: a piece, or all that are left. `passed` bytes were taken before. Gives
-/// whether the source is at its end. TooLong once it has a byte too many; it takes no byte after that.
+/// whether the source is at its end. TooLong at the first byte past the limit; it takes no byte after that.
 pub fn read_piece<S: Source>(
     alloc: Global,
     source: &mut S,
     passed: usize,
     text: &mut Vec<u8>,
-) -> Result<bool, ReadError>
+) -> Result<bool, SourceError>
     requires { passed + vec_len text.old ≤ LONGEST_TEXT }
     ensures took { IfOk result (λ _. Took (S.left source.old) (S.left source.new) text.old.items text.new.items) }
     ensures ended { IfOk result (λ ended. IsTrue ended → IsAtEnd (S.left source.new)) }
     ensures more { IfOk result (λ ended. ¬ IsTrue ended → vec_len text.old + PIECE ≤ vec_len text.new) }
     ensures small { IfOk result (λ _. passed + vec_len text.new ≤ LONGEST_TEXT) }
-    ensures too_long { IsErrOf result ReadError.TooLong
+    ensures too_long { IsErrOf result SourceError.TooLong
         → TakesCount (S.left source.old) (S.left source.new) (LONGEST_TEXT + 1 - passed - vec_len text.old) }
-    ensures takes { ¬ IsErrOf result ReadError.TooLong
+    ensures takes { ¬ IsErrOf result SourceError.TooLong
         → TakesAtMost (S.left source.old) (S.left source.new) (LONGEST_TEXT - passed - vec_len text.old) }
-    ensures failed { IsErrOf result ReadError.Failed → Rose (S.faults source.old) (S.faults source.new) }
+    ensures failed { IsErrOf result SourceError.Failed → Rose (S.faults source.old) (S.faults source.new) }
     ensures later { S.faults source.old ≤ S.faults source.new }
 {
     let Ok(mut chunk) = make_chunk(alloc) else {
-        return Err(ReadError::NoMemory);
+        return Err(SourceError::NoMemory);
     };
     let full = text.len() + PIECE;
     while text.len() < full {
@@ -92,25 +92,25 @@ pub fn read_piece<S: Source>(
             return Ok(true);
         }
         if passed + text.len() > LONGEST_TEXT {
-            return Err(ReadError::TooLong);
+            return Err(SourceError::TooLong);
         }
     }
     Ok(false)
 }
 
 /// Reads a source to its end, and drops the bytes. `passed` bytes were taken before.
-pub fn pass_rest<S: Source>(alloc: Global, source: &mut S, passed: usize) -> Result<(), ReadError>
+pub fn pass_rest<S: Source>(alloc: Global, source: &mut S, passed: usize) -> Result<(), SourceError>
     requires { passed ≤ LONGEST_TEXT }
     ensures read { OnOk result (PassesAll (S.left source.old) (S.left source.new) (LONGEST_TEXT - passed)) }
-    ensures too_long { IsErrOf result ReadError.TooLong
+    ensures too_long { IsErrOf result SourceError.TooLong
         → TakesCount (S.left source.old) (S.left source.new) (LONGEST_TEXT + 1 - passed) }
-    ensures takes { ¬ IsErrOf result ReadError.TooLong
+    ensures takes { ¬ IsErrOf result SourceError.TooLong
         → TakesAtMost (S.left source.old) (S.left source.new) (LONGEST_TEXT - passed) }
-    ensures failed { IsErrOf result ReadError.Failed → Rose (S.faults source.old) (S.faults source.new) }
+    ensures failed { IsErrOf result SourceError.Failed → Rose (S.faults source.old) (S.faults source.new) }
     ensures later { S.faults source.old ≤ S.faults source.new }
 {
     let Ok(mut chunk) = make_chunk(alloc) else {
-        return Err(ReadError::NoMemory);
+        return Err(SourceError::NoMemory);
     };
     let mut text = Vec::new(alloc);
     let mut taken = passed;
@@ -126,7 +126,7 @@ pub fn pass_rest<S: Source>(alloc: Global, source: &mut S, passed: usize) -> Res
         }
         taken += count;
     }
-    Err(ReadError::TooLong)
+    Err(SourceError::TooLong)
 }
 
 /// Appends the bytes of one read to `text`. Memory is taken first, so that no byte is lost.
@@ -134,21 +134,21 @@ fn take_more<S: Source>(
     source: &mut S,
     room: &mut [u8],
     text: &mut Vec<u8>,
-) -> Result<usize, ReadError>
+) -> Result<usize, SourceError>
     requires { 0 < length room.old }
     ensures took { IfOk result (λ n.
         TookMore (S.left source.old) (S.left source.new) text.old.items text.new.items n (length room.old)) }
     ensures end { IfOk result (λ n. n ≡ 0 → IsAtEnd (S.left source.new)) }
     ensures err { OnErr result (Keeps (S.left source.old) (S.left source.new)) }
-    ensures not_long { ¬ IsErrOf result ReadError.TooLong }
-    ensures failed { IsErrOf result ReadError.Failed → Rose (S.faults source.old) (S.faults source.new) }
+    ensures not_long { ¬ IsErrOf result SourceError.TooLong }
+    ensures failed { IsErrOf result SourceError.Failed → Rose (S.faults source.old) (S.faults source.new) }
     ensures later { S.faults source.old ≤ S.faults source.new }
 {
     if text.reserve(room.len()).is_err() {
-        return Err(ReadError::NoMemory);
+        return Err(SourceError::NoMemory);
     }
     let Ok(count) = source.take(room) else {
-        return Err(ReadError::Failed);
+        return Err(SourceError::Failed);
     };
     text.extend_from_slice(&room[..count]).unwrap();
     Ok(count)

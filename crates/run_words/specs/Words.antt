@@ -1,14 +1,14 @@
 -- The words of a command line.
 use Rattle.std.specs.Prelude.{ℕ, ◌≤◌, ◌&&◌, List, [], ◌∷◌, codes, nat_le, if◌then◌else◌, Option, Some, None, option_and_then, option_map, ⊤}
 use Rattle.std.specs.Str.{bytes_eq}
-use Rattle.text_lines.specs.Numbers.{count_of, time_of}
+use Rattle.text_lines.specs.Numbers.{count_of, time_of_word}
 use Rattle.row_count.specs.declared.count.Range.{Range}
 use Rattle.run_words.specs.declared.words.Request.{Request}
 use Rattle.run_words.specs.declared.words.Request.TheVariants.{Count, Inspect, Play, Soak}
 
 -- `count FROM TO`: two times
 abbrev pub counts_of : List ℕ → List ℕ → Option Request
-counts_of from to = option_and_then (λ from. option_map (λ to. Count (record { from = from; to = to })) (time_of to)) (time_of from)
+counts_of from to = option_and_then (λ from. option_map (λ to. Count (record { from = from; to = to })) (time_of_word to)) (time_of_word from)
 
 -- `soak SEED ROWS`: a seed that 64 bits hold, and 8 to 800,000 rows
 abbrev pub soaks_of : List ℕ → List ℕ → Option Request

@@ -42,7 +42,8 @@ pub fn run_count<R: Threads + Sync, S: Source, K: Sink>(
     ensures cut_short { IfCount (request_of (map string_bytes words.now)) (λ range. result ≡ Status.WriteFault →
         IsCutShort range (S.left source.old) (S.left source.new) (K.written sink.old) (K.written sink.new)) }
 
-    ensures others { UnlessCount (request_of (map string_bytes words.now)) ((result ≡ Status.Words) × (source.new ≡ source.old)) }
+    ensures others { UnlessCount (request_of (map string_bytes words.now)) ((result ≡ Status.Words)
+        × (source.new ≡ source.old)) }
 {
     match request_of(words) {
         Some(Request::Count(range)) => count_source(rt, alloc, range, source, sink),

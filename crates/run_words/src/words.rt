@@ -2,7 +2,7 @@
 ghost use Rattle.std.specs.Prelude.{◌≡◌, None, IfSome, bytes_eq, codes, if◌then◌else◌, map, string_bytes};
 ghost use Rattle.std.specs.Char.{is_ascii_digit};
 ghost use Rattle.std.specs.List.{list_all};
-ghost use Rattle.text_lines.specs.Numbers.{count_of, is_number, time_of};
+ghost use Rattle.text_lines.specs.Numbers.{count_of, is_number, time_of_word};
 ghost use Rattle.run_words.specs.Words.{IsInRange, counts_of, inspects_of, request_of, soaks_of};
 
 use row_count::Range;
@@ -29,7 +29,7 @@ pub enum Request {
     Inspect { leaf: u32 },
 }
 
-/// What the words ask for: `count FROM TO`, `play`, `soak SEED ROWS` or `inspect L`. None for any other words.
+/// Parses the words `count FROM TO`, `play`, `soak SEED ROWS` or `inspect L`. None for any other words.
 pub fn request_of(words: &[String]) -> Option<Request>
     ensures is { result ≡ request_of (map string_bytes words.now) }
     ensures in_range { IfSome result IsInRange }
@@ -48,7 +48,7 @@ pub fn request_of(words: &[String]) -> Option<Request>
     }
 }
 
-/// What a command with one word after it asks for.
+/// The request of a command with one word after it.
 fn with_one(command: &str, first: &str) -> Option<Request>
     ensures is { result ≡ (if bytes_eq command.now (codes "inspect") then inspects_of first.now else None) }
     ensures in_range { IfSome result IsInRange }
@@ -60,7 +60,7 @@ fn with_one(command: &str, first: &str) -> Option<Request>
     }
 }
 
-/// What a command with two words after it asks for.
+/// The request of a command with two words after it.
 fn with_two(command: &str, first: &str, second: &str) -> Option<Request>
     ensures is { result ≡ (if bytes_eq command.now (codes "count") then counts_of first.now second.now
         else (if bytes_eq command.now (codes "soak") then soaks_of first.now second.now else None)) }
@@ -117,7 +117,7 @@ fn inspects_of(leaf: &str) -> Option<Request>
 
 /// The time that a word of 1 to 20 digits gives.
 fn time_of(word: &str) -> Option<i64>
-    ensures { result ≡ time_of word.now }
+    ensures { result ≡ time_of_word word.now }
 {
     if !is_number(word) {
         return None;

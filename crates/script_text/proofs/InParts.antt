@@ -4,14 +4,14 @@ use Rattle.std.specs.Prelude.{IfOk, IfErr}
 use Rattle.std.specs.List.{AllByRecursion, AllZip, onto_first}
 use Rattle.std.proofs.lemmas.Bool.{eqb-true}
 use Rattle.std.proofs.lemmas.List.{append-nil, append_cancel_right, map-append, take-append-drop, take_at, drop_at, take_rest, length-map, length-drop}
-use Rattle.leaf_model.specs.declared.rows.Row.{Row}
-use Rattle.leaf_model.specs.Values.{IsRow}
-use Rattle.row_json.specs.declared.object.RowFault.{RowFault}
+use Rattle.row_model.specs.declared.rows.Row.{Row}
+use Rattle.row_model.specs.Values.{IsRow}
+use Rattle.row_model.specs.declared.row_fault.RowFault.{RowFault}
 use Rattle.row_json.specs.Row.{row_of}
-use Rattle.text_faults.specs.declared.fault.ScriptFault.{ScriptFault}
-use Rattle.text_faults.specs.declared.fault.ScriptFault.TheVariants.{At, NoMemory}
-use Rattle.text_faults.specs.declared.fault.Why.TheVariants as why
-use Rattle.text_lines.specs.Lines.{before, behind, lines, lines_of, without_return}
+use Rattle.row_model.specs.declared.script_fault.ScriptFault.{ScriptFault}
+use Rattle.row_model.specs.declared.script_fault.ScriptFault.TheVariants.{At, NoMemory}
+use Rattle.row_model.specs.declared.script_fault.Why.TheVariants as why
+use Rattle.text_lines.specs.Lines.{before, bytes_after, lines, lines_of, without_return}
 use Rattle.script_text.specs.Commands.{Fault, on_line, rows_from}
 use Rattle.script_text.specs.Script.{IfAt}
 use Rattle.script_text.specs.Parts.{IsPartRead, fault_behind}
@@ -177,21 +177,21 @@ module _ (number : ℕ) (text : List ℕ) (rows : List Row) (read rest : List (R
   fault_fits_by (At line why) err is = subst (λ (r : Result (List Row) Fault). IfErr r (λ found. found.0 < 1 + length (lines_of next.part))) is.exact (rows_fault 1 (lines_of next.part))
   fault_fits_by NoMemory err is = tt
 
-  fits_by : (fault : ScriptFault) (most behind : ℕ) → behind ≡ number + length rows → IfAt fault (λ line why. line < 1 + length (lines_of next.part)) → number + length (lines_of text) < most → IfAt fault (λ line why. behind + line < most)
-  fits_by (At line why) most behind many is place = omega (arith, count_cut, is, place)
-  fits_by NoMemory most behind many is place = tt
+  fits_by : (fault : ScriptFault) (most bytes_after : ℕ) → bytes_after ≡ number + length rows → IfAt fault (λ line why. line < 1 + length (lines_of next.part)) → number + length (lines_of text) < most → IfAt fault (λ line why. bytes_after + line < most)
+  fits_by (At line why) most bytes_after many is place = omega (arith, count_cut, is, place)
+  fits_by NoMemory most bytes_after many is place = tt
 
   -- the fault's line has a number
-  pub fault_fits : (fault : ScriptFault) (most behind : ℕ) → one ≡ Err fault → behind ≡ number + length rows → number + length (lines_of text) < most → IfAt fault (λ line why. behind + line < most)
-  fault_fits fault most behind err many place = fits_by fault most behind many (fault_fits_by fault err (subst (IsPartRead next.part) err next.is)) place
+  pub fault_fits : (fault : ScriptFault) (most bytes_after : ℕ) → one ≡ Err fault → bytes_after ≡ number + length rows → number + length (lines_of text) < most → IfAt fault (λ line why. bytes_after + line < most)
+  fault_fits fault most bytes_after err many place = fits_by fault most bytes_after many (fault_fits_by fault err (subst (IsPartRead next.part) err next.is)) place
 
   refused_by : (fault : ScriptFault) → IsPartRead next.part (Err fault) → IfAt (fault_behind (number + length rows) fault) (λ line why. rows_from (number + 1) (lines_of text) ≡ Err (line, why))
   refused_by (At line why) is = sym whole_cut ∙ shifted_err (number + length rows) rows (lines_of next.part) (lines_of_parts next.others) (line, why) is.exact
   refused_by NoMemory is = tt
 
   -- the first fault
-  pub part_refused : (fault told : ScriptFault) (behind : ℕ) → one ≡ Err fault → behind ≡ number + length rows → told ≡ fault_behind behind fault → IfAt told (λ line why. rows_from (number + 1) (lines_of text) ≡ Err (line, why))
-  part_refused fault told behind err many is =
+  pub part_refused : (fault told : ScriptFault) (bytes_after : ℕ) → one ≡ Err fault → bytes_after ≡ number + length rows → told ≡ fault_behind bytes_after fault → IfAt told (λ line why. rows_from (number + 1) (lines_of text) ≡ Err (line, why))
+  part_refused fault told bytes_after err many is =
       subst (λ (f : ScriptFault). IfAt f (λ line why. rows_from (number + 1) (lines_of text) ≡ Err (line, why))) (sym (is ∙ ap (λ (k : ℕ). fault_behind k fault) many)) (refused_by fault (subst (IsPartRead next.part) err next.is))
 
 none_left : (left : List (Bor (List ℕ))) (read : List (Result (List Row) ScriptFault)) → read ≡ [] → AllZip (λ (p : Bor (List ℕ)) r. IsPartRead p.now r) left read → left ≡ []

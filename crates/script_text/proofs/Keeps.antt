@@ -8,14 +8,14 @@ use Rattle.std.specs.List.{AllByRecursion, filter, list_any}
 use Rattle.std.specs.Prelude.{IfOk, nat_lt}
 use Rattle.script_text.specs.declared.command.Command.{Command}
 use Rattle.script_text.specs.declared.command.Command.TheVariants as command
-use Rattle.text_faults.specs.declared.fault.ScriptFault.{ScriptFault}
-use Rattle.script_text.specs.declared.fleet.Fleet.{Fleet}
+use Rattle.row_model.specs.declared.script_fault.ScriptFault.{ScriptFault}
+use Rattle.script_text.specs.declared.fleet.FleetShape.{FleetShape}
 use Rattle.script_text.specs.declared.item.Item.{Item}
 use Rattle.script_text.specs.declared.item.Item.TheVariants as item
 use Rattle.script_text.specs.declared.reading.Reading.{Reading}
 use Rattle.script_text.specs.declared.reading.Position.{Position}
 use Rattle.script_text.specs.declared.reading.Position.TheVariants as position
-use Rattle.script_text.specs.declared.reading.Step.{Step}
+use Rattle.script_text.specs.declared.reading.LineRead.{LineRead}
 use Rattle.script_text.specs.declared.script.Script.{Script}
 use Rattle.script_text.specs.declared.line_word.LineWord.{LineWord}
 use Rattle.script_text.specs.declared.line_word.LineWord.TheVariants as line_word
@@ -168,7 +168,7 @@ declared_more : (items : List Item) (one : Item) → declared_in (items ++ one �
 declared_more [] one = omega arith
 declared_more (item ∷ items) one = let later = declared_more items one in omega (arith, later)
 
-begun_more : (fleet : Fleet) (script more : Script) (one : Item) → Begun fleet script → IsItem (leaf_count fleet) fleet.names one → TellsDeclared script.standings one → more.items ≡ script.items ++ one ∷ []
+begun_more : (fleet : FleetShape) (script more : Script) (one : Item) → Begun fleet script → IsItem (leaf_count fleet) fleet.names one → TellsDeclared script.standings one → more.items ≡ script.items ++ one ∷ []
     → more.standings ≡ script.standings + declared_by one → more.standings ≤ 16 → Begun fleet more
 begun_more fleet script more one b fits tells is counts few =
     let sum : 0 + declared_in script.items ≡ declared_in script.items = omega arith in record {
@@ -199,7 +199,7 @@ declaring_tells declared (command.Tell number) is = absurd (omega (arith, is))
 declaring_tells declared _ is = tt
 
 -- what is read with a command outside bursts, with what a standing query tells, and with one that is declared
-pub command_outside_keeps : (fleet : Fleet) (script : Script) (c : Command) (rows : ℕ) → IsReading fleet (record { script = script; position = position.Outside }) → IsCommand (leaf_count fleet) fleet.names c
+pub command_outside_keeps : (fleet : FleetShape) (script : Script) (c : Command) (rows : ℕ) → IsReading fleet (record { script = script; position = position.Outside }) → IsCommand (leaf_count fleet) fleet.names c
     → IsReading fleet (stepped (with_item script (item.One c)) position.Outside rows).reading
 command_outside_keeps fleet script c rows r is =
     let none : declared_by (item.One c) ≡ 0 = command_declares (leaf_count fleet) fleet.names c is in
@@ -209,28 +209,28 @@ command_outside_keeps fleet script c rows r is =
       position = tt;
     }
 
-pub tell_outside_keeps : (fleet : Fleet) (script : Script) (c : Command) (rows : ℕ) → IsReading fleet (record { script = script; position = position.Outside }) → IsAlone (leaf_count fleet) fleet.names c → TellsDeclared script.standings (item.One c)
+pub tell_outside_keeps : (fleet : FleetShape) (script : Script) (c : Command) (rows : ℕ) → IsReading fleet (record { script = script; position = position.Outside }) → IsAlone (leaf_count fleet) fleet.names c → TellsDeclared script.standings (item.One c)
     → declared_by (item.One c) ≡ 0 → IsReading fleet (stepped (with_item script (item.One c)) position.Outside rows).reading
 tell_outside_keeps fleet script c rows r is tells none =
     let few : script.standings ≤ 16 = r.items.few in
     record { items = begun_more fleet script (with_item script (item.One c)) (item.One c) r.items is tells refl (omega (arith, none)) few; position = tt }
 
-pub standing_outside_keeps : (fleet : Fleet) (script : Script) (c : Command) → IsReading fleet (record { script = script; position = position.Outside }) → IsAlone (leaf_count fleet) fleet.names c → declared_by (item.One c) ≡ 1
+pub standing_outside_keeps : (fleet : FleetShape) (script : Script) (c : Command) → IsReading fleet (record { script = script; position = position.Outside }) → IsAlone (leaf_count fleet) fleet.names c → declared_by (item.One c) ≡ 1
     → script.standings < 16 → IsReading fleet (stepped (with_standing script c) position.Outside 0).reading
 standing_outside_keeps fleet script c r is one below =
     record { items = begun_more fleet script (with_standing script c) (item.One c) r.items is (declaring_tells script.standings c one) refl (omega (arith, one)) (omega (arith, below)); position = tt }
 
-next_lane_by : (n : ℕ) (fleet : Fleet) (script : Script) (lanes : List (List Command)) (blank few : Bool) (words : List ℕ) (s : Step) → is_blank words ≡ blank → nat_lt (length lanes) 16 ≡ few → Begun fleet script → AllByRecursion (AllByRecursion (IsCommand (leaf_count fleet) fleet.names)) lanes → OneSteward lanes → next_lane n script lanes words ≡ Ok s → IsReading fleet s.reading
+next_lane_by : (n : ℕ) (fleet : FleetShape) (script : Script) (lanes : List (List Command)) (blank few : Bool) (words : List ℕ) (s : LineRead) → is_blank words ≡ blank → nat_lt (length lanes) 16 ≡ few → Begun fleet script → AllByRecursion (AllByRecursion (IsCommand (leaf_count fleet) fleet.names)) lanes → OneSteward lanes → next_lane n script lanes words ≡ Ok s → IsReading fleet s.reading
 next_lane_by n fleet script lanes true true words s is low b each one read =
     let same : Ok (stepped script (position.Lane lanes []) 0) ≡ Ok s = rw (is, low) at read in
     let there : stepped script (position.Lane lanes []) 0 ≡ s = cc in
     let below : length lanes < 16 = grind (arith, nat_tests, low) in
     let now : IsReading fleet (stepped script (position.Lane lanes []) 0).reading = record { items = b; position = burst_lane (leaf_count fleet) fleet.names lanes below each one } in
-    subst (λ (t : Step). IsReading fleet t.reading) there now
+    subst (λ (t : LineRead). IsReading fleet t.reading) there now
 next_lane_by n fleet script lanes true false words s is low b each one read = absurd (grind (arith, read, is, low))
 next_lane_by n fleet script lanes false few words s is low b each one read = absurd (grind (arith, read, is))
 
-pub lane_keeps : (n : ℕ) (fleet : Fleet) (script : Script) (earlier : List (List Command)) (lane : List Command) (words : List ℕ) (s : Step) → IsReading fleet (record { script = script; position = position.Lane earlier lane }) → next_lane n script (earlier ++ lane ∷ []) words ≡ Ok s → IsReading fleet s.reading
+pub lane_keeps : (n : ℕ) (fleet : FleetShape) (script : Script) (earlier : List (List Command)) (lane : List Command) (words : List ℕ) (s : LineRead) → IsReading fleet (record { script = script; position = position.Lane earlier lane }) → next_lane n script (earlier ++ lane ∷ []) words ≡ Ok s → IsReading fleet s.reading
 lane_keeps n fleet script earlier lane words s r read =
     let lanes = earlier ++ lane ∷ [] in
     let b : IsBurst (leaf_count fleet) fleet.names lanes = r.position in
@@ -239,11 +239,11 @@ lane_keeps n fleet script earlier lane words s r read =
 no_stewards : OneSteward []
 no_stewards leaf = omega arith
 
-inside_ok : (last : ℕ) (r : Result Step Fault) (s : Step) → inside last r ≡ Ok s → r ≡ Ok s
+inside_ok : (last : ℕ) (r : Result LineRead Fault) (s : LineRead) → inside last r ≡ Ok s → r ≡ Ok s
 inside_ok last (Ok x) s is = is
 inside_ok last (Err found) s is = absurd (grind (arith, is))
 
-pub opened_keeps : (last n : ℕ) (fleet : Fleet) (script : Script) (words : List ℕ) (more : List (List ℕ)) (v : LineWord) (s : Step) → IsReading fleet (record { script = script; position = position.Opened }) → line_at last n fleet script position.Opened words more v ≡ Ok s → IsReading fleet s.reading
+pub opened_keeps : (last n : ℕ) (fleet : FleetShape) (script : Script) (words : List ℕ) (more : List (List ℕ)) (v : LineWord) (s : LineRead) → IsReading fleet (record { script = script; position = position.Opened }) → line_at last n fleet script position.Opened words more v ≡ Ok s → IsReading fleet s.reading
 opened_keeps last n fleet script words more line_word.Fleet s r read = absurd (grind (arith, read))
 opened_keeps last n fleet script words more line_word.Burst s r read = absurd (grind (arith, read))
 opened_keeps last n fleet script words more line_word.Lane s r read =
@@ -254,10 +254,10 @@ opened_keeps last n fleet script words more line_word.Standing s r read = absurd
 opened_keeps last n fleet script words more line_word.Tell s r read = absurd (grind (arith, read))
 opened_keeps last n fleet script words more (line_word.Command word) s r read = absurd (grind (arith, read))
 
-pub command_keeps : (fleet : Fleet) (script : Script) (earlier : List (List Command)) (lane : List Command) (c : Command) (rows : ℕ) → is_second earlier c ≡ false → IsCommand (leaf_count fleet) fleet.names c → IsReading fleet (record { script = script; position = position.Lane earlier lane }) → IsReading fleet (stepped script (position.Lane earlier (lane ++ c ∷ [])) rows).reading
+pub command_keeps : (fleet : FleetShape) (script : Script) (earlier : List (List Command)) (lane : List Command) (c : Command) (rows : ℕ) → is_second earlier c ≡ false → IsCommand (leaf_count fleet) fleet.names c → IsReading fleet (record { script = script; position = position.Lane earlier lane }) → IsReading fleet (stepped script (position.Lane earlier (lane ++ c ∷ [])) rows).reading
 command_keeps fleet script earlier lane c rows not fits r = record { items = r.items; position = burst_more (leaf_count fleet) fleet.names earlier lane c not fits r.position }
 
-end_burst_by : (n : ℕ) (fleet : Fleet) (script : Script) (lanes : List (List Command)) (blank : Bool) (words : List ℕ) (s : Step) → is_blank words ≡ blank → Begun fleet script → IsBurst (leaf_count fleet) fleet.names lanes → end_burst n script lanes words ≡ Ok s → IsReading fleet s.reading
+end_burst_by : (n : ℕ) (fleet : FleetShape) (script : Script) (lanes : List (List Command)) (blank : Bool) (words : List ℕ) (s : LineRead) → is_blank words ≡ blank → Begun fleet script → IsBurst (leaf_count fleet) fleet.names lanes → end_burst n script lanes words ≡ Ok s → IsReading fleet s.reading
 end_burst_by n fleet script lanes true words s is begun_items b read =
     let same : Ok (stepped (with_item script (item.Burst lanes)) position.Outside 0) ≡ Ok s = rw is at read in
     let there : stepped (with_item script (item.Burst lanes)) position.Outside 0 ≡ s = cc in
@@ -265,37 +265,37 @@ end_burst_by n fleet script lanes true words s is begun_items b read =
       items = begun_more fleet script (with_item script (item.Burst lanes)) (item.Burst lanes) begun_items b tt refl (omega arith) begun_items.few;
       position = tt;
     } in
-    subst (λ (t : Step). IsReading fleet t.reading) there now
+    subst (λ (t : LineRead). IsReading fleet t.reading) there now
 end_burst_by n fleet script lanes false words s is begun_items b read = absurd (grind (arith, read, is))
 
-pub end_keeps : (n : ℕ) (fleet : Fleet) (script : Script) (earlier : List (List Command)) (lane : List Command) (words : List ℕ) (s : Step) → IsReading fleet (record { script = script; position = position.Lane earlier lane }) → end_burst n script (earlier ++ lane ∷ []) words ≡ Ok s → IsReading fleet s.reading
+pub end_keeps : (n : ℕ) (fleet : FleetShape) (script : Script) (earlier : List (List Command)) (lane : List Command) (words : List ℕ) (s : LineRead) → IsReading fleet (record { script = script; position = position.Lane earlier lane }) → end_burst n script (earlier ++ lane ∷ []) words ≡ Ok s → IsReading fleet s.reading
 end_keeps n fleet script earlier lane words s r read = end_burst_by n fleet script (earlier ++ lane ∷ []) (is_blank words) words s refl r.items r.position read
 
-pub end_keeps_as : (n : ℕ) (fleet : Fleet) (script : Script) (earlier : List (List Command)) (lane : List Command) (lanes : List (List Command)) (words : List ℕ) (r : Result Step ScriptFault) → IsReading fleet (record { script = script; position = position.Lane earlier lane }) → lanes ≡ earlier ++ lane ∷ [] → ParsesAs (λ step. step) r (end_burst n script lanes words) → IfOk r (λ step. IsReading fleet step.reading)
+pub end_keeps_as : (n : ℕ) (fleet : FleetShape) (script : Script) (earlier : List (List Command)) (lane : List Command) (lanes : List (List Command)) (words : List ℕ) (r : Result LineRead ScriptFault) → IsReading fleet (record { script = script; position = position.Lane earlier lane }) → lanes ≡ earlier ++ lane ∷ [] → ParsesAs (λ step. step) r (end_burst n script lanes words) → IfOk r (λ step. IsReading fleet step.reading)
 end_keeps_as n fleet script earlier lane lanes words (Ok s) reading is exact = end_keeps n fleet script earlier lane words s reading (ap (λ ls. end_burst n script ls words) (sym is) ∙ exact)
 end_keeps_as n fleet script earlier lane lanes words (Err e) reading is exact = tt
 
-pub opened_keeps_as : (last n : ℕ) (fleet : Fleet) (script : Script) (words : List ℕ) (more : List (List ℕ)) (v : LineWord) (r : Result Step ScriptFault) → IsReading fleet (record { script = script; position = position.Opened }) → ParsesAs (λ step. step) r (line_at last n fleet script position.Opened words more v) → IfOk r (λ step. IsReading fleet step.reading)
+pub opened_keeps_as : (last n : ℕ) (fleet : FleetShape) (script : Script) (words : List ℕ) (more : List (List ℕ)) (v : LineWord) (r : Result LineRead ScriptFault) → IsReading fleet (record { script = script; position = position.Opened }) → ParsesAs (λ step. step) r (line_at last n fleet script position.Opened words more v) → IfOk r (λ step. IsReading fleet step.reading)
 opened_keeps_as last n fleet script words more v (Ok s) reading exact = opened_keeps last n fleet script words more v s reading exact
 opened_keeps_as last n fleet script words more v (Err e) reading exact = tt
 
 -- ---- the whole script
 
-fits_all : (fleet : Fleet) (script : Script) → IsFleet fleet → IsReading fleet (record { script = script; position = position.Outside }) → IsScript script
+fits_all : (fleet : FleetShape) (script : Script) → IsFleet fleet → IsReading fleet (record { script = script; position = position.Outside }) → IsScript script
 fits_all fleet script f r = record {
   items = subst AreItems (sym r.items.all) (f.0, f.1, r.items.each);
   told = r.items.told;
   few = subst (λ n. n ≤ 16) r.items.declared r.items.few;
 }
 
-closed_by : (last : ℕ) (fleet : Fleet) (script s : Script) (there : Position) → IsFleet fleet → IsReading fleet (record { script = script; position = there }) → closed last script there ≡ Ok s → IsScript s
+closed_by : (last : ℕ) (fleet : FleetShape) (script s : Script) (there : Position) → IsFleet fleet → IsReading fleet (record { script = script; position = there }) → closed last script there ≡ Ok s → IsScript s
 closed_by last fleet script s position.Outside f r read = let same : script ≡ s = cc in subst IsScript same (fits_all fleet script f r)
 closed_by last fleet script s position.Opened f r read = absurd (grind (arith, read))
 closed_by last fleet script s (position.Lane earlier lane) f r read = absurd (grind (arith, read))
 
-pub closed_fits : (last : ℕ) (fleet : Fleet) (reading : Reading) (s : Script) → IsFleet fleet → IsReading fleet reading → closed last reading.script reading.position ≡ Ok s → IsScript s
+pub closed_fits : (last : ℕ) (fleet : FleetShape) (reading : Reading) (s : Script) → IsFleet fleet → IsReading fleet reading → closed last reading.script reading.position ≡ Ok s → IsScript s
 closed_fits last fleet reading s f r read = closed_by last fleet reading.script s reading.position f r read
 
-pub closed_fits_as : (last : ℕ) (fleet : Fleet) (reading : Reading) (r : Result Script ScriptFault) → IsFleet fleet → IsReading fleet reading → ParsesAs (λ s. s) r (closed last reading.script reading.position) → IfOk r IsScript
+pub closed_fits_as : (last : ℕ) (fleet : FleetShape) (reading : Reading) (r : Result Script ScriptFault) → IsFleet fleet → IsReading fleet reading → ParsesAs (λ s. s) r (closed last reading.script reading.position) → IfOk r IsScript
 closed_fits_as last fleet reading (Ok s) f is read = closed_fits last fleet reading s f is read
 closed_fits_as last fleet reading (Err e) f is read = tt

@@ -8,7 +8,7 @@ use Rattle.std.proofs.lemmas.List.Folds.{list_any-append}
 use Rattle.script_text.specs.declared.command.Command.{Command}
 use Rattle.script_text.specs.declared.marks.StewardMarks.{StewardMarks}
 use Rattle.script_text.specs.Aims.{Aim, AtLeaf, AtLeaves, aim_of, is_for_some_steward, is_for_steward}
-use Rattle.script_text.specs.Marks.{AreMarked, AreSame, IsSet, Marks, is_marked}
+use Rattle.script_text.specs.Marks.{AreMarked, SameMarks, MarkIsSet, Marks, is_marked}
 use Rattle.script_text.specs.Stewards.{has_steward, has_stewards, is_a_stewards, is_stewards}
 use Rattle.script_text.proofs.Aimed.{some_stewards_by, stewards_by}
 
@@ -19,7 +19,7 @@ beyond [] place past = refl
 beyond (m ∷ marks) zero past = absurd (omega (arith, past))
 beyond (m ∷ marks) (suc place) past = beyond marks place (omega (arith, past))
 
-pub reach_none : (marks : List Bool) → AreSame marks marks
+pub reach_none : (marks : List Bool) → SameMarks marks marks
 reach_none marks place = refl
 
 one_more : (marks : List Bool) (place : ℕ) → slice_index_or (marks ++ false ∷ []) place false ≡ slice_index_or marks place false
@@ -28,7 +28,7 @@ one_more [] (suc place) = refl
 one_more (m ∷ marks) zero = refl
 one_more (m ∷ marks) (suc place) = one_more marks place
 
-pub reach_more : (old marks more : List Bool) → AreSame old marks → more ≡ marks ++ false ∷ [] → AreSame old more
+pub reach_more : (old marks more : List Bool) → SameMarks old marks → more ≡ marks ++ false ∷ [] → SameMarks old more
 reach_more old marks more same is place = ap (λ (ms : List Bool). slice_index_or ms place false) is ∙ one_more marks place ∙ same place
 
 or_true : (b : Bool) → true ≡ (b || true)
@@ -43,7 +43,7 @@ or_assoc : (a b c : Bool) → ((a || b) || c) ≡ (a || (b || c))
 or_assoc true b c = refl
 or_assoc false b c = refl
 
-set_one : (marks : List Bool) (place : ℕ) → place < length marks → IsSet marks place (slice_set marks place true)
+set_one : (marks : List Bool) (place : ℕ) → place < length marks → MarkIsSet marks place (slice_set marks place true)
 set_one marks place below other = by (place == other) refl
   where
     by : (b : Bool) → (place == other) ≡ b → slice_index_or (slice_set marks place true) other false ≡ (slice_index_or marks other false || b)
@@ -52,7 +52,7 @@ set_one marks place below other = by (place == other) refl
         subst (λ i. slice_index_or (slice_set marks place true) i false ≡ (slice_index_or marks i false || true)) (eqb-true place other e) here
     by false e = get_or-set_other marks place other true false (λ same. true≢false (sym (eq-eqb place other (sym same)) ∙ e)) ∙ or_false (slice_index_or marks other false)
 
-pub set_there : (old marks new : List Bool) (place : ℕ) → AreSame old marks → place < length marks → new ≡ slice_set marks place true → IsSet old place new
+pub set_there : (old marks new : List Bool) (place : ℕ) → SameMarks old marks → place < length marks → new ≡ slice_set marks place true → MarkIsSet old place new
 set_there old marks new place same below is other =
     ap (λ (ms : List Bool). slice_index_or ms other false) is ∙ set_one marks place below other ∙ ap (λ b. b || (place == other)) (same other)
 
@@ -66,7 +66,7 @@ or_mid true a b = refl
 or_mid false a b = refl
 
 -- one leaf
-pub leaf_marked : (old new : StewardMarks) (leaf : ℕ) → IsSet old.leaves.items leaf new.leaves.items → new.every ≡ old.every → new.some ≡ true → Marks old new (λ number. leaf == number) true
+pub leaf_marked : (old new : StewardMarks) (leaf : ℕ) → MarkIsSet old.leaves.items leaf new.leaves.items → new.every ≡ old.every → new.some ≡ true → Marks old new (λ number. leaf == number) true
 leaf_marked old new leaf set every some = record {
   each = λ number. rw (every, set number) (or_mid old.every (slice_index_or old.leaves.items number false) (leaf == number));
   any = some ∙ or_true old.some;

@@ -9,7 +9,7 @@ use Rattle.std.specs.Str.Parse.{ParsesSigned, ParsesUnsigned, digits_value}
 use Rattle.std.specs.Result.{OkIff, result_ok, result_unwrap_or}
 use Rattle.std.specs.Option.{option_map}
 use Rattle.std.proofs.lemmas.Str.Parse.{IsNumeralModel, numerals_by_value, tells_all_ascii_digits, parse_digits, parse_signed_digits}
-use Rattle.leaf_model.specs.Names.{is_table_name, is_name_byte}
+use Rattle.row_model.specs.Names.{is_table_name, is_name_byte}
 use mir.Syntax.{w64}
 
 -- bytes that pass a test of bytes below 128 are ASCII

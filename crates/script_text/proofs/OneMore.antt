@@ -1,10 +1,10 @@
 -- One row more, or one part more, behind the rows so far.
 use Rattle.std.proofs.Common.{◌≡◌, ◌<◌, ◌≤◌, ◌+◌, ℕ, List, [], ◌∷◌, ◌++◌, length, map, refl, ap, sym, subst, ◌∙◌, arith, Ok, length-append}
 use Rattle.std.specs.List.{AllByRecursion}
-use Rattle.leaf_model.specs.declared.rows.Row.{Row}
-use Rattle.leaf_model.specs.Values.{IsRow}
+use Rattle.row_model.specs.declared.rows.Row.{Row}
+use Rattle.row_model.specs.Values.{IsRow}
 use Rattle.row_json.specs.Row.{row_of}
-use Rattle.text_faults.specs.declared.fault.Why.TheVariants as why
+use Rattle.row_model.specs.declared.script_fault.Why.TheVariants as why
 use Rattle.text_lines.specs.Lines.{lines, lines_of, without_return}
 use Rattle.script_text.specs.Commands.{on_line, rows_from}
 use Rattle.script_text.proofs.Steps.{AllByRecursion-more, joined, joined_more, with_first}

@@ -4,7 +4,7 @@ use Rattle.std.proofs.lemmas.Slice.Eq.{bytes_eq-Decides}
 use Rattle.std.specs.List.{list_any, position_from, Contains}
 use Rattle.std.specs.Option.{is_some}
 use Rattle.std.specs.Str.{bytes_eq}
-use Rattle.leaf_model.specs.Names.{is_among}
+use Rattle.row_model.specs.Names.{is_among}
 use Rattle.script_text.specs.Words.{place_of}
 use Rattle.std.specs.Prelude.{slice_index_or}
 

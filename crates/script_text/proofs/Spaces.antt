@@ -3,7 +3,7 @@ use Rattle.std.proofs.Common.{◌≡◌, ◌<◌, ◌≤◌, ◌-◌, ℕ, zero,
 use Rattle.std.proofs.Math.Seq.{take-length}
 use Rattle.std.specs.List.{filter}
 use Rattle.std.proofs.lemmas.Bool.Decides.{nat_tests}
-use Rattle.text_lines.specs.Lines.{pieces, before, behind, is_blank}
+use Rattle.text_lines.specs.Lines.{pieces, before, bytes_after, is_blank}
 use Rattle.script_text.specs.Words.{words_of, unindented, first_word, behind_word, trimmed}
 use Rattle.text_lines.proofs.Cut.{pieces_cut, behind_shorter}
 
@@ -32,11 +32,11 @@ words_by b bs true is later some =
     let same : unindented (b ∷ bs) ≡ unindented bs = space_word b bs is in
     let few : 0 < length (first_word bs) = subst (λ u. 0 < length (before 32 u)) same some in
     let both : words_of (b ∷ bs) ≡ first_word bs ∷ words_of (behind_word bs) = space_words b bs is ∙ later few in
-    subst (λ u. words_of (b ∷ bs) ≡ before 32 u ∷ words_of (behind 32 u)) (sym same) both
+    subst (λ u. words_of (b ∷ bs) ≡ before 32 u ∷ words_of (bytes_after 32 u)) (sym same) both
 words_by b bs false is later some =
     let cut = pieces_cut 32 (b ∷ bs) (omega arith) in
-    let both : words_of (b ∷ bs) ≡ before 32 (b ∷ bs) ∷ words_of (behind 32 (b ∷ bs)) = ap (filter (λ piece. ltb 0 (length piece))) cut ∙ some_words b (before 32 bs) (before 32 (b ∷ bs)) (pieces 32 (behind 32 (b ∷ bs))) (longer b bs is) in
-    subst (λ u. words_of (b ∷ bs) ≡ before 32 u ∷ words_of (behind 32 u)) (sym (no_space b bs is)) both
+    let both : words_of (b ∷ bs) ≡ before 32 (b ∷ bs) ∷ words_of (bytes_after 32 (b ∷ bs)) = ap (filter (λ piece. ltb 0 (length piece))) cut ∙ some_words b (before 32 bs) (before 32 (b ∷ bs)) (pieces 32 (bytes_after 32 (b ∷ bs))) (longer b bs is) in
+    subst (λ u. words_of (b ∷ bs) ≡ before 32 u ∷ words_of (bytes_after 32 u)) (sym (no_space b bs is)) both
 
 pub words_cut : (line : List ℕ) → 0 < length (first_word line) → words_of line ≡ first_word line ∷ words_of (behind_word line)
 words_cut [] some = absurd (omega arith)
@@ -58,9 +58,9 @@ shorter_by b bs true is later some =
     let same : unindented (b ∷ bs) ≡ unindented bs = space_word b bs is in
     let few : 0 < length (first_word bs) = subst (λ u. 0 < length (before 32 u)) same some in
     let less : length (behind_word bs) < length (b ∷ bs) = omega (arith, later few) in
-    subst (λ u. length (behind 32 u) < length (b ∷ bs)) (sym same) less
+    subst (λ u. length (bytes_after 32 u) < length (b ∷ bs)) (sym same) less
 shorter_by b bs false is later some =
-    subst (λ u. length (behind 32 u) < length (b ∷ bs)) (sym (no_space b bs is)) (behind_shorter 32 (b ∷ bs) (omega arith))
+    subst (λ u. length (bytes_after 32 u) < length (b ∷ bs)) (sym (no_space b bs is)) (behind_shorter 32 (b ∷ bs) (omega arith))
 
 pub behind_word-shorter : (line : List ℕ) → 0 < length (first_word line) → length (behind_word line) < length line
 behind_word-shorter [] some = absurd (omega arith)

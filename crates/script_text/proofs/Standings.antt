@@ -6,14 +6,14 @@ use Rattle.std.specs.Option.{option_map}
 use Rattle.leaf_model.specs.declared.queries.Query.{Query}
 use Rattle.script_text.specs.declared.command.Command.{Command}
 use Rattle.script_text.specs.declared.command.Command.TheVariants.{Standing}
-use Rattle.text_faults.specs.declared.fault.ScriptFault.{ScriptFault}
-use Rattle.script_text.specs.declared.fleet.Fleet.{Fleet}
+use Rattle.row_model.specs.declared.script_fault.ScriptFault.{ScriptFault}
+use Rattle.script_text.specs.declared.fleet.FleetShape.{FleetShape}
 use Rattle.text_lines.specs.Numbers.{capped}
 use Rattle.script_text.specs.Commands.{Fault, ◌>>=◌, leaf_count, leaf_in, or_words, standing_at, table_in}
 use Rattle.script_text.specs.Script.{ParsesAs}
 
 -- a number that is capped is no leaf either
-leaf_capped : (n : ℕ) (fleet : Fleet) (x : ℕ) → leaf_count fleet ≤ 256 → leaf_in n fleet (capped x) ≡ leaf_in n fleet x
+leaf_capped : (n : ℕ) (fleet : FleetShape) (x : ℕ) → leaf_count fleet ≤ 256 → leaf_in n fleet (capped x) ≡ leaf_in n fleet x
 leaf_capped n fleet x few = by (nat_lt x (leaf_count fleet)) refl
   where
     by : (b : Bool) → nat_lt x (leaf_count fleet) ≡ b → leaf_in n fleet (capped x) ≡ leaf_in n fleet x
@@ -27,7 +27,7 @@ leaf_capped n fleet x few = by (nat_lt x (leaf_count fleet)) refl
         let other : nat_lt (capped x) (leaf_count fleet) ≡ false = grind (arith, nat_tests, high) in
         rw (is, other)
 
-pub standing_read : (n : ℕ) (fleet : Fleet) (o : Option ℕ) (leaf : ℕ) (q : Query) (read : Result Query Fault) (r : Result Command ScriptFault) → leaf_count fleet ≤ 256 → Some leaf ≡ option_map capped o → read ≡ Ok q
+pub standing_read : (n : ℕ) (fleet : FleetShape) (o : Option ℕ) (leaf : ℕ) (q : Query) (read : Result Query Fault) (r : Result Command ScriptFault) → leaf_count fleet ≤ 256 → Some leaf ≡ option_map capped o → read ≡ Ok q
     → ParsesAs (λ c. c) r (standing_at n fleet leaf q) → ParsesAs (λ c. c) r (or_words n o >>= λ number. read >>= λ query. standing_at n fleet number query)
 standing_read n fleet None leaf q read r few is found exact = absurd cc
 standing_read n fleet (Some x) leaf q read r few is found exact =

@@ -8,7 +8,7 @@ use Rattle.std.specs.Char.{is_ascii_lowercase}
 use Rattle.std.specs.List.{list_all, AllByRecursion}
 use Rattle.std.specs.Str.{bytes_eq}
 use Rattle.script_text.specs.Words.{are_tables, may_follow}
-use Rattle.leaf_model.specs.Names.{is_table_name, is_name_byte, is_among, are_distinct}
+use Rattle.row_model.specs.Names.{is_table_name, is_name_byte, is_among, are_distinct}
 use Rattle.leaf_model.proofs.Distinct.{distinct_names}
 use Rattle.script_text.specs.Fits.{IsTableName, AreTables}
 use Rattle.script_text.proofs.Names.{name_utf8}

@@ -4,7 +4,11 @@ use Rattle.std.specs.List.{Contains, list_any}
 use Rattle.script_text.specs.declared.command.Aim as lent
 use Rattle.script_text.specs.declared.command.Aim.TheVariants as aim
 use Rattle.script_text.specs.declared.command.Command.{Command}
-use Rattle.script_text.specs.declared.command.Command.TheVariants as command
+use Rattle.script_text.specs.declared.order.Order.{Order}
+use Rattle.script_text.specs.declared.order.Order.TheVariants as order
+use Rattle.script_text.specs.declared.order.Part.{Part}
+use Rattle.script_text.specs.declared.order.Part.TheVariants as part
+use Rattle.script_text.specs.Orders.{part_of}
 use Rattle.script_text.specs.Stewards.{has_steward, has_stewards}
 
 -- the whole fleet, which it begins; callers of the table in this place; callers of the table of this name at every
@@ -17,21 +21,21 @@ pub data Aim : Type 0 where
   AtLeaves : Aim
   AtRun : Aim
 
--- the one definition that tells to whom each command is addressed
+abbrev pub aim_of_order : Order → Aim
+aim_of_order order.Start = AtFleet
+aim_of_order (order.Call leaf table r) = AtTable table
+aim_of_order (order.Deed leaf d) = AtLeaf leaf
+aim_of_order (order.Query q) = AtNamed q.table
+aim_of_order (order.Tail key table rows) = AtTable table
+aim_of_order (order.Rollover percent) = AtLeaves
+
+abbrev pub aim_of_part : Part → Aim
+aim_of_part (part.Leaves o) = aim_of_order o
+aim_of_part (part.Run o) = AtRun
+
+-- to whom a command is addressed
 abbrev pub aim_of : Command → Aim
-aim_of (command.Fleet machines per_machine tables) = AtFleet
-aim_of (command.Add leaf table rows) = AtTable table
-aim_of (command.Expire leaf table horizon) = AtTable table
-aim_of (command.Keep leaf table n) = AtTable table
-aim_of (command.Query q) = AtNamed q.table
-aim_of (command.Tail key table rows) = AtTable table
-aim_of (command.Flush leaf table) = AtLeaf leaf
-aim_of (command.Drain leaf stop) = AtLeaf leaf
-aim_of (command.Kill leaf) = AtLeaf leaf
-aim_of (command.Start leaf) = AtLeaf leaf
-aim_of (command.Rollover percent) = AtLeaves
-aim_of (command.Standing leaf query) = AtRun
-aim_of (command.Tell number) = AtRun
+aim_of c = aim_of_part (part_of c)
 
 -- the same, with a name that is lent
 abbrev pub aim_in : lent.Aim → Aim
@@ -42,7 +46,7 @@ aim_in (aim.Leaf leaf) = AtLeaf leaf
 aim_in aim.Leaves = AtLeaves
 aim_in aim.Run = AtRun
 
--- the leaf and the table are ones of a fleet, of so many leaves with these tables, that is there already
+-- an aim at tables or leaves that a fleet has, with this number of leaves and these tables
 abbrev pub IsAim : ℕ → List (List ℕ) → Aim → Type 0
 IsAim leaves tables AtFleet = ⊥
 IsAim leaves tables (AtTable table) = table < length tables

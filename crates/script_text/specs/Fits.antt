@@ -1,8 +1,8 @@
 -- What a caller knows of a script that was read.
 use Rattle.std.specs.Prelude.{◌≡◌, ◌+◌, ◌*◌, ◌^◌, ◌<◌, ◌≤◌, ℕ, ⊤, List, [], ◌∷◌, length, true, IsUtf8, IfSome}
 use Rattle.std.specs.List.{AllByRecursion, Contains, filter}
-use Rattle.leaf_model.specs.Values.{IsRow, IsTime}
-use Rattle.leaf_model.specs.Names.{AreDistinct, is_table_name}
+use Rattle.row_model.specs.Values.{IsRow, IsTime}
+use Rattle.row_model.specs.Names.{AreDistinct, is_table_name}
 use Rattle.query_text.specs.Grammar.{IsQuery}
 use Rattle.script_text.specs.declared.command.Command.{Command}
 use Rattle.script_text.specs.declared.command.Command.TheVariants.{Fleet, Add, Expire, Keep, Tail, Flush, Drain, Kill, Start, Rollover, Standing, Tell}
@@ -26,7 +26,7 @@ pub record AreTables (tables : List (List ℕ)) : Type 0 where
   pub names : AllByRecursion IsTableName tables
   pub distinct : AreDistinct tables
 
--- a command that may stand in a burst too, of a fleet of so many leaves with these tables
+-- a command that may stand in a burst too, for a fleet of this number of leaves with these tables
 abbrev pub IsCommand : ℕ → List (List ℕ) → Command → Type 0
 IsCommand leaves tables (Fleet machines per_machine names) = ⊥
 IsCommand leaves tables (Add leaf table rows) = (leaf < leaves) × (table < length tables) × (length rows ≤ 100000) × AllByRecursion IsRow rows
@@ -65,7 +65,7 @@ pub record IsBurst (leaves : ℕ) (tables : List (List ℕ)) (lanes : List (List
   pub each : AllByRecursion (AllByRecursion (IsCommand leaves tables)) lanes
   pub stewards : OneSteward lanes
 
--- an item after a fleet of so many leaves with these tables
+-- an item after a fleet of this number of leaves with these tables
 abbrev pub IsItem : ℕ → List (List ℕ) → Item → Type 0
 IsItem leaves tables (One c) = IsAlone leaves tables c
 IsItem leaves tables (Burst lanes) = IsBurst leaves tables lanes

@@ -1,6 +1,7 @@
 pub mod Words
 pub mod Commands
 pub mod Stewards
+pub mod Orders
 pub mod Aims
 pub mod Marks
 pub mod Bursts

@@ -20,9 +20,9 @@ pub record Marks (old new : StewardMarks) (has : ℕ → Bool) (some : Bool) : T
   pub any : new.some ≡ (old.some || some)
 
 -- the same marks are set
-abbrev pub AreSame : List Bool → List Bool → Type 0
-AreSame old new = (place : ℕ) → slice_index_or new place false ≡ slice_index_or old place false
+abbrev pub SameMarks : List Bool → List Bool → Type 0
+SameMarks old new = (place : ℕ) → slice_index_or new place false ≡ slice_index_or old place false
 
 -- this mark is set, and no other was changed
-abbrev pub IsSet : List Bool → ℕ → List Bool → Type 0
-IsSet old place new = (other : ℕ) → slice_index_or new other false ≡ (slice_index_or old other false || (place == other))
+abbrev pub MarkIsSet : List Bool → ℕ → List Bool → Type 0
+MarkIsSet old place new = (other : ℕ) → slice_index_or new other false ≡ (slice_index_or old other false || (place == other))

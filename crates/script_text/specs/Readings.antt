@@ -1,7 +1,7 @@
 -- What holds of what was read, between two lines.
 use Rattle.std.specs.Prelude.{◌≡◌, ◌≤◌, List, [], ◌∷◌, ◌++◌}
 use Rattle.std.specs.List.{AllByRecursion}
-use Rattle.script_text.specs.declared.fleet.Fleet.{Fleet}
+use Rattle.script_text.specs.declared.fleet.FleetShape.{FleetShape}
 use Rattle.script_text.specs.declared.item.Item.{Item}
 use Rattle.script_text.specs.declared.item.Item.TheVariants as item
 use Rattle.script_text.specs.declared.reading.Reading.{Reading}
@@ -12,12 +12,12 @@ use Rattle.script_text.specs.Commands.{fleet_command, leaf_count}
 use Rattle.script_text.specs.Fits.{IsBurst, IsItem, TellAbove, declared_in}
 
 -- the lanes of a burst that is open are those of a burst
-abbrev pub IsPosition : Fleet → Position → Type 0
+abbrev pub IsPosition : FleetShape → Position → Type 0
 IsPosition fleet (position.Lane earlier lane) = IsBurst (leaf_count fleet) fleet.names (earlier ++ lane ∷ [])
 IsPosition fleet _ = Unit {0}
 
--- a fleet, and items behind it, which tell no standing query but those that they declare
-pub record Begun (fleet : Fleet) (script : Script) : Type 0 where
+-- a fleet, and items after it; they tell only standing queries that they declare
+pub record Begun (fleet : FleetShape) (script : Script) : Type 0 where
   pub later : List Item
   pub all : script.items ≡ item.One (fleet_command fleet) ∷ later
   pub each : AllByRecursion (IsItem (leaf_count fleet) fleet.names) later
@@ -25,7 +25,7 @@ pub record Begun (fleet : Fleet) (script : Script) : Type 0 where
   pub declared : script.standings ≡ declared_in script.items
   pub few : script.standings ≤ 16
 
--- what was read behind this fleet
-pub record IsReading (fleet : Fleet) (reading : Reading) : Type 0 where
+-- the reading after this fleet
+pub record IsReading (fleet : FleetShape) (reading : Reading) : Type 0 where
   pub items : Begun fleet reading.script
   pub position : IsPosition fleet reading.position

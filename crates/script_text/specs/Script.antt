@@ -1,15 +1,15 @@
 -- The script that a text is, or its first fault.
 use Rattle.std.specs.Prelude.{◌≡◌, ℕ, zero, suc, ◌+◌, List, [], ◌∷◌, length, if◌then◌else◌, Option, Some, None, Result, Ok, Err}
-use Rattle.script_text.specs.declared.fleet.Fleet.{Fleet}
+use Rattle.script_text.specs.declared.fleet.FleetShape.{FleetShape}
 use Rattle.script_text.specs.declared.item.Item.TheVariants as item
 use Rattle.script_text.specs.declared.reading.Reading.{Reading}
 use Rattle.script_text.specs.declared.reading.Position.{Position}
 use Rattle.script_text.specs.declared.reading.Position.TheVariants as position
 use Rattle.script_text.specs.declared.script.Script.{Script}
-use Rattle.text_faults.specs.declared.fault.Why.{Why}
-use Rattle.text_faults.specs.declared.fault.Why.TheVariants as why
-use Rattle.text_faults.specs.declared.fault.ScriptFault.{ScriptFault}
-use Rattle.text_faults.specs.declared.fault.ScriptFault.TheVariants.{At, NoMemory}
+use Rattle.row_model.specs.declared.script_fault.Why.{Why}
+use Rattle.row_model.specs.declared.script_fault.Why.TheVariants as why
+use Rattle.row_model.specs.declared.script_fault.ScriptFault.{ScriptFault}
+use Rattle.row_model.specs.declared.script_fault.ScriptFault.TheVariants.{At, NoMemory}
 use Rattle.text_lines.specs.Lines.{lines_of, is_skipped}
 use Rattle.script_text.specs.Words.{first_word}
 use Rattle.script_text.specs.Commands.{Fault, ◌>>=◌, first_command, fleet_command, line_word_of}
@@ -20,7 +20,7 @@ abbrev pub closed : ℕ → Script → Position → Result Script Fault
 closed last script position.Outside = Ok script
 closed last script _ = Err (last, why.Place)
 
-module _ (last : ℕ) (fleet : Fleet) where
+module _ (last : ℕ) (fleet : FleetShape) where
   -- the reading of the lines that are left, numbered from n on, after what was read; the first `rows` of them are rows of
   -- the command before; `last` is the number of the text's last line
   abbrev pub read_from : ℕ → ℕ → Reading → List (List ℕ) → Result Script Fault
@@ -41,7 +41,7 @@ next_line n [] = None
 next_line n (line ∷ more) = if is_skipped line then next_line (n + 1) more else Some (record { number = n; bytes = line; after = more })
 
 -- a fleet was read on line n, and nothing else
-abbrev pub begun : ℕ → Fleet → Reading
+abbrev pub begun : ℕ → FleetShape → Reading
 begun n fleet = record { script = record { fleet_line = n; items = item.One (fleet_command fleet) ∷ []; standings = 0 }; position = position.Outside }
 
 -- the script whose first command is on this line

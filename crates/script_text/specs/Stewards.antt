@@ -5,7 +5,7 @@ use Rattle.std.specs.Option.{option_map_or}
 use Rattle.script_text.specs.declared.command.Command.{Command}
 use Rattle.script_text.specs.declared.command.Command.TheVariants as command
 
--- the one leaf of whose steward a command is; a rollover is one of each leaf's, and has none here
+-- the leaf whose steward gets the command; None for a rollover, which every steward gets
 abbrev pub steward_of : Command → Option ℕ
 steward_of (command.Flush leaf table) = Some leaf
 steward_of (command.Drain leaf stop) = Some leaf
@@ -31,7 +31,7 @@ has_steward leaf lane = list_any (is_stewards leaf) lane
 abbrev pub has_stewards : List Command → Bool
 has_stewards lane = list_any is_a_stewards lane
 
--- The command is a steward's, of whose leaf one of these lanes has another. A rollover is one of every leaf's.
+-- The command is for a steward for whom one of these lanes has another command. A rollover is for every steward.
 abbrev pub is_second : List (List Command) → Command → Bool
 is_second lanes (command.Rollover percent) = list_any has_stewards lanes
 is_second lanes c = option_map_or (λ leaf. list_any (has_steward leaf) lanes) (steward_of c) false

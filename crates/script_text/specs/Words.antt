@@ -4,8 +4,8 @@ use Rattle.std.specs.Char.{is_ascii_digit}
 use Rattle.std.specs.List.{filter, list_all, position_from}
 use Rattle.std.specs.Str.{bytes_eq}
 use Rattle.std.specs.Str.Parse.{digits_value}
-use Rattle.leaf_model.specs.Names.{is_table_name, is_among, are_distinct}
-use Rattle.text_lines.specs.Lines.{pieces, before, behind, is_blank}
+use Rattle.row_model.specs.Names.{is_table_name, is_among, are_distinct}
+use Rattle.text_lines.specs.Lines.{pieces, before, bytes_after, is_blank}
 
 -- the words of a line: its pieces between spaces, but for the empty ones
 abbrev pub words_of : List ℕ → List (List ℕ)
@@ -22,17 +22,12 @@ first_word line = before 32 (unindented line)
 
 -- all that follows the first word and one space
 abbrev pub behind_word : List ℕ → List ℕ
-behind_word line = behind 32 (unindented line)
+behind_word line = bytes_after 32 (unindented line)
 
 -- the text without the spaces at its end
 abbrev pub trimmed : List ℕ → List ℕ
 trimmed [] = []
 trimmed (b ∷ bs) = if is_blank (b ∷ bs) then [] else b ∷ trimmed bs
-
--- what a word stands for, where a list has it
-abbrev pub listed : {A : Type 0} → List (List ℕ × A) → List ℕ → Option A
-listed [] word = None
-listed (entry ∷ more) word = if bytes_eq word entry.0 then Some entry.1 else listed more word
 
 -- the place of a name among the names, from 0
 abbrev pub place_of : List (List ℕ) → List ℕ → Option ℕ

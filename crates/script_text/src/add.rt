@@ -1,8 +1,8 @@
 // An add, and its rows.
 ghost use Rattle.std.specs.Prelude.{◌≡◌, ◌+◌, ◌≤◌, ◌<◌, ◌^◌, IfOk, IfSome, length};
 ghost use Rattle.std.specs.List.{AllByRecursion};
-ghost use Rattle.leaf_model.specs.Values.{IsRow};
-ghost use Rattle.leaf_model.specs.declared.limits.TheConstants.{MAX_ROWS};
+ghost use Rattle.row_model.specs.Values.{IsRow};
+ghost use Rattle.row_model.specs.declared.limits.TheConstants.{MAX_ROWS};
 ghost use Rattle.text_lines.specs.Lines.{lines_of};
 ghost use Rattle.script_text.specs.Words.{words_of};
 ghost use Rattle.text_lines.specs.Numbers.{number_of};
@@ -11,28 +11,29 @@ ghost use Rattle.script_text.specs.Fits.{IsCommand};
 ghost use Rattle.script_text.specs.Script.{ParsesAs};
 
 use crate::command::Command;
-use crate::fleet::Fleet;
+use crate::fleet::FleetShape;
 use crate::row_parts::read_rows;
 use crate::target::{target_in, target_words};
 use crate::words::number_of;
 use leaf_model::{MAX_ROWS, Rows};
+use row_model::{ScriptFault, Why, fault_at};
 use std::alloc::Global;
 use std::thread::Threads;
-use text_faults::{ScriptFault, Why, fault_at};
 use text_lines::cut_lines;
 
 /// Reads the words `L T N` of an add on line `number`. Its rows are the next lines of the text.
 pub fn add<R: Threads + Sync>(
     rt: &R,
     alloc: Global,
-    fleet: &Fleet,
+    fleet: &FleetShape,
     words: &[u8],
     number: u64,
     after: &[u8],
 ) -> Result<Command, ScriptFault>
     requires fleet { IsFleet fleet.now }
     requires place { number + length after.now < 2 ^ 64 }
-    ensures exact { ParsesAs (λ c. c) result (add_of number fleet.now (target_words (words_of words.now)) (lines_of after.now)) }
+    ensures exact { ParsesAs (λ c. c) result
+        (add_of number fleet.now (target_words (words_of words.now)) (lines_of after.now)) }
     ensures is_command { IfOk result (IsCommand (leaf_count fleet.now) fleet.now.names) }
     ensures enough { IfOk result (λ c. row_count c ≤ length (lines_of after.now)) }
 {

@@ -51,19 +51,19 @@ pub enum Command {
     Start(u32),
     /// Restarts every leaf, in waves of at most this percent of the leaves, and at most one leaf of a machine.
     Rollover(u32),
-    /// Declares a standing query of the leaf's table, which `tell` asks for from then on.
+    /// Declares a standing query of a table of the leaf. A later `tell` prints its answer.
     Standing {
         leaf: u32,
         query: Query,
     },
-    /// Prints what a standing query tells. Its number counts from 0, in the order of the declarations.
+    /// Prints the answer of a standing query, given by its number, from 0, in the order of the declarations.
     Tell(u32),
 }
 
-/// To whom a command is addressed.
+/// The addressee of a command.
 #[derive(Clone, Copy)]
 pub enum Aim<'a> {
-    /// The whole fleet, which it begins.
+    /// The whole fleet, which the command begins.
     Fleet,
     /// Callers of the table in this place.
     Table(u32),
@@ -78,7 +78,7 @@ pub enum Aim<'a> {
 }
 
 impl Command {
-    /// To whom the command is addressed.
+    /// The addressee of the command.
     pub fn aim<'a>(&'a self) -> Aim<'a>
         ensures { aim_in result ≡ aim_of self.now }
     {

@@ -7,11 +7,11 @@ ghost use Rattle.script_text.specs.Fits.{IsCommand};
 ghost use Rattle.script_text.specs.Script.{ParsesAs};
 
 use crate::command::Command;
-use crate::fleet::Fleet;
+use crate::fleet::FleetShape;
 use crate::line_word::is_word;
 use crate::target::leaf_in;
 use crate::words::{next_word, number_of};
-use text_faults::{ScriptFault, Why, fault_at};
+use row_model::{ScriptFault, Why, fault_at};
 
 /// The most steps after which a drain is stopped.
 const MAX_STEPS: u64 = 1_000_000;
@@ -24,7 +24,7 @@ struct DrainWords {
 }
 
 /// Reads the words of a drain on line `number`.
-pub fn drain(fleet: &Fleet, words: &[u8], number: u64) -> Result<Command, ScriptFault>
+pub fn drain(fleet: &FleetShape, words: &[u8], number: u64) -> Result<Command, ScriptFault>
     requires { IsFleet fleet.now }
     ensures exact { ParsesAs (λ c. c) result (drain_of number fleet.now (drain_words (words_of words.now))) }
     ensures is_command { IfOk result (IsCommand (leaf_count fleet.now) fleet.now.names) }
@@ -43,7 +43,8 @@ pub fn drain(fleet: &Fleet, words: &[u8], number: u64) -> Result<Command, Script
 /// The words of `drain L` or of `drain L stop N`.
 fn drain_words(words: &[u8]) -> Option<DrainWords>
     ensures exact { option_map {U = DrainForm} (λ drain. record { leaf = drain.leaf; stop = drain.stop }) result
-        ≡ option_map {U = DrainForm} (λ (drain : DrainForm). record { leaf = capped drain.leaf; stop = drain.stop }) (drain_words (words_of words.now)) }
+        ≡ option_map {U = DrainForm} (λ (drain : DrainForm). record { leaf = capped drain.leaf; stop = drain.stop })
+        (drain_words (words_of words.now)) }
     ensures few { IfSome result (λ drain. IfSome drain.stop (λ steps. steps ≤ MAX_STEPS)) }
 {
     let (leaf, rest) = next_word(words)?;

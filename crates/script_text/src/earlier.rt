@@ -8,8 +8,8 @@ use crate::marks::StewardMarks;
 use std::alloc::{AllocError, Global};
 use std::marker::Model;
 
-/// Lanes, and the leaves whose stewards have a command in one of them, so that a command of a later lane is compared
-/// with these marks alone. Contracts see the lanes.
+/// The lanes before the present one, and marks for the leaves whose stewards have a command in one of them. A command
+/// of a later lane is compared with the marks alone. Contracts see the lanes.
 #[derive(Drop)]
 pub struct EarlierLanes {
     lanes: Vec<Commands>,
@@ -63,7 +63,7 @@ impl EarlierLanes {
         Ok(EarlierLanes { lanes, marks })
     }
 
-    /// Whether the command is for a steward that one of these lanes has a command for too.
+    /// Whether the command is for a steward for whom one of these lanes has a command too.
     #[tactic(auto, using(crate::proofs::Aimed::second_by))]
     pub fn has_second(&self, command: &Command) -> bool
         ensures { result ≡ is_second self.now command.now }

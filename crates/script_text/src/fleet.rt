@@ -1,7 +1,7 @@
 // The command that begins a script.
 ghost use Rattle.std.specs.Prelude.{◌≡◌, ◌&&◌, ◌<◌, ◌^◌, length, true, not, Some, None, IfOk, IfSome, option_and_then, if◌then◌else◌};
 ghost use Rattle.std.specs.Str.{IsUtf8};
-ghost use Rattle.leaf_model.specs.Names.{is_table_name, is_among};
+ghost use Rattle.row_model.specs.Names.{is_table_name, is_among};
 ghost use Rattle.script_text.specs.Words.{words_of, first_word, may_follow, are_tables};
 ghost use Rattle.script_text.specs.Commands.{IsFleet, first_command, fleet_of, leaf_count, leaves_in_range, or_words, line_word_of};
 ghost use Rattle.script_text.specs.Fits.{AreLeaves, AreTables};
@@ -10,8 +10,8 @@ ghost use Rattle.script_text.specs.Script.{ParsesAs};
 use crate::line_word::{LineWord, line_word_of};
 use crate::words::{cut_word, next_word, number_of, place_of};
 use leaf_model::{Names, Text, is_table_name};
+use row_model::{ScriptFault, Why, fault_at};
 use std::alloc::{AllocError, Global};
-use text_faults::{ScriptFault, Why, fault_at};
 
 /// The most tables of a fleet.
 const MAX_TABLES: usize = 16;
@@ -21,13 +21,13 @@ const MAX_LEAVES: u64 = 256;
 
 /// `machines` machines with `per_machine` leaves each. Each leaf has these tables.
 #[derive(Drop)]
-pub struct Fleet {
+pub struct FleetShape {
     pub machines: u32,
     pub per_machine: u32,
     pub names: Names,
 }
 
-impl Fleet {
+impl FleetShape {
     /// The number of leaves of all machines.
     pub fn leaf_count(&self) -> u32
         requires { IsFleet self.now }
@@ -37,17 +37,18 @@ impl Fleet {
     }
 }
 
-/// The first two words after `fleet`, and what follows them.
+/// The numbers that the first two words after `fleet` give, and the words after them.
 #[derive(Clone, Copy)]
-struct Sizes<'a> {
+struct FleetSizes<'a> {
     machines: u32,
     per_machine: u32,
     names: &'a [u8],
 }
 
 /// Reads a line as a fleet, if no fleet was read before it.
-pub fn first_command(alloc: Global, line: &[u8], number: u64) -> Result<Fleet, ScriptFault>
-    ensures exact { ParsesAs (λ fleet. fleet) result (first_command number line.now (line_word_of (first_word line.now))) }
+pub fn first_command(alloc: Global, line: &[u8], number: u64) -> Result<FleetShape, ScriptFault>
+    ensures exact { ParsesAs (λ fleet. fleet) result
+        (first_command number line.now (line_word_of (first_word line.now))) }
     ensures is_fleet { IfOk result IsFleet }
 {
     let (word, words) = cut_word(line);
@@ -65,7 +66,7 @@ pub fn first_command(alloc: Global, line: &[u8], number: u64) -> Result<Fleet, S
     }
 }
 
-fn read_fleet(alloc: Global, words: &[u8], number: u64) -> Result<Fleet, ScriptFault>
+fn read_fleet(alloc: Global, words: &[u8], number: u64) -> Result<FleetShape, ScriptFault>
     ensures exact { ParsesAs (λ fleet. fleet) result (or_words number (fleet_of (words_of words.now))) }
     ensures is_fleet { IfOk result IsFleet }
 {
@@ -73,7 +74,7 @@ fn read_fleet(alloc: Global, words: &[u8], number: u64) -> Result<Fleet, ScriptF
         return Err(fault_at(number, Why::Words));
     };
     match tables(alloc, sizes.names)? {
-        Some(names) => Ok(Fleet {
+        Some(names) => Ok(FleetShape {
             machines: sizes.machines,
             per_machine: sizes.per_machine,
             names,
@@ -83,8 +84,11 @@ fn read_fleet(alloc: Global, words: &[u8], number: u64) -> Result<Fleet, ScriptF
 }
 
 /// The numbers of machines and of leaves of each, and the words after them. None if a number is out of its range.
-fn sizes_of(words: &[u8]) -> Option<Sizes>
-    ensures some { IfSome result (λ sizes. fleet_of (words_of words.now) ≡ (if are_tables (words_of sizes.names.now) then Some (record { machines = sizes.machines; per_machine = sizes.per_machine; names = words_of sizes.names.now }) else None)) }
+fn sizes_of(words: &[u8]) -> Option<FleetSizes>
+    ensures some { IfSome result (λ sizes. fleet_of (words_of words.now)
+        ≡ (if are_tables (words_of sizes.names.now) then Some
+        (record { machines = sizes.machines; per_machine = sizes.per_machine; names = words_of sizes.names.now }) else
+        None)) }
     ensures are_leaves { IfSome result (λ sizes. AreLeaves sizes.machines sizes.per_machine) }
     ensures none { result ≡ None → fleet_of (words_of words.now) ≡ None }
 {
@@ -95,7 +99,7 @@ fn sizes_of(words: &[u8]) -> Option<Sizes>
     if !leaves_in_range(machines, per_machine) {
         return None;
     }
-    Some(Sizes {
+    Some(FleetSizes {
         machines: machines as u32,
         per_machine: per_machine as u32,
         names,
@@ -114,7 +118,8 @@ fn leaves_in_range(machines: u64, per_machine: u64) -> bool
 
 /// The words as names of tables. None if they are not 1 to 16 distinct names.
 fn tables(alloc: Global, words: &[u8]) -> Result<Option<Names>, AllocError>
-    ensures exact { IfOk result (λ found. found ≡ (if are_tables (words_of words.now) then Some (words_of words.now) else None)) }
+    ensures exact { IfOk result (λ found. found
+        ≡ (if are_tables (words_of words.now) then Some (words_of words.now) else None)) }
     ensures are_tables { IfOk result (λ found. IfSome found AreTables) }
 {
     let mut tables: Vec<Text> = Vec::new(alloc);

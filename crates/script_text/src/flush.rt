@@ -6,11 +6,11 @@ ghost use Rattle.script_text.specs.Fits.{IsCommand};
 ghost use Rattle.script_text.specs.Script.{ParsesAs};
 
 use crate::command::Command;
-use crate::fleet::Fleet;
+use crate::fleet::FleetShape;
 use crate::target::target_in;
 use crate::words::{next_word, number_of};
 use leaf_model::is_table_name;
-use text_faults::{ScriptFault, Why, fault_at};
+use row_model::{ScriptFault, Why, fault_at};
 
 /// The words of a flush. The leaf's number saturates at the greatest `u64`.
 #[derive(Clone, Copy)]
@@ -20,7 +20,7 @@ struct FlushWords<'a> {
 }
 
 /// Reads the words of a flush on line `number`.
-pub fn flush(fleet: &Fleet, words: &[u8], number: u64) -> Result<Command, ScriptFault>
+pub fn flush(fleet: &FleetShape, words: &[u8], number: u64) -> Result<Command, ScriptFault>
     requires { IsFleet fleet.now }
     ensures exact { ParsesAs (λ c. c) result (flush_of number fleet.now (flush_words (words_of words.now))) }
     ensures is_command { IfOk result (IsCommand (leaf_count fleet.now) fleet.now.names) }
@@ -38,7 +38,11 @@ pub fn flush(fleet: &Fleet, words: &[u8], number: u64) -> Result<Command, Script
 
 /// The words of `flush L T`.
 fn flush_words(words: &[u8]) -> Option<FlushWords>
-    ensures exact { option_map {U = TargetForm} (λ flush. record { leaf = flush.leaf; table = flush.table.now; last = [] }) result
+    ensures exact { option_map {U = TargetForm} (λ flush. record {
+      leaf = flush.leaf;
+      table = flush.table.now;
+      last = [];
+    }) result
         ≡ option_map capped_target (flush_words (words_of words.now)) }
 {
     let (leaf, rest) = next_word(words)?;

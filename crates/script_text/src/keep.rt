@@ -6,13 +6,13 @@ ghost use Rattle.script_text.specs.Fits.{IsCommand};
 ghost use Rattle.script_text.specs.Script.{ParsesAs};
 
 use crate::command::Command;
-use crate::fleet::Fleet;
+use crate::fleet::FleetShape;
 use crate::target::{target_in, target_words};
 use crate::words::count_of;
-use text_faults::{ScriptFault, Why, fault_at};
+use row_model::{ScriptFault, Why, fault_at};
 
 /// Reads the words `L T N` of a keep on line `number`.
-pub fn keep(fleet: &Fleet, words: &[u8], number: u64) -> Result<Command, ScriptFault>
+pub fn keep(fleet: &FleetShape, words: &[u8], number: u64) -> Result<Command, ScriptFault>
     requires { IsFleet fleet.now }
     ensures exact { ParsesAs (λ c. c) result (keep_of number fleet.now (target_words (words_of words.now))) }
     ensures is_command { IfOk result (IsCommand (leaf_count fleet.now) fleet.now.names) }

@@ -11,7 +11,7 @@ use crate::add::add;
 use crate::command::Command;
 use crate::drain::drain;
 use crate::expire::expire;
-use crate::fleet::Fleet;
+use crate::fleet::FleetShape;
 use crate::flush::flush;
 use crate::keep::keep;
 use crate::line_word::CommandWord;
@@ -20,16 +20,16 @@ use crate::rollover::rollover;
 use crate::tail::tail;
 use crate::target::leaf_in;
 use crate::words::{next_word, number_of, trimmed};
+use row_model::{ScriptFault, Why, fault_at};
 use std::alloc::Global;
 use std::thread::Threads;
-use text_faults::{ScriptFault, Why, fault_at};
 
 /// Reads a command on line `number`: its first word, the words after it, and its rows, if it has some, from the text
 /// that follows.
 pub fn command<R: Threads + Sync>(
     rt: &R,
     alloc: Global,
-    fleet: &Fleet,
+    fleet: &FleetShape,
     word: CommandWord,
     words: &[u8],
     number: u64,
@@ -62,7 +62,7 @@ pub fn command<R: Threads + Sync>(
 }
 
 /// The leaf of the fleet that the words name. They have to be one word.
-fn leaf_of(fleet: &Fleet, words: &[u8], number: u64) -> Result<u32, ScriptFault>
+fn leaf_of(fleet: &FleetShape, words: &[u8], number: u64) -> Result<u32, ScriptFault>
     requires { IsFleet fleet.now }
     ensures exact { ParsesAs (λ leaf. leaf) result (leaf_of number fleet.now (one_number (words_of words.now))) }
     ensures below { IfOk result (λ leaf. leaf < leaf_count fleet.now) }

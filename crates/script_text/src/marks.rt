@@ -1,6 +1,6 @@
 // Marks of the leaves whose stewards have a command in some lanes.
 ghost use Rattle.std.specs.Prelude.{◌≡◌, ◌==◌, ◌<◌, [], true, false, length, slice_index_or, IfOk};
-ghost use Rattle.script_text.specs.Marks.{AreMarked, AreSame, IsSet, Marks, is_marked};
+ghost use Rattle.script_text.specs.Marks.{AreMarked, SameMarks, MarkIsSet, Marks, is_marked};
 ghost use Rattle.script_text.specs.Stewards.{has_steward, has_stewards, is_a_stewards, is_stewards};
 
 use crate::command::{Aim, Command};
@@ -37,7 +37,8 @@ impl StewardMarks {
     /// Marks each leaf whose steward has one of these commands.
     #[tactic(auto, using(crate::proofs::Marked::marks_none))]
     pub fn mark_lane(&mut self, lane: &[Command]) -> Result<(), AllocError>
-        ensures { IfOk result (λ _. Marks self.old self.new (λ leaf. has_steward leaf lane.now) (has_stewards lane.now)) }
+        ensures { IfOk result (λ _. Marks self.old self.new (λ leaf. has_steward leaf lane.now)
+            (has_stewards lane.now)) }
     {
         for command in lane {
             self.mark(command)?;
@@ -48,7 +49,8 @@ impl StewardMarks {
     // Marks each leaf whose steward has this command.
     #[tactic(auto, using(crate::proofs::Marked::marks_nothing, crate::proofs::Marked::marks_leaf, crate::proofs::Marked::marks_every))]
     fn mark(&mut self, command: &Command) -> Result<(), AllocError>
-        ensures { IfOk result (λ _. Marks self.old self.new (λ leaf. is_stewards leaf command.now) (is_a_stewards command.now)) }
+        ensures { IfOk result (λ _. Marks self.old self.new (λ leaf. is_stewards leaf command.now)
+            (is_a_stewards command.now)) }
     {
         match command.aim() {
             Aim::Fleet | Aim::Table(_) | Aim::Named(_) | Aim::Run => {}
@@ -83,7 +85,7 @@ fn is_set(marks: &[bool], place: usize) -> bool
 // Sets the mark in this place.
 #[tactic(auto, using(crate::proofs::Marked::set_there))]
 fn set(marks: &mut Vec<bool>, place: usize) -> Result<(), AllocError>
-    ensures { IfOk result (λ _. IsSet marks.old.items place marks.new.items) }
+    ensures { IfOk result (λ _. MarkIsSet marks.old.items place marks.new.items) }
 {
     reach(marks, place)?;
     marks[place] = true;
@@ -94,7 +96,7 @@ fn set(marks: &mut Vec<bool>, place: usize) -> Result<(), AllocError>
 #[tactic(auto, using(crate::proofs::Marked::reach_none, crate::proofs::Marked::reach_more))]
 fn reach(marks: &mut Vec<bool>, place: usize) -> Result<(), AllocError>
     ensures there { IfOk result (λ _. place < length marks.new.items) }
-    ensures same { IfOk result (λ _. AreSame marks.old.items marks.new.items) }
+    ensures same { IfOk result (λ _. SameMarks marks.old.items marks.new.items) }
 {
     while marks.len() <= place {
         marks.push(false)?;

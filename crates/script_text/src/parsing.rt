@@ -6,18 +6,18 @@ ghost use Rattle.script_text.specs.Fits.{IsScript};
 ghost use Rattle.script_text.specs.Script.{NumberedLine, begun, closed, read_from, script_of, IfAt, ParsesAs, next_line};
 
 use crate::command::Command;
-use crate::fleet::{Fleet, first_command};
+use crate::fleet::{FleetShape, first_command};
 use crate::item::{Item, Items};
 use crate::reading::{Position, Reading, read_line};
 use crate::script::Script;
+use row_model::{ScriptFault, Why, fault_at};
 use std::alloc::{AllocError, Global};
 use std::thread::Threads;
-use text_faults::{ScriptFault, Why, fault_at};
 use text_lines::{cut_line, cut_lines, is_skipped, line_count, without_return};
 
 /// A line that may be a command, its number from 1, and the text after it.
 #[derive(Clone, Copy)]
-struct Line<'a> {
+struct ScriptLine<'a> {
     number: u64,
     bytes: &'a [u8],
     after: &'a [u8],
@@ -53,14 +53,15 @@ pub fn parse<R: Threads + Sync>(rt: &R, alloc: Global, text: &[u8]) -> Result<Sc
 fn script_behind<R: Threads + Sync>(
     rt: &R,
     alloc: Global,
-    fleet: &Fleet,
+    fleet: &FleetShape,
     last: u64,
     fleet_line: u64,
     text: &[u8],
 ) -> Result<Script, ScriptFault>
     requires fleet { IsFleet fleet.now }
     requires place { fleet_line + length text.now < 2 ^ 64 }
-    ensures exact { ParsesAs (λ script. script) result (read_from last fleet.now 0 (fleet_line + 1) (begun fleet_line fleet.now) (lines_of text.now)) }
+    ensures exact { ParsesAs (λ script. script) result
+        (read_from last fleet.now 0 (fleet_line + 1) (begun fleet_line fleet.now) (lines_of text.now)) }
     ensures fits { IfOk result IsScript }
 {
     let mut reading = begun(alloc, fleet, fleet_line)?;
@@ -84,8 +85,8 @@ fn script_behind<R: Threads + Sync>(
     closed(last, reading)
 }
 
-/// What was read once the fleet was, before the lines after it.
-fn begun(alloc: Global, fleet: &Fleet, fleet_line: u64) -> Result<Reading, AllocError>
+/// The reading after the fleet's line, before the lines after it.
+fn begun(alloc: Global, fleet: &FleetShape, fleet_line: u64) -> Result<Reading, AllocError>
     ensures { IfOk result (λ reading. reading ≡ begun fleet_line fleet.now) }
 {
     let mut items = Vec::new(alloc);
@@ -128,9 +129,13 @@ fn behind_rows(text: &[u8], count: u64) -> &[u8]
 }
 
 /// The first line that may be a command. `lines_before` is the number of lines before the text.
-fn next_line(text: &[u8], lines_before: u64) -> Option<Line>
+fn next_line(text: &[u8], lines_before: u64) -> Option<ScriptLine>
     requires { lines_before + length text.now < 2 ^ 64 }
-    ensures exact { option_map {U = NumberedLine} (λ line. record { number = line.number; bytes = line.bytes.now; after = lines_of line.after.now }) result
+    ensures exact { option_map {U = NumberedLine} (λ line. record {
+      number = line.number;
+      bytes = line.bytes.now;
+      after = lines_of line.after.now;
+    }) result
         ≡ next_line (lines_before + 1) (lines_of text.now) }
     ensures place { IfSome result (λ line. line.number + length line.after.now ≤ lines_before + length text.now) }
     ensures shorter { IfSome result (λ line. length line.after.now < length text.now) }
@@ -143,7 +148,7 @@ fn next_line(text: &[u8], lines_before: u64) -> Option<Line>
         rest = after;
         let bytes = without_return(piece);
         if !is_skipped(bytes) {
-            return Some(Line {
+            return Some(ScriptLine {
                 number,
                 bytes,
                 after,

@@ -2,21 +2,26 @@
 ghost use Rattle.std.specs.Prelude.{◌≡◌, IfOk};
 ghost use Rattle.query_text.specs.Grammar.{IsQuery};
 ghost use Rattle.query_text.specs.Reading.{query_of};
-ghost use Rattle.text_faults.specs.declared.fault.Why.TheVariants as why;
+ghost use Rattle.row_model.specs.declared.script_fault.Why.TheVariants as why;
 ghost use Rattle.script_text.specs.Commands.{IsFleet, leaf_count, on_line, query_command, row_count};
 ghost use Rattle.script_text.specs.Fits.{IsCommand};
 ghost use Rattle.script_text.specs.Script.{ParsesAs};
 
 use crate::command::Command;
-use crate::fleet::Fleet;
+use crate::fleet::FleetShape;
 use crate::words::place_of;
 use leaf_model::{Query, QueryFault};
 use query_text::parse;
+use row_model::{ScriptFault, Why, fault_at};
 use std::alloc::Global;
-use text_faults::{ScriptFault, Why, fault_at};
 
 /// Reads the text of a query on line `number`. Its table has to be one of the fleet's.
-pub fn query(alloc: Global, fleet: &Fleet, text: &[u8], number: u64) -> Result<Command, ScriptFault>
+pub fn query(
+    alloc: Global,
+    fleet: &FleetShape,
+    text: &[u8],
+    number: u64,
+) -> Result<Command, ScriptFault>
     requires { IsFleet fleet.now }
     ensures exact { ParsesAs (λ c. c) result (query_command number fleet.now (query_of text.now)) }
     ensures is_command { IfOk result (IsCommand (leaf_count fleet.now) fleet.now.names) }

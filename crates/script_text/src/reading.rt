@@ -1,6 +1,6 @@
 // What was read of a script, and what the next line does to it.
 ghost use Rattle.std.specs.Prelude.{◌≡◌, ◌+◌, ◌++◌, ◌<◌, ◌≤◌, ◌^◌, [], ◌∷◌, IfOk, length};
-ghost use Rattle.script_text.specs.declared.fleet.Fleet.{Fleet};
+ghost use Rattle.script_text.specs.declared.fleet.FleetShape.{FleetShape};
 ghost use Rattle.script_text.specs.declared.reading.Position.TheVariants as position;
 ghost use Rattle.text_lines.specs.Lines.{lines_of};
 ghost use Rattle.script_text.specs.Commands.{IsFleet, command_of, row_count, standing_of};
@@ -10,16 +10,16 @@ ghost use Rattle.script_text.specs.Script.{ParsesAs};
 
 use crate::command::{Command, Commands};
 use crate::earlier::EarlierLanes;
-use crate::fleet::Fleet;
+use crate::fleet::FleetShape;
 use crate::item::{Item, Items};
 use crate::later::command;
 use crate::line_word::{CommandWord, LineWord, line_word_of};
 use crate::script::Script;
 use crate::standing::{standing, tell};
 use crate::words::cut_word;
+use row_model::{ScriptFault, Why, fault_at};
 use std::alloc::{AllocError, Global};
 use std::thread::Threads;
-use text_faults::{ScriptFault, Why, fault_at};
 use text_lines::is_blank;
 
 /// The most lanes of a burst.
@@ -29,7 +29,7 @@ const MAX_LANES: usize = 16;
 #[derive(Drop)]
 pub enum Position {
     Outside,
-    /// In a burst before its first lane.
+    /// In a burst, before its first lane.
     Opened,
     /// In the latest lane of a burst.
     Lane {
@@ -38,23 +38,23 @@ pub enum Position {
     },
 }
 
-/// What was read, and the place of the next line.
+/// The script that was read so far, and the place of the next line.
 #[derive(Drop)]
 pub struct Reading {
     pub script: Script,
     pub position: Position,
 }
 
-/// What was read with a line, and the number of lines after it that it takes as rows.
+/// The reading after a line, and the number of lines after it that are its rows.
 #[derive(Drop)]
-pub struct Step {
+pub struct LineRead {
     pub reading: Reading,
     pub rows: u64,
 }
 
 /// A line with a command: its number, its first word, the words after that, and the text after the line.
 #[derive(Clone, Copy)]
-struct CommandLine<'a> {
+struct LineWords<'a> {
     number: u64,
     word: LineWord,
     words: &'a [u8],
@@ -65,17 +65,18 @@ struct CommandLine<'a> {
 pub fn read_line<'a, R: Threads + Sync>(
     rt: &R,
     alloc: Global,
-    fleet: &Fleet,
+    fleet: &FleetShape,
     last: u64,
     reading: Reading,
     bytes: &'a [u8],
     number: u64,
     after: &'a [u8],
-) -> Result<Step, ScriptFault>
+) -> Result<LineRead, ScriptFault>
     requires fleet { IsFleet fleet.now }
     requires place { number + length after.now < 2 ^ 64 }
     requires reading { IsReading fleet.now reading }
-    ensures exact { ParsesAs (λ step. step) result (step_of last number fleet.now reading bytes.now (lines_of after.now)) }
+    ensures exact { ParsesAs (λ step. step) result
+        (step_of last number fleet.now reading bytes.now (lines_of after.now)) }
     ensures is_reading { IfOk result (λ step. IsReading fleet.now step.reading) }
     ensures enough { IfOk result (λ step. step.rows ≤ length (lines_of after.now)) }
 {
@@ -83,7 +84,7 @@ pub fn read_line<'a, R: Threads + Sync>(
     let Some(word) = line_word_of(first) else {
         return Err(fault_at(number, Why::Command));
     };
-    let line = CommandLine {
+    let line = LineWords {
         number,
         word,
         words,
@@ -103,15 +104,16 @@ pub fn read_line<'a, R: Threads + Sync>(
 fn outside<R: Threads + Sync>(
     rt: &R,
     alloc: Global,
-    fleet: &Fleet,
+    fleet: &FleetShape,
     last: u64,
     script: Script,
-    line: &CommandLine,
-) -> Result<Step, ScriptFault>
+    line: &LineWords,
+) -> Result<LineRead, ScriptFault>
     requires fleet { IsFleet fleet.now }
     requires place { line.now.number + length line.now.after.now < 2 ^ 64 }
     requires reading { IsReading fleet.now (record { script = script; position = position.Outside }) }
-    ensures exact { ParsesAs (λ step. step) result (line_at last line.now.number fleet.now script position.Outside line.now.words.now (lines_of line.now.after.now) line.now.word) }
+    ensures exact { ParsesAs (λ step. step) result (line_at last line.now.number fleet.now script position.Outside
+        line.now.words.now (lines_of line.now.after.now) line.now.word) }
     ensures is_reading { IfOk result (λ step. IsReading fleet.now step.reading) }
     ensures enough { IfOk result (λ step. step.rows ≤ length (lines_of line.now.after.now)) }
 {
@@ -140,13 +142,14 @@ fn outside<R: Threads + Sync>(
 #[tactic(auto, using(crate::proofs::Keeps::standing_outside_keeps))]
 fn standing_outside(
     alloc: Global,
-    fleet: &Fleet,
+    fleet: &FleetShape,
     script: Script,
-    line: &CommandLine,
-) -> Result<Step, ScriptFault>
+    line: &LineWords,
+) -> Result<LineRead, ScriptFault>
     requires fleet { IsFleet fleet.now }
     requires reading { IsReading fleet.now (record { script = script; position = position.Outside }) }
-    ensures exact { ParsesAs (λ step. step) result (standing_more script (standing_of line.now.number fleet.now script.standings line.now.words.now)) }
+    ensures exact { ParsesAs (λ step. step) result
+        (standing_more script (standing_of line.now.number fleet.now script.standings line.now.words.now)) }
     ensures is_reading { IfOk result (λ step. IsReading fleet.now step.reading) }
     ensures no_rows { IfOk result (λ step. step.rows ≡ 0) }
 {
@@ -156,8 +159,15 @@ fn standing_outside(
 }
 
 /// Reads a line of a burst before its first lane.
-fn opened(alloc: Global, last: u64, script: Script, line: &CommandLine) -> Result<Step, ScriptFault>
-    ensures exact { (fleet : Fleet) → ParsesAs (λ step. step) result (line_at last line.now.number fleet script position.Opened line.now.words.now (lines_of line.now.after.now) line.now.word) }
+fn opened(
+    alloc: Global,
+    last: u64,
+    script: Script,
+    line: &LineWords,
+) -> Result<LineRead, ScriptFault>
+    ensures exact { (fleet : FleetShape)
+        → ParsesAs (λ step. step) result (line_at last line.now.number fleet script position.Opened line.now.words.now
+        (lines_of line.now.after.now) line.now.word) }
     ensures no_rows { IfOk result (λ step. step.rows ≡ 0) }
 {
     match line.word {
@@ -181,17 +191,19 @@ fn opened(alloc: Global, last: u64, script: Script, line: &CommandLine) -> Resul
 fn in_lane<R: Threads + Sync>(
     rt: &R,
     alloc: Global,
-    fleet: &Fleet,
+    fleet: &FleetShape,
     last: u64,
     script: Script,
     earlier: EarlierLanes,
     lane: Commands,
-    line: &CommandLine,
-) -> Result<Step, ScriptFault>
+    line: &LineWords,
+) -> Result<LineRead, ScriptFault>
     requires fleet { IsFleet fleet.now }
     requires place { line.now.number + length line.now.after.now < 2 ^ 64 }
     requires reading { IsReading fleet.now (record { script = script; position = position.Lane earlier lane }) }
-    ensures exact { ParsesAs (λ step. step) result (line_at last line.now.number fleet.now script (position.Lane earlier lane) line.now.words.now (lines_of line.now.after.now) line.now.word) }
+    ensures exact { ParsesAs (λ step. step) result
+        (line_at last line.now.number fleet.now script (position.Lane earlier lane) line.now.words.now
+        (lines_of line.now.after.now) line.now.word) }
     ensures is_reading { IfOk result (λ step. IsReading fleet.now step.reading) }
     ensures enough { IfOk result (λ step. step.rows ≤ length (lines_of line.now.after.now)) }
 {
@@ -223,17 +235,19 @@ fn in_lane<R: Threads + Sync>(
 fn command_in_lane<R: Threads + Sync>(
     rt: &R,
     alloc: Global,
-    fleet: &Fleet,
+    fleet: &FleetShape,
     script: Script,
     earlier: EarlierLanes,
     lane: Commands,
     word: CommandWord,
-    line: &CommandLine,
-) -> Result<Step, ScriptFault>
+    line: &LineWords,
+) -> Result<LineRead, ScriptFault>
     requires fleet { IsFleet fleet.now }
     requires place { line.now.number + length line.now.after.now < 2 ^ 64 }
     requires reading { IsReading fleet.now (record { script = script; position = position.Lane earlier lane }) }
-    ensures exact { ParsesAs (λ step. step) result (lane_more line.now.number script earlier lane (command_of line.now.number fleet.now word line.now.words.now (lines_of line.now.after.now))) }
+    ensures exact { ParsesAs (λ step. step) result
+        (lane_more line.now.number script earlier lane
+        (command_of line.now.number fleet.now word line.now.words.now (lines_of line.now.after.now))) }
     ensures is_reading { IfOk result (λ step. IsReading fleet.now step.reading) }
     ensures enough { IfOk result (λ step. step.rows ≤ length (lines_of line.now.after.now)) }
 {
@@ -247,7 +261,7 @@ fn command_in_lane<R: Threads + Sync>(
 }
 
 /// Begins a burst on line `number`.
-fn next_burst(number: u64, script: Script, words: &[u8]) -> Result<Step, ScriptFault>
+fn next_burst(number: u64, script: Script, words: &[u8]) -> Result<LineRead, ScriptFault>
     ensures exact { ParsesAs (λ step. step) result (next_burst number script words.now) }
     ensures no_rows { IfOk result (λ step. step.rows ≡ 0) }
 {
@@ -264,7 +278,7 @@ fn next_lane(
     script: Script,
     lanes: EarlierLanes,
     words: &[u8],
-) -> Result<Step, ScriptFault>
+) -> Result<LineRead, ScriptFault>
     ensures exact { ParsesAs (λ step. step) result (next_lane number script lanes words.now) }
     ensures no_rows { IfOk result (λ step. step.rows ≡ 0) }
 {
@@ -285,7 +299,7 @@ fn end_burst(
     script: Script,
     lanes: EarlierLanes,
     words: &[u8],
-) -> Result<Step, ScriptFault>
+) -> Result<LineRead, ScriptFault>
     ensures exact { ParsesAs (λ step. step) result (end_burst number script lanes words.now) }
     ensures no_rows { IfOk result (λ step. step.rows ≡ 0) }
 {
@@ -297,10 +311,10 @@ fn end_burst(
 }
 
 /// What was read, with the place of the next line, after `rows` lines of rows.
-fn stepped(script: Script, position: Position, rows: u64) -> Step
+fn stepped(script: Script, position: Position, rows: u64) -> LineRead
     ensures { result ≡ stepped script position rows }
 {
-    Step {
+    LineRead {
         reading: Reading { script, position },
         rows,
     }

@@ -9,14 +9,15 @@ ghost use Rattle.script_text.specs.Script.{ParsesAs};
 
 use crate::command::Command;
 use crate::words::{next_word, number_of};
-use text_faults::{ScriptFault, Why, fault_at};
+use row_model::{ScriptFault, Why, fault_at};
 
 /// The percent of the leaves that a wave has at most, if none is named.
 const USUAL_PERCENT: u32 = 2;
 
 /// Reads the words of a rollover on line `number`.
 pub fn rollover(words: &[u8], number: u64) -> Result<Command, ScriptFault>
-    ensures exact { ParsesAs (λ c. c) result (or_words number (option_map Rollover (rollover_words (words_of words.now)))) }
+    ensures exact { ParsesAs (λ c. c) result
+        (or_words number (option_map Rollover (rollover_words (words_of words.now)))) }
     ensures is_command { (leaves : ℕ) (tables : List (List ℕ)) → IfOk result (IsCommand leaves tables) }
     ensures no_rows { IfOk result (λ c. row_count c ≡ 0) }
 {

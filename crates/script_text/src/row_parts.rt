@@ -3,10 +3,10 @@ ghost use Rattle.std.specs.Prelude.{◌≡◌, ◌+◌, ◌≤◌, ◌<◌, ◌^
 ghost use Rattle.std.specs.Borrow.{Bor};
 ghost use Rattle.std.specs.List.{AllByRecursion, AllZip};
 ghost use Rattle.row_json.specs.Row.{row_of};
-ghost use Rattle.leaf_model.specs.Values.{IsRow};
-ghost use Rattle.leaf_model.specs.declared.limits.TheConstants.{MAX_ROWS};
+ghost use Rattle.row_model.specs.Values.{IsRow};
+ghost use Rattle.row_model.specs.declared.limits.TheConstants.{MAX_ROWS};
 ghost use Rattle.text_lines.specs.Lines.{lines_of};
-ghost use Rattle.text_faults.specs.declared.fault.Why.TheVariants as why;
+ghost use Rattle.row_model.specs.declared.script_fault.Why.TheVariants as why;
 ghost use Rattle.script_text.specs.Commands.{on_line, rows_from};
 ghost use Rattle.script_text.specs.Parts.{IsPartRead, fault_behind};
 ghost use Rattle.script_text.specs.Script.{IfAt, ParsesAs};
@@ -14,10 +14,10 @@ ghost use Rattle.script_text.specs.Script.{IfAt, ParsesAs};
 use leaf_model::{LentRow, PackedRows, Row, Rows};
 use rayon::prelude::*;
 use row_json::{RowFault, RowRoom, quick_row};
+use row_model::{ScriptFault, Why, fault_at};
 use std::alloc::{AllocError, Global};
 use std::collections::VecDeque;
 use std::thread::Threads;
-use text_faults::{ScriptFault, Why, fault_at};
 use text_lines::{MANY_LINES, cut_line, parts_of, without_return};
 
 /// Reads the first `count` lines of a text as rows. `number` is the number of the line before them. The first fault in
@@ -85,7 +85,8 @@ fn read_each<R: Threads + Sync>(
     alloc: Global,
     parts: &[&[u8]],
 ) -> Result<Vec<Result<PackedRows, ScriptFault>>, AllocError>
-    ensures { IfOk result (λ read. AllZip (λ (part : Bor (List ℕ)) rows. IsPartRead part.now rows) parts.now read.items) }
+    ensures { IfOk result (λ read. AllZip (λ (part : Bor (List ℕ)) rows. IsPartRead part.now rows) parts.now
+        read.items) }
 {
     parts
         .par_iter()

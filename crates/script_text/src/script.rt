@@ -1,8 +1,8 @@
 // A script that was read.
 use crate::item::Items;
 
-/// A script: its items in their order, of which the first is the fleet, and the number of the line of the fleet. That
-/// is 0 if there is no such line, or the script was no text. At most 16 of the items declare a standing query.
+/// A script: its items in their order, the fleet first, and the number of the fleet's line. That is 0 if there is no
+/// such line, or the script was no text. At most 16 items declare a standing query.
 #[derive(Drop)]
 pub struct Script {
     pub fleet_line: u64,

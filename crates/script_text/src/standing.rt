@@ -9,14 +9,14 @@ ghost use Rattle.script_text.specs.declared.item.Item.TheVariants.{One};
 ghost use Rattle.script_text.specs.Script.{ParsesAs};
 
 use crate::command::Command;
-use crate::fleet::Fleet;
+use crate::fleet::FleetShape;
 use crate::later::one_number;
 use crate::query::read_query;
 use crate::target::leaf_in;
 use crate::words::{cut_word, number_of, place_of, trimmed};
 use leaf_model::Query;
+use row_model::{ScriptFault, Why, fault_at};
 use std::alloc::Global;
-use text_faults::{ScriptFault, Why, fault_at};
 
 /// The most standing queries of a script.
 const MAX_STANDINGS: u32 = 16;
@@ -24,7 +24,7 @@ const MAX_STANDINGS: u32 = 16;
 /// Reads the words `L TEXT` of a standing query on line `number`. `declared` were declared before it.
 pub fn standing(
     alloc: Global,
-    fleet: &Fleet,
+    fleet: &FleetShape,
     declared: u32,
     words: &[u8],
     number: u64,
@@ -55,7 +55,12 @@ fn standing_leaf(declared: u32, word: &[u8]) -> Option<u64>
 }
 
 /// The standing query of this leaf. The fleet has to have the leaf and the query's table.
-fn standing_at(fleet: &Fleet, leaf: u64, query: Query, number: u64) -> Result<Command, ScriptFault>
+fn standing_at(
+    fleet: &FleetShape,
+    leaf: u64,
+    query: Query,
+    number: u64,
+) -> Result<Command, ScriptFault>
     requires fleet { IsFleet fleet.now }
     requires query { IsQuery query }
     ensures exact { ParsesAs (λ c. c) result (standing_at number fleet.now leaf query) }

@@ -4,10 +4,10 @@ ghost use Rattle.script_text.specs.Words.{words_of};
 ghost use Rattle.script_text.specs.Commands.{IsFleet, TargetForm, capped_target, leaf_in, leaf_count, table_in, target_in, target_words};
 ghost use Rattle.script_text.specs.Script.{ParsesAs};
 
-use crate::fleet::Fleet;
+use crate::fleet::FleetShape;
 use crate::words::{next_word, number_of, place_of};
 use leaf_model::is_table_name;
-use text_faults::{ScriptFault, Why, fault_at};
+use row_model::{ScriptFault, Why, fault_at};
 
 /// A leaf, and a table by its place.
 #[derive(Clone, Copy)]
@@ -27,7 +27,11 @@ pub struct TargetWords<'a> {
 
 /// The words `L T W`.
 pub fn target_words(words: &[u8]) -> Option<TargetWords>
-    ensures { option_map {U = TargetForm} (λ form. record { leaf = form.leaf; table = form.table.now; last = form.last.now }) result
+    ensures { option_map {U = TargetForm} (λ form. record {
+      leaf = form.leaf;
+      table = form.table.now;
+      last = form.last.now;
+    }) result
         ≡ option_map capped_target (target_words (words_of words.now)) }
 {
     let (leaf, rest) = next_word(words)?;
@@ -45,7 +49,7 @@ pub fn target_words(words: &[u8]) -> Option<TargetWords>
 }
 
 /// The leaf of this number. An Err says that the fleet does not have it.
-pub fn leaf_in(fleet: &Fleet, leaf: u64, number: u64) -> Result<u32, ScriptFault>
+pub fn leaf_in(fleet: &FleetShape, leaf: u64, number: u64) -> Result<u32, ScriptFault>
     requires { IsFleet fleet.now }
     ensures exact { ParsesAs (λ leaf. leaf) result (leaf_in number fleet.now leaf) }
     ensures below { IfOk result (λ leaf. leaf < leaf_count fleet.now) }
@@ -58,7 +62,12 @@ pub fn leaf_in(fleet: &Fleet, leaf: u64, number: u64) -> Result<u32, ScriptFault
 
 /// The leaf of this number and the table of this name. An Err says that the fleet does not have one of them, the leaf
 /// first.
-pub fn target_in(fleet: &Fleet, leaf: u64, table: &[u8], number: u64) -> Result<Target, ScriptFault>
+pub fn target_in(
+    fleet: &FleetShape,
+    leaf: u64,
+    table: &[u8],
+    number: u64,
+) -> Result<Target, ScriptFault>
     requires { IsFleet fleet.now }
     ensures exact { ParsesAs (λ target. target) result (target_in number fleet.now leaf table.now) }
     ensures leaf { IfOk result (λ target. target.leaf < leaf_count fleet.now) }
@@ -70,7 +79,7 @@ pub fn target_in(fleet: &Fleet, leaf: u64, table: &[u8], number: u64) -> Result<
 }
 
 /// The place of the table of this name. An Err says that the fleet does not have it.
-pub fn table_in(fleet: &Fleet, table: &[u8], number: u64) -> Result<u32, ScriptFault>
+pub fn table_in(fleet: &FleetShape, table: &[u8], number: u64) -> Result<u32, ScriptFault>
     requires { IsFleet fleet.now }
     ensures exact { ParsesAs (λ place. place) result (table_in number fleet.now table.now) }
     ensures below { IfOk result (λ place. place < length fleet.now.names) }

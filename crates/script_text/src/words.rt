@@ -2,10 +2,10 @@
 ghost use Rattle.std.specs.Prelude.{◌≡◌, ◌==◌, slice_index, ◌<◌, ◌^◌, ◌-◌, ◌∷◌, [], ℕ, None, IfSome, IfOk, option_map, length, min};
 ghost use Rattle.std.specs.Char.{is_ascii_digit};
 ghost use Rattle.std.specs.List.{list_all};
-ghost use Rattle.leaf_model.specs.Values.{IsTime};
-ghost use Rattle.text_lines.specs.Lines.{before, behind};
+ghost use Rattle.row_model.specs.Values.{IsTime};
+ghost use Rattle.text_lines.specs.Lines.{before, bytes_after};
 ghost use Rattle.script_text.specs.Words.{words_of, unindented, first_word, behind_word, trimmed, place_of};
-ghost use Rattle.text_lines.specs.Numbers.{is_number, number_of, capped, count_of, time_of};
+ghost use Rattle.text_lines.specs.Numbers.{is_number, number_of, capped, count_of, time_of_word};
 
 use leaf_model::Text;
 use text_lines::cut_at;
@@ -91,7 +91,7 @@ pub fn count_of(word: &[u8]) -> Option<u64>
 
 /// The time that a word of 1 to 20 digits gives.
 pub fn time_of(word: &[u8]) -> Option<i64>
-    ensures exact { result ≡ time_of word.now }
+    ensures exact { result ≡ time_of_word word.now }
     ensures is_time { IfSome result IsTime }
 {
     if !is_number(word) {

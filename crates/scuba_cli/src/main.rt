@@ -20,7 +20,7 @@ use std::sync::Wait;
 use std::thread::Threads;
 use std_streams::{StdSink, StdSource};
 
-/// How many leaves may have a berth.
+/// The most leaves that have a berth.
 const BERTHS: u32 = 256;
 
 fn main(rt: HostRuntime) -> ExitCode {
@@ -35,7 +35,7 @@ fn main(rt: HostRuntime) -> ExitCode {
     }
 }
 
-/// Does what the words say over these berths, of whose bases N tells what is known, and says why where it was not done.
+/// Does what the words say over these berths, whose known bases N tells. If it was not done, says why.
 fn serve<
     N: Bases,
     R: AllocGlobal + Input + Print + Eprint + Wait + Threads + Sync,
@@ -86,7 +86,7 @@ fn fresh_berth(alloc: Global) -> MemBerth
     MemBerth::new(Vec::new(alloc), Vec::new(alloc))
 }
 
-/// What these words open files for.
+/// How these words open files.
 fn access(words: &[String]) -> Access {
     match words.first() {
         Some(word) if word.as_str() == "inspect" => Access::Look,

@@ -1,7 +1,7 @@
 // Laws of the groups of rows that are taken apart.
 ghost use Rattle.std.specs.Prelude.{◌≡◌, ℕ, List, Bool, not, filter};
 ghost use Rattle.std.specs.List.{AllByRecursion};
-ghost use Rattle.leaf_model.specs.declared.rows.Row.{Row};
+ghost use Rattle.row_model.specs.declared.rows.Row.{Row};
 ghost use Rattle.leaf_model.specs.declared.queries.Query.{Query};
 ghost use Rattle.leaf_model.specs.declared.groups.Key.{Key};
 ghost use Rattle.leaf_model.specs.Groups.{groups, keys_of, passes};

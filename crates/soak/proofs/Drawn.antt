@@ -3,13 +3,13 @@ use Rattle.std.proofs.Common.{◌≡◌, ℕ, zero, suc, ◌+◌, ◌-◌, ◌*�
 use Rattle.std.proofs.Math.Nat.{mul-le-mul_right}
 use Rattle.std.proofs.lemmas.List.FromFn.{length-map-range_with_len, map-range_with_len_more}
 use Rattle.std.specs.List.{range_with_len}
-use Rattle.leaf_model.specs.declared.rows.Row.{Row}
-use Rattle.rand_pcg.specs.Lcg.{Lcg, next, next_state, state_after}
+use Rattle.row_model.specs.declared.rows.Row.{Row}
+use Rattle.rand_pcg.specs.Lcg.{Lcg, increment_of, next, next_state, started, state_after}
 use Rattle.rand_pcg.specs.Pcg.{multiplier_64, pcg32}
 use Rattle.script_text.specs.declared.command.Command.TheVariants as command
 use Rattle.script_text.specs.declared.item.Item.{Item}
 use Rattle.script_text.specs.declared.item.Item.TheVariants.{One}
-use Rattle.soak.specs.Soak.{add_of, both_queries, first_row, fleet, generator, generator_behind, row_at, row_with, rows_between, soak_script, word}
+use Rattle.soak.specs.Soak.{soak_add, both_queries, first_row, fleet, generator_behind, row_at, row_with, rows_between, soak_script, word}
 
 -- one step behind n steps
 one_step : (w m p n s : ℕ) → next_state w m p (state_after w m p n s) ≡ state_after w m p (suc n) s
@@ -20,13 +20,13 @@ one_step w m p (suc n) s = one_step w m p n (next_state w m p s)
 -- one word more
 one_word : (seed k : ℕ) → next 64 multiplier_64 (generator_behind seed k) ≡ generator_behind seed (k + 1)
 one_word seed k =
-    let g = generator seed in
+    let g = started 64 multiplier_64 seed (increment_of 64 0) in
     let same : next_state 64 multiplier_64 g.increment (state_after 64 multiplier_64 g.increment k g.state) ≡ state_after 64 multiplier_64 g.increment (k + 1) g.state =
     one_step 64 multiplier_64 g.increment k g.state ∙ ap (λ n. state_after 64 multiplier_64 g.increment n g.state) (sym (add-one k)) in
     ap (λ s. record g { state = s }) same
 
 -- the generator behind no word
-pub none_drawn : (seed : ℕ) → generator seed ≡ generator_behind seed 0
+pub none_drawn : (seed : ℕ) → started 64 multiplier_64 seed (increment_of 64 0) ≡ generator_behind seed 0
 unfolding state_after
 none_drawn seed = refl
 
@@ -68,14 +68,14 @@ pub shares_end : (rows leaf : ℕ) → rows ≤ 800000 → leaf ≤ 8 → first_
 shares_end rows leaf few low = let most : leaf * rows ≤ 8 * rows = mul-le-mul_right rows low in omega (arith, most, few)
 
 -- one more leaf's add
-pub adds_more : (seed rows leaf : ℕ) (items more : List Item) (own : List Row) → items ≡ fleet ∷ map (add_of seed rows) (range_with_len 0 leaf) → own ≡ rows_between seed (first_row rows leaf) (first_row rows (leaf + 1)) → more ≡ items ++ One (command.Add leaf 0 own) ∷ [] → more ≡ fleet ∷ map (add_of seed rows) (range_with_len 0 (leaf + 1))
+pub adds_more : (seed rows leaf : ℕ) (items more : List Item) (own : List Row) → items ≡ fleet ∷ map (soak_add seed rows) (range_with_len 0 leaf) → own ≡ rows_between seed (first_row rows leaf) (first_row rows (leaf + 1)) → more ≡ items ++ One (command.Add leaf 0 own) ∷ [] → more ≡ fleet ∷ map (soak_add seed rows) (range_with_len 0 (leaf + 1))
 adds_more seed rows leaf items more own are is pushed =
     let there : 0 + leaf ≡ leaf = omega arith in
-    pushed ∙ ap (λ is. is ++ One (command.Add leaf 0 own) ∷ []) are ∙ ap (λ rs. fleet ∷ map (add_of seed rows) (range_with_len 0 leaf) ++ One (command.Add leaf 0 rs) ∷ []) is
-    ∙ ap (λ is. fleet ∷ is) (sym (map-range_with_len_more (add_of seed rows) 0 leaf leaf there))
+    pushed ∙ ap (λ is. is ++ One (command.Add leaf 0 own) ∷ []) are ∙ ap (λ rs. fleet ∷ map (soak_add seed rows) (range_with_len 0 leaf) ++ One (command.Add leaf 0 rs) ∷ []) is
+    ∙ ap (λ is. fleet ∷ is) (sym (map-range_with_len_more (soak_add seed rows) 0 leaf leaf there))
 
 -- the whole script
-pub whole : (seed rows : ℕ) (begun asked rolled all : List Item) → begun ≡ fleet ∷ map (add_of seed rows) (range_with_len 0 8) → asked ≡ begun ++ both_queries (rows - 1) → rolled ≡ asked ++ One (command.Rollover 50) ∷ [] → all ≡ rolled ++ both_queries (rows - 1)
+pub whole : (seed rows : ℕ) (begun asked rolled all : List Item) → begun ≡ fleet ∷ map (soak_add seed rows) (range_with_len 0 8) → asked ≡ begun ++ both_queries (rows - 1) → rolled ≡ asked ++ One (command.Rollover 50) ∷ [] → all ≡ rolled ++ both_queries (rows - 1)
     → record { fleet_line = 0; items = all; standings = 0 } ≡ soak_script seed rows
 unfolding soak_script
 whole seed rows begun asked rolled all is is_asked is_rolled is_all =

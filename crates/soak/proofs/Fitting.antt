@@ -6,13 +6,13 @@ use Rattle.std.specs.List.{AllByRecursion, range_with_len}
 use Rattle.std.specs.List.Sorted.{IsStrictlySortedBy}
 use Rattle.std.specs.Str.{IsAscii}
 use Rattle.leaf_model.specs.declared.queries.Agg.TheVariants.{Count}
-use Rattle.leaf_model.specs.Values.{IsCell, IsCellName, IsRow}
+use Rattle.row_model.specs.Values.{IsCell, IsCellName, IsRow}
 use Rattle.query_text.specs.Grammar.{IsQuery}
 use Rattle.script_text.specs.declared.command.Command.TheVariants as command
 use Rattle.script_text.specs.declared.item.Item.{Item}
 use Rattle.script_text.specs.declared.item.Item.TheVariants.{One}
 use Rattle.script_text.specs.Fits.{AreLeaves, AreTables, IsItem, IsScript, TellAbove, TellsDeclared, declared_by, declared_in}
-use Rattle.soak.specs.Soak.{add_of, both_queries, count_query, events, first_row, host_cell, host_query, row_at, row_with, rows_between, soak_script, word}
+use Rattle.soak.specs.Soak.{soak_add, both_queries, count_query, events, first_row, host_cell, host_query, row_at, row_with, rows_between, soak_script, word}
 use Rattle.soak.proofs.Drawn.{rows_count, shares_end, shares_fit}
 
 -- ---- names and texts
@@ -75,7 +75,7 @@ rows_fit seed a (suc k) low = (row_fits seed a (omega (arith, low)), rows_fit se
 
 -- ---- items
 
-adds_fit : (seed rows : ℕ) → rows ≤ 800000 → (a k : ℕ) → a + k ≤ 8 → AllByRecursion (IsItem 8 (events ∷ [])) (map (add_of seed rows) (range_with_len a k))
+adds_fit : (seed rows : ℕ) → rows ≤ 800000 → (a k : ℕ) → a + k ≤ 8 → AllByRecursion (IsItem 8 (events ∷ [])) (map (soak_add seed rows) (range_with_len a k))
 adds_fit seed rows few a zero low = tt
 adds_fit seed rows few a (suc k) low =
     let from = first_row rows a in
@@ -111,7 +111,7 @@ declares_none : (xs : List Item) → AllByRecursion HasNone xs → declared_in x
 declares_none [] all = refl
 declares_none (x ∷ xs) all = let one = all.0.1 in let others = declares_none xs all.1 in omega (arith, one, others)
 
-adds_have_none : (seed rows a k : ℕ) → AllByRecursion HasNone (map (add_of seed rows) (range_with_len a k))
+adds_have_none : (seed rows a k : ℕ) → AllByRecursion HasNone (map (soak_add seed rows) (range_with_len a k))
 adds_have_none seed rows a zero = tt
 adds_have_none seed rows a (suc k) = (((λ declared. tt), refl), adds_have_none seed rows (a + 1) k)
 
@@ -130,7 +130,7 @@ pub soak_fits : (seed rows : ℕ) → rows ≤ 800000 → IsScript (soak_script 
 unfolding soak_script
 soak_fits seed rows few =
     let P = IsItem 8 (events ∷ []) in
-    let adds = map (add_of seed rows) (range_with_len 0 8) in
+    let adds = map (soak_add seed rows) (range_with_len 0 8) in
     let both = both_queries (rows - 1) in
     let asked : AllByRecursion P (adds ++ both) = all_append P adds both (adds_fit seed rows few 0 8 (omega arith)) (queries_fit (rows - 1)) in
     let roll = One (command.Rollover 50) in

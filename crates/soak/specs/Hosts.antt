@@ -1,7 +1,7 @@
 -- The cells of all hosts, made once for all rows.
 use Rattle.std.specs.Prelude.{◌≡◌, ℕ, ◌+◌, ◌*◌, ◌<◌, ℤ, pos, List, [], length, slice_index_or, codes}
-use Rattle.leaf_model.specs.declared.rows.Cell.{Cell}
-use Rattle.leaf_model.specs.declared.rows.Value.TheVariants.{Int}
+use Rattle.row_model.specs.declared.rows.Cell.{Cell}
+use Rattle.row_model.specs.declared.rows.Value.TheVariants.{Int}
 use Rattle.soak.specs.Soak.{host_cell}
 
 -- the cell of a code

@@ -3,9 +3,9 @@ use Rattle.std.specs.Prelude.{ℕ, pos, ◌+◌, ◌-◌, ◌*◌, ◌/◌, ◌%
 use Rattle.std.specs.List.{range_with_len}
 use Rattle.leaf_model.specs.declared.queries.Agg.TheVariants.{Count, Sum, Min, Max}
 use Rattle.leaf_model.specs.declared.queries.Query.{Query}
-use Rattle.leaf_model.specs.declared.rows.Cell.{Cell}
-use Rattle.leaf_model.specs.declared.rows.Row.{Row}
-use Rattle.leaf_model.specs.declared.rows.Value.TheVariants.{Int, Text}
+use Rattle.row_model.specs.declared.rows.Cell.{Cell}
+use Rattle.row_model.specs.declared.rows.Row.{Row}
+use Rattle.row_model.specs.declared.rows.Value.TheVariants.{Int, Text}
 use Rattle.rand_pcg.specs.Lcg.{Lcg, advance, increment_of, started}
 use Rattle.rand_pcg.specs.Pcg.{multiplier_64, pcg32}
 use Rattle.script_text.specs.declared.command.Command.TheVariants as command
@@ -17,13 +17,9 @@ use Rattle.script_text.specs.declared.script.Script.{Script}
 abbrev pub events : List ℕ
 events = codes "events"
 
--- the generator of a seed
-abbrev pub generator : ℕ → Lcg
-generator seed = started 64 multiplier_64 seed (increment_of 64 0)
-
--- the generator after k words
+-- the generator of a seed, after k words
 abbrev pub generator_behind : ℕ → ℕ → Lcg
-generator_behind seed k = advance 64 multiplier_64 k (generator seed)
+generator_behind seed k = advance 64 multiplier_64 k (started 64 multiplier_64 seed (increment_of 64 0))
 
 -- word k of a seed, from 0 on
 abbrev pub word : ℕ → ℕ → ℕ
@@ -54,8 +50,8 @@ abbrev pub first_row : ℕ → ℕ → ℕ
 first_row rows leaf = leaf * rows / 8
 
 -- the add of a leaf's share of the rows
-abbrev pub add_of : ℕ → ℕ → ℕ → Item
-add_of seed rows leaf = One (command.Add leaf 0 (rows_between seed (first_row rows leaf) (first_row rows (leaf + 1))))
+abbrev pub soak_add : ℕ → ℕ → ℕ → Item
+soak_add seed rows leaf = One (command.Add leaf 0 (rows_between seed (first_row rows leaf) (first_row rows (leaf + 1))))
 
 -- SELECT COUNT(*), MIN(time), MAX(time) FROM events WHERE time >= 0 AND time <= z
 abbrev pub count_query : ℕ → Query
@@ -77,4 +73,4 @@ fleet = One (command.Fleet 2 4 (events ∷ []))
 -- half of them, and both queries are asked again. The time of the last row is the greatest.
 unfoldable pub soak_script : ℕ → ℕ → Script
 soak_script seed rows =
-    record { fleet_line = 0; items = fleet ∷ map (add_of seed rows) (range_with_len 0 8) ++ both_queries (rows - 1) ++ One (command.Rollover 50) ∷ both_queries (rows - 1); standings = 0 }
+    record { fleet_line = 0; items = fleet ∷ map (soak_add seed rows) (range_with_len 0 8) ++ both_queries (rows - 1) ++ One (command.Rollover 50) ∷ both_queries (rows - 1); standings = 0 }

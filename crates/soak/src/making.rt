@@ -2,7 +2,7 @@
 ghost use Rattle.std.specs.Prelude.{◌≡◌, ◌++◌, ◌+◌, ◌≤◌, ◌∷◌, [], IfOk, map};
 ghost use Rattle.std.specs.List.{range_with_len};
 ghost use Rattle.script_text.specs.Fits.{IsScript};
-ghost use Rattle.soak.specs.Soak.{add_of, first_row, fleet, soak_script};
+ghost use Rattle.soak.specs.Soak.{soak_add, first_row, fleet, soak_script};
 
 use crate::draw::Draw;
 use crate::queries::push_queries;
@@ -41,7 +41,7 @@ pub fn script(alloc: Global, seed: u64, rows: u32) -> Result<Script, AllocError>
 /// The fleet, and an add to each leaf.
 fn adds(alloc: Global, seed: u64, rows: u32) -> Result<Vec<Item>, AllocError>
     requires { rows ≤ 800000 }
-    ensures { IfOk result (λ items. items.items ≡ fleet ∷ map (add_of seed rows) (range_with_len 0 8)) }
+    ensures { IfOk result (λ items. items.items ≡ fleet ∷ map (soak_add seed rows) (range_with_len 0 8)) }
 {
     let mut items = Vec::new(alloc);
     items.push(Item::One(Command::Fleet {

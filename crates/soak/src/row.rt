@@ -1,6 +1,6 @@
 // Makes a row of its two words. The cells of each host are made once, and only the code is written anew.
 ghost use Rattle.std.specs.Prelude.{◌≡◌, ◌++◌, ◌*◌, ◌<◌, ◌%◌, ◌∷◌, [], pos, slice_index_or, IfOk, OnOk, codes, decimal};
-ghost use Rattle.leaf_model.specs.Values.{IsRow};
+ghost use Rattle.row_model.specs.Values.{IsRow};
 ghost use Rattle.soak.specs.Hosts.{AreHosts, coded};
 ghost use Rattle.soak.specs.Soak.{code_cells, host_cell, row_with};
 

@@ -1,9 +1,9 @@
 -- What the state of a standing query tells.
 use Rattle.std.specs.Prelude.{◌≡◌, ℕ, List}
 use Rattle.std.specs.List.{AllByRecursion}
-use Rattle.leaf_model.specs.declared.rows.Row.{Row}
+use Rattle.row_model.specs.declared.rows.Row.{Row}
 use Rattle.leaf_model.specs.Groups.{groups}
-use Rattle.leaf_model.specs.Values.{IsTime}
+use Rattle.row_model.specs.Values.{IsTime}
 use Rattle.answer_text.specs.Answer.{answer_lines}
 use Rattle.standing_query.specs.States.{Means, StandingState}
 

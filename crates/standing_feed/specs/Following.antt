@@ -1,7 +1,7 @@
 -- What the state of a standing query comes to by the entries of its table that are heard.
 use Rattle.std.specs.Prelude.{◌≡◌, ℕ, ◌+◌, ◌<◌, ◌≤◌, ◌||◌, true, false, List, [], ◌∷◌, IsPermutation, MatchBool, if◌then◌else◌}
 use Rattle.std.specs.List.Sorted.{IsNonDecreasingBy}
-use Rattle.leaf_model.specs.declared.rows.Row.{Row}
+use Rattle.row_model.specs.declared.rows.Row.{Row}
 use Rattle.standing_query.specs.States.{FedTo, Means, StandingState, is_end}
 use Rattle.leaf_model.specs.declared.queries.Query.{Query}
 use Rattle.leaf_model.specs.declared.groups.Group.{Group}
@@ -57,17 +57,17 @@ pub record HeedsInOrder (s : StandingState) (hs : List Heard) (t : StandingState
 abbrev pub new_state : Query → StandingState
 new_state q = record { query = q; upto = 0; stale = true; groups = [] }
 
-abbrev pub place_of : Follower → TablePlace
-place_of f = record { leaf = f.leaf; table = f.table; name = f.standing.query.table }
+abbrev pub table_place_of : Follower → TablePlace
+table_place_of f = record { leaf = f.leaf; table = f.table; name = f.standing.query.table }
 
 -- what an item means to a follower's table; nothing if its state is stale
-abbrev pub noted : Item → Follower → List Meant
-noted x f = if f.standing.stale then [] else meant_in (place_of f) x
+abbrev pub meant_for : Item → Follower → List Meant
+meant_for x f = if f.standing.stale then [] else meant_in (table_place_of f) x
 
--- what a follower comes to by the lines of an item, of which it took note; a stale one hears nothing
+-- the follower after the lines of an item that it took note of; a stale one hears nothing
 pub record Follows (calls : List Meant) (lines : List Line) (old new : Follower) : Type 0 where
-  pub place : place_of new ≡ place_of old
-  pub hears : MatchBool old.standing.stale (new ≡ old) (HeedsInOrder old.standing (heard (place_of old) calls lines) new.standing)
+  pub place : table_place_of new ≡ table_place_of old
+  pub hears : MatchBool old.standing.stale (new ≡ old) (HeedsInOrder old.standing (heard (table_place_of old) calls lines) new.standing)
 
 -- each follower, by what it took note of; the later ones, which took no note, stay
 abbrev pub FollowAll : List (List Meant) → List Line → List Follower → List Follower → Type 0

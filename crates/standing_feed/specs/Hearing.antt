@@ -1,9 +1,15 @@
 -- What the lines of commands tell of one table, in the form that the state of a standing query is fed.
 use Rattle.std.specs.Prelude.{ℕ, ◌==◌, ◌&&◌, List, [], ◌∷◌, ◌++◌, Bool, true, false, Option, Some, None, bytes_eq, if◌then◌else◌, option_to_list}
 use Rattle.std.specs.List.{flat_map}
-use Rattle.leaf_model.specs.declared.rows.Row.{Row}
+use Rattle.row_model.specs.declared.rows.Row.{Row}
 use Rattle.script_text.specs.declared.command.Command.{Command}
-use Rattle.script_text.specs.declared.command.Command.TheVariants as command
+use Rattle.script_text.specs.declared.order.Order.{Order}
+use Rattle.script_text.specs.declared.order.Order.TheVariants as order
+use Rattle.script_text.specs.declared.order.Part.{Part}
+use Rattle.script_text.specs.declared.order.Part.TheVariants as part
+use Rattle.script_text.specs.declared.order.TableRequest.{TableRequest}
+use Rattle.script_text.specs.declared.order.TableRequest.TheVariants as request
+use Rattle.script_text.specs.Orders.{part_of}
 use Rattle.script_text.specs.declared.item.Item.{Item}
 use Rattle.script_text.specs.declared.item.Item.TheVariants as item
 use Rattle.printed_lines.specs.declared.line.Line.{Line}
@@ -12,7 +18,7 @@ use Rattle.printed_lines.specs.declared.line.Said.{Said}
 use Rattle.printed_lines.specs.declared.line.Said.TheVariants as said
 use Rattle.standing_query.specs.declared.fed.Fed.{Fed}
 use Rattle.standing_query.specs.declared.fed.Fed.TheVariants as fed
-use Rattle.standing_feed.specs.declared.place.Place as lent
+use Rattle.standing_feed.specs.declared.place.QueryPlace as lent
 use Rattle.standing_feed.specs.declared.meant.Meant.{Meant}
 use Rattle.standing_feed.specs.declared.meant.Meant.TheVariants as meant
 use Rattle.standing_feed.specs.declared.meant.Now.{Now}
@@ -25,7 +31,7 @@ pub record TablePlace : Type 0 where
   pub table : ℕ
   pub name : List ℕ
 
-abbrev pub place_in : lent.Place → TablePlace
+abbrev pub place_in : lent.QueryPlace → TablePlace
 place_in p = record { leaf = p.leaf; table = p.table; name = p.name.now }
 
 abbrev pub is_at : TablePlace → ℕ → ℕ → Bool
@@ -37,14 +43,27 @@ some_when false x = None
 
 -- ---- before an item is played
 
--- what a command means to the table: a call of callers that will print a line of it, or a tail, of any table
+-- what a call of callers means to its table
+abbrev pub meant_request : TableRequest → Meant
+meant_request (request.Add rows) = meant.Add rows
+meant_request (request.Expire horizon) = meant.Expire horizon
+meant_request (request.Keep n) = meant.Keep
+meant_request (request.Ask q) = meant.Ask
+
+-- what an order means to the table: a call of callers that will print a line of it, or a tail, of any table
+abbrev pub meant_order : TablePlace → Order → Option Meant
+meant_order p (order.Call leaf table r) = some_when (is_at p leaf table) (meant_request r)
+meant_order p (order.Query q) = some_when (bytes_eq q.table p.name) meant.Ask
+meant_order p (order.Tail key table rows) = Some (meant.Tail (some_when (table == p.table) rows))
+meant_order p _ = None
+
+abbrev pub meant_part : TablePlace → Part → Option Meant
+meant_part p (part.Leaves o) = meant_order p o
+meant_part p (part.Run o) = None
+
+-- what a command means to the table
 abbrev pub meant_by : TablePlace → Command → Option Meant
-meant_by p (command.Add leaf table rows) = some_when (is_at p leaf table) (meant.Add rows)
-meant_by p (command.Expire leaf table horizon) = some_when (is_at p leaf table) (meant.Expire horizon)
-meant_by p (command.Keep leaf table n) = some_when (is_at p leaf table) meant.Keep
-meant_by p (command.Query q) = some_when (bytes_eq q.table p.name) meant.Ask
-meant_by p (command.Tail key table rows) = Some (meant.Tail (some_when (table == p.table) rows))
-meant_by p _ = None
+meant_by p c = meant_part p (part_of c)
 
 -- what the commands of a lane mean to the table
 abbrev pub meant_lane : TablePlace → List Command → List Meant

@@ -1,6 +1,6 @@
 // The standing queries of a run.
 ghost use Rattle.std.specs.Prelude.{◌≡◌, ◌<◌, ◌≤◌, ◌^◌, ◌++◌, ◌∷◌, [], map, length, IfOk, OnErr, OnOk};
-ghost use Rattle.standing_feed.specs.Following.{FollowAll, new_follower, noted, place_of};
+ghost use Rattle.standing_feed.specs.Following.{FollowAll, new_follower, meant_for, table_place_of};
 
 use crate::follower::Follower;
 use crate::meant::Meant;
@@ -43,7 +43,8 @@ impl Followers {
         table: u32,
         query: Query,
     ) -> Result<(), AllocError>
-        ensures declared { OnOk result (self.new.list.items ≡ self.old.list.items ++ new_follower leaf table query ∷ []) }
+        ensures declared { OnOk result (self.new.list.items ≡ self.old.list.items ++ new_follower leaf table query
+            ∷ []) }
         ensures refused { OnErr result (self.new.list.items ≡ self.old.list.items) }
     {
         let standing = Teller::new(alloc, query)?;
@@ -55,9 +56,10 @@ impl Followers {
         Ok(())
     }
 
-    /// What an item means to the table of each, as a list for each standing query.
+    /// For each standing query what an item means to its table, as a list.
     pub fn note(&self, alloc: Global, item: &Item) -> Result<Vec<Vec<Meant>>, AllocError>
-        ensures { IfOk result (λ notes. map (λ (calls : _). calls.items) notes.items ≡ map (noted item.now) self.now.list.items) }
+        ensures { IfOk result (λ notes. map (λ (calls : _). calls.items) notes.items
+            ≡ map (meant_for item.now) self.now.list.items) }
     {
         let mut notes = Vec::new(alloc);
         for follower in self.list.as_slice() {
@@ -75,8 +77,9 @@ impl Followers {
         lines: &[Line],
     ) -> Result<(), AllocError>
         requires as_many { length notes.items ≤ length self.old.list.items }
-        ensures places { map place_of self.new.list.items ≡ map place_of self.old.list.items }
-        ensures follow { OnOk result (FollowAll (map (λ calls. calls.items) notes.items) lines.now self.old.list.items self.new.list.items) }
+        ensures places { map table_place_of self.new.list.items ≡ map table_place_of self.old.list.items }
+        ensures follow { OnOk result (FollowAll (map (λ calls. calls.items) notes.items) lines.now self.old.list.items
+            self.new.list.items) }
     {
         let mut rest = VecDeque::from_vec(notes);
         let mut place: usize = 0;

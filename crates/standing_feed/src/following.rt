@@ -3,14 +3,14 @@ ghost use Rattle.std.specs.Prelude.{◌≡◌, ◌<◌, true, false, IfOk, OnOk}
 ghost use Rattle.standing_query.specs.States.{IsSpread};
 ghost use Rattle.standing_feed.specs.Answering.{IsAnswerOf};
 ghost use Rattle.standing_feed.specs.Hearing.{place_in};
-ghost use Rattle.standing_feed.specs.Following.{Follows, Heeds, HeedsAll, noted, place_of, settled};
+ghost use Rattle.standing_feed.specs.Following.{Follows, Heeds, HeedsAll, meant_for, table_place_of, settled};
 
 use crate::follower::Follower;
 use crate::heard::Heard;
 use crate::hearing::{hear_all, in_order};
 use crate::meaning::meant_in;
 use crate::meant::Meant;
-use crate::place::Place;
+use crate::place::QueryPlace;
 use crate::teller::Teller;
 use leaf_model::{Groups, Texts};
 use printed_lines::Line;
@@ -20,10 +20,10 @@ use std::alloc::{AllocError, Global};
 use std::collections::VecDeque;
 
 impl Follower {
-    fn place(&self) -> Place
-        ensures { place_in result ≡ place_of self.now }
+    fn place(&self) -> QueryPlace
+        ensures { place_in result ≡ table_place_of self.now }
     {
-        Place {
+        QueryPlace {
             leaf: self.leaf,
             table: self.table,
             name: &self.standing.query().table,
@@ -32,7 +32,7 @@ impl Follower {
 
     /// What an item means to the table. The list is empty if the state is stale.
     pub fn note(&self, alloc: Global, item: &Item) -> Result<Vec<Meant>, AllocError>
-        ensures { IfOk result (λ calls. calls.items ≡ noted item.now self.now) }
+        ensures { IfOk result (λ calls. calls.items ≡ meant_for item.now self.now) }
     {
         if self.standing.stale() {
             Ok(Vec::new(alloc))
@@ -49,7 +49,7 @@ impl Follower {
         calls: Vec<Meant>,
         lines: &[Line],
     ) -> Result<(), AllocError>
-        ensures place { place_of self.new ≡ place_of self.old }
+        ensures place { table_place_of self.new ≡ table_place_of self.old }
         ensures follows { OnOk result (Follows calls.items lines.now self.old self.new) }
     {
         if self.standing.stale() {

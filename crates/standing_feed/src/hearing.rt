@@ -7,14 +7,14 @@ use crate::calls::Calls;
 use crate::heard::Heard;
 use crate::meaning::is_at;
 use crate::meant::Meant;
-use crate::place::Place;
+use crate::place::QueryPlace;
 use printed_lines::{Line, Said};
 use std::alloc::{AllocError, Global};
 
 /// The entries of the table that these lines tell, in the order of the lines.
 pub fn hear_all(
     alloc: Global,
-    place: &Place,
+    place: &QueryPlace,
     calls: Vec<Meant>,
     lines: &[Line],
 ) -> Result<Vec<Heard>, AllocError>
@@ -38,7 +38,7 @@ fn put_heard(all: &mut Vec<Heard>, heard: Option<Heard>) -> Result<(), AllocErro
 }
 
 // The entry of the table that a line tells.
-fn hear(place: &Place, calls: &mut Calls, line: &Line) -> Option<Heard>
+fn hear(place: &QueryPlace, calls: &mut Calls, line: &Line) -> Option<Heard>
     ensures heard { result ≡ heard_by (place_in place.now) calls.old line.now }
     ensures left { calls.new ≡ left_by_line (place_in place.now) calls.old line.now }
 {

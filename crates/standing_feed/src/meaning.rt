@@ -5,20 +5,20 @@ ghost use Rattle.standing_feed.specs.Hearing.{is_at, meant_by, meant_in, meant_l
 ghost use Rattle.standing_feed.specs.declared.meant.Meant.TheVariants.{Add};
 
 use crate::meant::Meant;
-use crate::place::Place;
+use crate::place::QueryPlace;
 use leaf_model::Rows;
 use script_text::{Command, Commands, Item};
 use std::alloc::{AllocError, Global};
 
 /// Whether the place is this leaf's table.
-pub fn is_at(place: &Place, leaf: u32, table: u32) -> bool
+pub fn is_at(place: &QueryPlace, leaf: u32, table: u32) -> bool
     ensures { result ≡ is_at (place_in place.now) leaf table }
 {
     leaf == place.leaf && table == place.table
 }
 
 /// The calls of callers by which an item will print lines of the table, lane by lane.
-pub fn meant_in(alloc: Global, place: &Place, item: &Item) -> Result<Vec<Meant>, AllocError>
+pub fn meant_in(alloc: Global, place: &QueryPlace, item: &Item) -> Result<Vec<Meant>, AllocError>
     ensures { IfOk result (λ calls. calls.items ≡ meant_in (place_in place.now) item.now) }
 {
     let mut calls = Vec::new(alloc);
@@ -29,7 +29,11 @@ pub fn meant_in(alloc: Global, place: &Place, item: &Item) -> Result<Vec<Meant>,
     Ok(calls)
 }
 
-fn put_lanes(place: &Place, calls: &mut Vec<Meant>, lanes: &[Commands]) -> Result<(), AllocError>
+fn put_lanes(
+    place: &QueryPlace,
+    calls: &mut Vec<Meant>,
+    lanes: &[Commands],
+) -> Result<(), AllocError>
     ensures { OnOk result (calls.new.items ≡ calls.old.items ++ flat_map (meant_lane (place_in place.now)) lanes.now) }
 {
     for lane in lanes {
@@ -38,7 +42,7 @@ fn put_lanes(place: &Place, calls: &mut Vec<Meant>, lanes: &[Commands]) -> Resul
     Ok(())
 }
 
-fn put_lane(place: &Place, calls: &mut Vec<Meant>, lane: &[Command]) -> Result<(), AllocError>
+fn put_lane(place: &QueryPlace, calls: &mut Vec<Meant>, lane: &[Command]) -> Result<(), AllocError>
     ensures { OnOk result (calls.new.items ≡ calls.old.items ++ meant_lane (place_in place.now) lane.now) }
 {
     for command in lane {
@@ -47,8 +51,13 @@ fn put_lane(place: &Place, calls: &mut Vec<Meant>, lane: &[Command]) -> Result<(
     Ok(())
 }
 
-fn put_meant(place: &Place, calls: &mut Vec<Meant>, command: &Command) -> Result<(), AllocError>
-    ensures { OnOk result (calls.new.items ≡ calls.old.items ++ option_to_list (meant_by (place_in place.now) command.now)) }
+fn put_meant(
+    place: &QueryPlace,
+    calls: &mut Vec<Meant>,
+    command: &Command,
+) -> Result<(), AllocError>
+    ensures { OnOk result (calls.new.items ≡ calls.old.items
+        ++ option_to_list (meant_by (place_in place.now) command.now)) }
 {
     if let Some(call) = meant_by(place, command)? {
         calls.push(call)?;
@@ -56,7 +65,7 @@ fn put_meant(place: &Place, calls: &mut Vec<Meant>, command: &Command) -> Result
     Ok(())
 }
 
-fn meant_by(place: &Place, command: &Command) -> Result<Option<Meant>, AllocError>
+fn meant_by(place: &QueryPlace, command: &Command) -> Result<Option<Meant>, AllocError>
     ensures { IfOk result (λ call. call ≡ meant_by (place_in place.now) command.now) }
 {
     match command {

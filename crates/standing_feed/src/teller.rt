@@ -1,6 +1,6 @@
 // The state of a standing query, and what it told last.
 ghost use Rattle.std.specs.Prelude.{◌≡◌, ◌+◌, ◌<◌, ◌||◌, true, false, [], List, IfOk, IfSome, is_err};
-ghost use Rattle.leaf_model.specs.declared.rows.Row.{Row};
+ghost use Rattle.row_model.specs.declared.rows.Row.{Row};
 ghost use Rattle.standing_query.specs.Spread.{spread};
 ghost use Rattle.standing_query.specs.States.{FedTo, IsSpread, Means, is_end};
 ghost use Rattle.standing_feed.specs.Answering.{IsAnswerOf};
@@ -11,8 +11,8 @@ use standing_query::{Fed, Standing};
 use std::alloc::{AllocError, Global};
 use std::marker::Model;
 
-/// The state of a standing query. What it tells is kept until an entry changes its rows, so that it is made once,
-/// however often it is told. Contracts see the state.
+/// The state of a standing query. It makes the lines of its answer once, however often they are told, and keeps them
+/// until an entry changes its rows. Contracts see the state.
 #[derive(Drop)]
 pub struct Teller {
     state: Standing,
@@ -46,7 +46,7 @@ impl Teller {
         self.state.query()
     }
 
-    /// What the table is asked for if the state is stale.
+    /// The query that a stale state asks its table.
     pub fn spread(&self) -> &Query
         ensures { result.now ≡ spread self.now.query }
     {
@@ -72,7 +72,8 @@ impl Teller {
         ensures upto { self.new.upto ≡ number }
         ensures query { self.new.query ≡ self.old.query }
         ensures stale { self.new.stale ≡ (self.old.stale || (is_err result || is_end fed)) }
-        ensures fed { (rows now : List Row) → Means self.old rows → FedTo fed rows now → self.new.stale ≡ false → Means self.new now }
+        ensures fed { (rows now : List Row) → Means self.old rows → FedTo fed rows now → self.new.stale ≡ false
+            → Means self.new now }
     {
         if fed.is_idle() {
             return self.state.feed(number, fed);

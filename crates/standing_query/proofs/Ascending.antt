@@ -11,8 +11,8 @@ use Rattle.std.proofs.lemmas.Map.Lookups.{exact_bytes}
 use Rattle.std.proofs.lemmas.Map.Views.{any-filter_same}
 use Rattle.std.proofs.lemmas.List.Kept.{IsStrictlySortedBy-filter}
 use Rattle.std.proofs.lemmas.Slice.Eq.{bytes_eq-Decides}
-use Rattle.leaf_model.specs.Values.{time_name}
-use Rattle.leaf_model.specs.Groups.{text_cmp}
+use Rattle.row_model.specs.Values.{time_name}
+use Rattle.row_model.specs.Texts.{text_cmp}
 use Rattle.standing_query.specs.Names.{has, is_cell}
 use Rattle.standing_query.specs.Spread.{names_before}
 use Rattle.standing_query.proofs.Names.{has_with, names_kept, self, with_name, with_name_at}

@@ -4,10 +4,10 @@ use Rattle.std.specs.Prelude.{ℤ, pos, negsuc, ◌≤ℤ◌, ◌-◌, ◌^◌, 
 use Rattle.std.specs.Int.{w64}
 use Rattle.std.proofs.lemmas.Int.{ints}
 use Rattle.std.proofs.lemmas.Bool.{and_from, true_from_ne_false}
-use Rattle.leaf_model.specs.declared.rows.Row.{Row}
+use Rattle.row_model.specs.declared.rows.Row.{Row}
 use Rattle.leaf_model.specs.declared.queries.Query.{Query}
 use Rattle.leaf_model.specs.declared.groups.Group.{Group}
-use Rattle.leaf_model.specs.Values.{IsTime}
+use Rattle.row_model.specs.Values.{IsTime}
 use Rattle.leaf_model.specs.Groups.{groups, passes}
 use Rattle.group_table.specs.Joined.{joined}
 use Rattle.group_table.proofs.Laws.{groups-append, one_row, single}

@@ -8,7 +8,7 @@ use Rattle.std.specs.declared.cmp.Ordering.{Ordering}
 use Rattle.std.specs.declared.cmp.Ordering.TheVariants.{Less, Equal, Greater}
 use Rattle.std.proofs.lemmas.Bool.{true_from_ne_false}
 use Rattle.std.proofs.lemmas.Int.{ints}
-use Rattle.leaf_model.specs.declared.rows.Row.{Row}
+use Rattle.row_model.specs.declared.rows.Row.{Row}
 use Rattle.leaf_model.specs.declared.queries.Query.{Query}
 use Rattle.leaf_model.specs.declared.groups.Key.{Key}
 use Rattle.leaf_model.specs.declared.groups.Key.TheVariants as key
@@ -73,15 +73,7 @@ parts_never_fall s q of (p ∷ ps) rows parts =
     let is : p ≡ groups (spread q) parts.0 = parts.3 ∙ ap (λ (t : Query). groups t parts.0) of in
     (subst NeverFall (sym is) (all_up (groups (spread q) parts.0) (timed q parts.0) (groups_ascend (spread q) parts.0)), parts_never_fall s q of ps parts.1 parts.4)
 
--- ---- those below a horizon go from the front
-
-pub first_goes : (h : ℤ) (gs : List Group) → begins_from h gs ≡ false → groups_from h (drop 1 gs) ≡ groups_from h gs
-first_goes h [] below = absurd (true≢false below)
-first_goes h (g ∷ gs) below = rw below refl
-
-pub rest_falls : (gs : List Group) → NeverFall gs → NeverFall (drop 1 gs)
-rest_falls [] falls = tt
-rest_falls (g ∷ gs) falls = falls.1
+-- ---- groups of which the first is at or after a horizon
 
 stay : (h t : ℤ) (gs : List Group) → int_le h t ≡ true → AllByRecursion (λ (g : Group). int_le t (time_in g.keys) ≡ true) gs → groups_from h gs ≡ gs
 stay h t [] from all = refl

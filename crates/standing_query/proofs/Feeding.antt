@@ -1,15 +1,15 @@
 -- What a state means goes on by an entry, and the groups that it tells are those of the rows that it means.
 use Rattle.std.proofs.Common.{◌≡◌, ℕ, ◌≤◌, ◌^◌, Bool, List, length, sym, ap, subst, ◌∙◌, arith}
 use Rattle.std.specs.List.{AllByRecursion, flat_map}
-use Rattle.leaf_model.specs.declared.rows.Row.{Row}
+use Rattle.row_model.specs.declared.rows.Row.{Row}
 use Rattle.leaf_model.specs.declared.queries.Query.{Query}
 use Rattle.leaf_model.specs.declared.groups.Group.{Group}
 use Rattle.leaf_model.specs.Groups.{groups}
-use Rattle.leaf_model.specs.Values.{IsTime}
+use Rattle.row_model.specs.Values.{IsTime}
 use Rattle.standing_query.specs.declared.fed.Fed.{Fed}
 use Rattle.standing_query.specs.Spread.{back, rows_shown, spread}
 use Rattle.standing_query.specs.States.{FedTo, IsSpread, Means, StandingState}
-use Rattle.standing_query.specs.Parts.{GoesOn, Holds, IsKept, all_joined}
+use Rattle.standing_query.specs.Parts.{GoesOn, HoldsParts, IsKept, all_joined}
 use Rattle.standing_query.proofs.Enough.{enough}
 use Rattle.standing_query.proofs.Going.{means_on}
 use Rattle.standing_query.proofs.Held.{parts_stood}
@@ -21,7 +21,7 @@ module _ (v : StandingState) (q s : Query) (upto : ℕ) (stale : Bool) (most : �
       ap (λ (t : StandingState). t.groups) view_is ∙ means.1 ∙ ap (λ (t : StandingState). groups (spread t.query) rows) (sym view_is)
 
   pub feed_means : (fed : Fed) (now_most : ℕ) (now_list : List (List Group)) (rows now : List Row)
-      → ((before : List Row) → Holds s list most before → (after : List Row) × GoesOn fed before after × Holds s now_list now_most after)
+      → ((before : List Row) → HoldsParts s list most before → (after : List Row) × GoesOn fed before after × HoldsParts s now_list now_most after)
       → Means v rows → FedTo fed rows now → all_joined now_list ≡ groups (spread q) now
   feed_means fed now_most now_list rows now goes means fed_to =
       let after = goes kept.rows kept.holds in

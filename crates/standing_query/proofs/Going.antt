@@ -6,7 +6,7 @@ use Rattle.std.specs.declared.cmp.Ordering.{Ordering}
 use Rattle.std.specs.declared.cmp.Ordering.TheVariants.{Less, Equal, Greater}
 use Rattle.std.proofs.lemmas.Bool.{eqb-true}
 use Rattle.std.proofs.lemmas.List.{append-nil}
-use Rattle.leaf_model.specs.declared.rows.Row.{Row}
+use Rattle.row_model.specs.declared.rows.Row.{Row}
 use Rattle.leaf_model.specs.declared.queries.Query.{Query}
 use Rattle.leaf_model.specs.declared.groups.Group.{Group}
 use Rattle.leaf_model.specs.declared.groups.Key.{Key}
@@ -18,7 +18,7 @@ use Rattle.standing_query.specs.declared.fed.Fed.{Fed}
 use Rattle.standing_query.specs.declared.fed.Fed.TheVariants.{Added, Expired, Kept, Opened, Closed, Other}
 use Rattle.standing_query.specs.Spread.{spread, time_in}
 use Rattle.standing_query.specs.States.{FedTo, IsSpread}
-use Rattle.standing_query.specs.Parts.{AreParts, GoesOn, Holds, IsCut, IsKept, all_joined, groups_from}
+use Rattle.standing_query.specs.Parts.{AreParts, GoesOn, HoldsParts, IsCut, IsKept, all_joined, groups_from}
 use Rattle.standing_query.proofs.Expired.{groups_kept}
 use Rattle.standing_query.proofs.Held.{expired_held, parts_joined}
 
@@ -28,7 +28,7 @@ err_of (Err e) p = p
 
 -- the parts behind an expiry
 pub expired_goes : (s q : Query) → s ≡ spread q → (fed : Fed) (h : ℤ) (list now : List (List Group)) (most : ℕ) (before : List Row) (z : ℤ) → fed ≡ Expired h → now ≡ map (groups_from z) list → z ≡ h
-    → Holds s list most before → (rows : List Row) × GoesOn fed before rows × Holds s now most rows
+    → HoldsParts s list most before → (rows : List Row) × GoesOn fed before rows × HoldsParts s now most rows
 expired_goes s q of fed h list now most before z is left same held = (
   rows_from h before,
   subst (λ (f : Fed). GoesOn f before (rows_from h before)) (sym is) refl,
@@ -58,18 +58,18 @@ same_behind q Closed mine now_mine theirs now_theirs same goes fed_to = ap (grou
 same_behind q Other mine now_mine theirs now_theirs same goes fed_to = ap (groups (spread q)) goes ∙ same ∙ sym (ap (groups (spread q)) fed_to)
 
 module _ (s q : Query) (of : s ≡ spread q) where
-  told : (list : List (List Group)) (most : ℕ) (rows : List Row) → Holds s list most rows → all_joined list ≡ groups (spread q) rows
+  told : (list : List (List Group)) (most : ℕ) (rows : List Row) → HoldsParts s list most rows → all_joined list ≡ groups (spread q) rows
   told list most rows held = parts_joined s list rows held.are ∙ ap (λ (t : Query). groups t rows) of
 
   -- what a state means goes on as its parts do
-  pub means_on : (fed : Fed) (list now_list : List (List Group)) (most now_most : ℕ) (mine now_mine rows now : List Row) → Holds s list most mine → Holds s now_list now_most now_mine
+  pub means_on : (fed : Fed) (list now_list : List (List Group)) (most now_most : ℕ) (mine now_mine rows now : List Row) → HoldsParts s list most mine → HoldsParts s now_list now_most now_mine
       → GoesOn fed mine now_mine → all_joined list ≡ groups (spread q) rows → FedTo fed rows now → all_joined now_list ≡ groups (spread q) now
   means_on fed list now_list most now_most mine now_mine rows now held now_held goes means fed_to =
       told now_list now_most now_mine now_held ∙ same_behind q fed mine now_mine rows now (sym (told list most mine held) ∙ means) goes fed_to
 
 -- what is asked of the parts of a state, and what is left of these where they are let go
 pub fresh_kept : (q s : Query) (stale now_stale : Bool) (most now_most : ℕ) (list now_list : List (List Group)) (capacity now_capacity : ℕ) (rows : List Row)
-    → IsKept q s stale most list capacity → now_stale ≡ false → capacity ≤ now_capacity → Holds s now_list now_most rows → IsKept q s now_stale now_most now_list now_capacity
+    → IsKept q s stale most list capacity → now_stale ≡ false → capacity ≤ now_capacity → HoldsParts s now_list now_most rows → IsKept q s now_stale now_most now_list now_capacity
 fresh_kept q s stale now_stale most now_most list now_list capacity now_capacity rows kept fresh room held = record {
   of = kept.of;
   none = λ gone. absurd (true≢false (sym gone ∙ fresh));

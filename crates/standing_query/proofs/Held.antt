@@ -5,7 +5,7 @@ use Rattle.std.specs.List.{AllByRecursion, flat_map}
 use Rattle.std.proofs.lemmas.List.{append_assoc, append-nil}
 use Rattle.std.proofs.lemmas.List.Elements.{filter-append}
 use Rattle.std.proofs.lemmas.List.Filters.{length-filter_both}
-use Rattle.leaf_model.specs.declared.rows.Row.{Row}
+use Rattle.row_model.specs.declared.rows.Row.{Row}
 use Rattle.leaf_model.specs.declared.queries.Agg.TheVariants.{Count}
 use Rattle.leaf_model.specs.declared.queries.Query.{Query}
 use Rattle.leaf_model.specs.declared.groups.Key.{Key}
@@ -16,7 +16,7 @@ use Rattle.group_table.specs.Joined.{FitsGroup, IsWithin, joined}
 use Rattle.group_table.proofs.Laws.{groups-append}
 use Rattle.group_table.proofs.Within.{joined_fit}
 use Rattle.standing_query.specs.Spread.{rows_shown, spread, time_in}
-use Rattle.standing_query.specs.Parts.{AreCounted, AreParts, Holds, all_joined, groups_from}
+use Rattle.standing_query.specs.Parts.{AreCounted, AreParts, HoldsParts, all_joined, groups_from}
 use Rattle.standing_query.proofs.Counted.{count_within, groups_stood}
 use Rattle.standing_query.proofs.Expired.{groups_kept}
 use Rattle.standing_query.proofs.Moving.{behind}
@@ -81,7 +81,7 @@ pushed q (p ∷ ps) part rows kept is parts = (
 )
 
 module _ (s : Query) (list : List (List Group)) (most : ℕ) (part : List Group) (kept : List Row) (is : part ≡ groups s kept) where
-  pub pushed_counted : (q : Query) → s ≡ spread q → (rows : List Row) → Holds s list most rows → most + length kept ≤ 2 ^ 62 → AreCounted (list ++ part ∷ [])
+  pub pushed_counted : (q : Query) → s ≡ spread q → (rows : List Row) → HoldsParts s list most rows → most + length kept ≤ 2 ^ 62 → AreCounted (list ++ part ∷ [])
   pushed_counted q of rows held few = record {
     query = s;
     counts = ap (λ (t : Query). t.aggs) of;
@@ -91,7 +91,7 @@ module _ (s : Query) (list : List (List Group)) (most : ℕ) (part : List Group)
   }
 
   pub pushed_held : (rows : List Row) (now : List (List Group)) → ((rs : List Row) → AreParts s rs (list ++ part ∷ []) → AreParts s rs now) → most + length kept ≤ 2 ^ 62
-      → Holds s list most rows → Holds s now (most + length kept) (rows ++ kept)
+      → HoldsParts s list most rows → HoldsParts s now (most + length kept) (rows ++ kept)
   pushed_held rows now stay few held = record {
     are = stay (rows ++ kept) (pushed s list part rows kept is held.are);
     few = let both = length-append rows kept in let most_rows = held.few in omega (arith, both, most_rows);
@@ -116,7 +116,7 @@ parts_from q h (p ∷ ps) rows parts = (
   parts_from q h ps parts.1 parts.4,
 )
 
-pub expired_held : (s q : Query) → s ≡ spread q → (h : ℤ) (list now : List (List Group)) (most : ℕ) (rows : List Row) → now ≡ map (groups_from h) list → Holds s list most rows → Holds s now most (rows_from h rows)
+pub expired_held : (s q : Query) → s ≡ spread q → (h : ℤ) (list now : List (List Group)) (most : ℕ) (rows : List Row) → now ≡ map (groups_from h) list → HoldsParts s list most rows → HoldsParts s now most (rows_from h rows)
 expired_held s q of h list now most rows left held = record {
   are =
       subst (λ (ps : List (List Group)). AreParts s (rows_from h rows) ps) (sym left)
@@ -149,5 +149,5 @@ parts_told q names (p ∷ ps) =
 
 -- ---- no row, or some
 
-pub none_held : (s : Query) (list : List (List Group)) (most : ℕ) (rows : List Row) → Holds s list most rows → Holds s list most (rows ++ [])
-none_held s list most rows held = subst (Holds s list most) (sym (append-nil rows)) held
+pub none_held : (s : Query) (list : List (List Group)) (most : ℕ) (rows : List Row) → HoldsParts s list most rows → HoldsParts s list most (rows ++ [])
+none_held s list most rows held = subst (HoldsParts s list most) (sym (append-nil rows)) held

@@ -6,7 +6,7 @@ use Rattle.std.specs.Int.{int_min, int_max}
 use Rattle.std.proofs.lemmas.Int.{ints, clamps}
 use Rattle.std.proofs.lemmas.Cmp.{tied_itself}
 use lib.IntN.{suc_ℤ-*ℤ, +ℤ_comm, zero-*ℤ, +ℤ_idl}
-use Rattle.leaf_model.specs.declared.rows.Row.{Row}
+use Rattle.row_model.specs.declared.rows.Row.{Row}
 use Rattle.leaf_model.specs.declared.queries.Query.{Query}
 use Rattle.leaf_model.specs.declared.groups.Fold.{Fold}
 use Rattle.leaf_model.specs.declared.groups.Group.{Group}

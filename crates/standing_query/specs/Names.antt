@@ -1,7 +1,7 @@
 -- Names in a list.
 use Rattle.std.specs.Prelude.{ℕ, Bool, List, not, bytes_eq}
 use Rattle.std.specs.List.{list_any}
-use Rattle.leaf_model.specs.Values.{time_name}
+use Rattle.row_model.specs.Values.{time_name}
 
 -- the name is in the list
 abbrev pub has : List ℕ → List (List ℕ) → Bool

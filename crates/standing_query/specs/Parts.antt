@@ -1,7 +1,7 @@
 -- Groups in parts: the groups of consecutive runs of the rows.
 use Rattle.std.specs.Prelude.{◌≡◌, ℕ, ◌+◌, ◌<◌, ◌≤◌, ◌^◌, Bool, true, List, [], ◌∷◌, length, ◌++◌, ℤ, int_le, filter, ⊤}
 use Rattle.std.specs.List.{AllByRecursion}
-use Rattle.leaf_model.specs.declared.rows.Row.{Row}
+use Rattle.row_model.specs.declared.rows.Row.{Row}
 use Rattle.leaf_model.specs.declared.queries.Agg.TheVariants.{Count}
 use Rattle.leaf_model.specs.declared.queries.Query.{Query}
 use Rattle.leaf_model.specs.declared.groups.Group.{Group}
@@ -27,7 +27,7 @@ pub record SpreadsSome (s : Query) : Type 0 where
   pub is : s ≡ spread query
 
 -- the parts of these rows, which are few enough for their groups to fit
-pub record Holds (q : Query) (parts : List (List Group)) (most : ℕ) (rows : List Row) : Type 0 where
+pub record HoldsParts (q : Query) (parts : List (List Group)) (most : ℕ) (rows : List Row) : Type 0 where
   pub are : AreParts q rows parts
   pub few : length rows ≤ most
   pub bound : most ≤ 2 ^ 62
@@ -70,4 +70,4 @@ pub record IsKept (q s : Query) (stale : Bool) (most : ℕ) (parts : List (List 
   pub none : stale ≡ true → parts ≡ []
   pub room : 0 < capacity
   pub rows : List Row
-  pub holds : Holds s parts most rows
+  pub holds : HoldsParts s parts most rows

@@ -4,8 +4,9 @@ ghost use Rattle.standing_query.specs.States.{is_idle};
 
 use leaf_model::Rows;
 
-/// What an entry tells of its table's rows: rows that were added, of which `late` with the least times were late; a
-/// horizon below which rows expired; how many rows a keep removed; that the table was opened or closed; or nothing.
+/// What an entry tells of its table's rows. Added: the rows of an add, of which the `late` ones with the least times
+/// were late. Expired: the horizon. Kept: the number of rows that a keep removed. The others: that the table was opened
+/// or closed, or nothing.
 #[derive(Drop)]
 pub enum Fed {
     Added { rows: Rows, late: u64 },

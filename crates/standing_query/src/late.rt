@@ -2,7 +2,7 @@
 ghost use Rattle.std.specs.Prelude.{◌≡◌, ◌<◌, ◌≤◌, map, length, IfOk, IsPermutation, IsSorted};
 ghost use Rattle.std.specs.Ordering.{int_cmp};
 ghost use Rattle.std.specs.Vec.{vec_len};
-ghost use Rattle.leaf_model.specs.declared.rows.Row.{Row};
+ghost use Rattle.row_model.specs.declared.rows.Row.{Row};
 ghost use Rattle.leaf_model.specs.Content.{rows_from};
 ghost use Rattle.standing_query.specs.Parts.{IsCut};
 

@@ -8,8 +8,8 @@ use leaf_model::{Group, Groups};
 use std::collections::VecDeque;
 use std::marker::Model;
 
-/// Groups in the order of their keys, and so of their times. Those below a horizon go one by one from the front, and
-/// no other is moved. Contracts see the list.
+/// Groups in the order of their keys, and so of their times. Those below a horizon are removed from the start, one by
+/// one, without a move of the others. Contracts see the list.
 #[derive(Drop)]
 pub struct Part {
     groups: VecDeque<Group>,
@@ -51,7 +51,7 @@ impl Part {
         self.groups.is_empty()
     }
 
-    /// The groups, as they lie in memory: the second ones stand behind the first.
+    /// The groups as they lie in memory: those of the first slice, then those of the second.
     pub fn as_slices(&self) -> (&[Group], &[Group])
         ensures { result.0.now ++ result.1.now ≡ self.now }
     {

@@ -2,9 +2,9 @@
 ghost use Rattle.std.specs.Prelude.{◌≡◌, ◌≢◌, ℕ, ◌+◌, ◌<◌, ◌≤◌, ◌^◌, ◌==◌, List, [], ◌∷◌, ◌++◌, length, map, not, IfOk, IfErr, OnOk, OnSome, option_to_list, true};
 ghost use Rattle.std.specs.List.{AllByRecursion, list_all};
 ghost use Rattle.std.specs.Vec.{vec_len, vec_capacity};
-ghost use Rattle.leaf_model.specs.declared.rows.Row.{Row};
+ghost use Rattle.row_model.specs.declared.rows.Row.{Row};
 ghost use Rattle.leaf_model.specs.declared.queries.Query.{Query};
-ghost use Rattle.standing_query.specs.Parts.{AreCounted, AreParts, GoesOn, Holds, IsCut, NeverFall, SpreadsSome, groups_from};
+ghost use Rattle.standing_query.specs.Parts.{AreCounted, AreParts, GoesOn, HoldsParts, IsCut, NeverFall, SpreadsSome, groups_from};
 ghost use Rattle.standing_query.specs.States.{TakesMemory, is_end, is_idle};
 
 use crate::fed::Fed;
@@ -52,7 +52,8 @@ fn pop_short(list: &mut Vec<Part>, groups: usize) -> Option<Groups>
 /// Appends a part, after it was merged with each last part that is short beside it.
 fn put_part(alloc: Global, list: &mut Vec<Part>, part: Groups) -> Result<(), AllocError>
     requires { AreCounted (list.old.items ++ part ∷ []) }
-    ensures rows { (q : Query) (rows : List Row) → AreParts q rows (list.old.items ++ part ∷ []) → OnOk result (AreParts q rows list.new.items) }
+    ensures rows { (q : Query) (rows : List Row) → AreParts q rows (list.old.items ++ part ∷ [])
+        → OnOk result (AreParts q rows list.new.items) }
     ensures room { vec_capacity list.old ≤ vec_capacity list.new }
 {
     let mut last = part;
@@ -121,8 +122,9 @@ impl Parts {
     /// Appends rows to those that are held.
     fn put(&mut self, spread: &Query, rows: &[Row]) -> Result<(), AllocError>
         requires of { SpreadsSome spread.now }
-        requires held { (before : List Row) × Holds spread.now self.old.list.items self.old.rows before }
-        ensures rows { (before : List Row) → Holds spread.now self.old.list.items self.old.rows before → OnOk result (Holds spread.now self.new.list.items self.new.rows (before ++ rows.now)) }
+        requires held { (before : List Row) × HoldsParts spread.now self.old.list.items self.old.rows before }
+        ensures rows { (before : List Row) → HoldsParts spread.now self.old.list.items self.old.rows before
+            → OnOk result (HoldsParts spread.now self.new.list.items self.new.rows (before ++ rows.now)) }
         ensures room { vec_capacity self.old.list ≤ vec_capacity self.new.list }
     {
         let alloc = *self.list.allocator();
@@ -139,8 +141,10 @@ impl Parts {
     /// Appends the rows that are not late.
     fn add(&mut self, spread: &Query, rows: Rows, late: u64) -> Result<(), AllocError>
         requires of { SpreadsSome spread.now }
-        requires held { (before : List Row) × Holds spread.now self.old.list.items self.old.rows before }
-        ensures rows { (before : List Row) → Holds spread.now self.old.list.items self.old.rows before → IfOk result (λ _. (kept : List Row) × IsCut rows late kept × Holds spread.now self.new.list.items self.new.rows (before ++ kept)) }
+        requires held { (before : List Row) × HoldsParts spread.now self.old.list.items self.old.rows before }
+        ensures rows { (before : List Row) → HoldsParts spread.now self.old.list.items self.old.rows before
+            → IfOk result (λ _. (kept : List Row) × IsCut rows late kept
+            × HoldsParts spread.now self.new.list.items self.new.rows (before ++ kept)) }
         ensures memory { IfErr result (λ _. late < length rows) }
         ensures room { vec_capacity self.old.list ≤ vec_capacity self.new.list }
     {
@@ -156,9 +160,11 @@ impl Parts {
     /// Feeds an entry to the parts. Gives whether the rows are still known. Err if memory runs out.
     pub fn go_on(&mut self, spread: &Query, fed: Fed) -> Result<bool, AllocError>
         requires of { SpreadsSome spread.now }
-        requires held { (before : List Row) × Holds spread.now self.old.list.items self.old.rows before }
+        requires held { (before : List Row) × HoldsParts spread.now self.old.list.items self.old.rows before }
         ensures known { IfOk result (λ known. known ≡ not (is_end fed)) }
-        ensures rows { (before : List Row) → Holds spread.now self.old.list.items self.old.rows before → IfOk result (λ _. (now : List Row) × GoesOn fed before now × Holds spread.now self.new.list.items self.new.rows now) }
+        ensures rows { (before : List Row) → HoldsParts spread.now self.old.list.items self.old.rows before
+            → IfOk result (λ _. (now : List Row) × GoesOn fed before now
+            × HoldsParts spread.now self.new.list.items self.new.rows now) }
         ensures memory { IfErr result (λ _. TakesMemory fed) }
         ensures idle { is_idle fed ≡ true → self.new.list.items ≡ self.old.list.items }
         ensures room { vec_capacity self.old.list ≤ vec_capacity self.new.list }

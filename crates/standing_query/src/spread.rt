@@ -4,8 +4,8 @@ ghost use Rattle.std.specs.List.{filter, flat_map};
 ghost use Rattle.std.specs.List.Sorted.{IsStrictlySortedBy};
 ghost use Rattle.std.specs.Option.{option_map};
 ghost use Rattle.leaf_model.specs.declared.queries.Cond.{Cond};
-ghost use Rattle.leaf_model.specs.Groups.{text_cmp};
-ghost use Rattle.leaf_model.specs.Values.{time_name};
+ghost use Rattle.row_model.specs.Texts.{text_cmp};
+ghost use Rattle.row_model.specs.Values.{time_name};
 ghost use Rattle.standing_query.specs.Names.{has, is_cell};
 ghost use Rattle.standing_query.specs.Spread.{agg_names, cells_read, names_read, spread};
 
@@ -13,7 +13,8 @@ use leaf_model::{Agg, Aggs, Cond, Conds, Names, Query, Text};
 use std::alloc::{AllocError, Global};
 
 fn with_conds<'a>(mut names: Vec<&'a str>, conds: &'a [Cond]) -> Result<Vec<&'a str>, AllocError>
-    ensures { IfOk result (λ more. map (λ n. n.now) more.items ≡ map (λ n. n.now) names.entry.items ++ map (λ (c : Cond). c.name) conds.now) }
+    ensures { IfOk result (λ more. map (λ n. n.now) more.items ≡ map (λ n. n.now) names.entry.items
+        ++ map (λ (c : Cond). c.name) conds.now) }
 {
     for cond in conds {
         names.push(cond.name.as_str())?;
@@ -44,7 +45,8 @@ fn agg_name(agg: &Agg) -> Option<&str>
 }
 
 fn with_aggs<'a>(mut names: Vec<&'a str>, aggs: &'a [Agg]) -> Result<Vec<&'a str>, AllocError>
-    ensures { IfOk result (λ more. map (λ n. n.now) more.items ≡ map (λ n. n.now) names.entry.items ++ flat_map agg_names aggs.now) }
+    ensures { IfOk result (λ more. map (λ n. n.now) more.items ≡ map (λ n. n.now) names.entry.items
+        ++ flat_map agg_names aggs.now) }
 {
     for agg in aggs {
         if let Some(name) = agg_name(agg) {

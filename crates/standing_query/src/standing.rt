@@ -1,9 +1,9 @@
 // The state of a standing query.
 ghost use Rattle.std.specs.Prelude.{◌≡◌, ◌≢◌, ◌+◌, ◌||◌, true, false, List, [], IfOk, IfErr, IsOk, is_err};
 ghost use Rattle.std.specs.List.{AllByRecursion};
-ghost use Rattle.leaf_model.specs.declared.rows.Row.{Row};
+ghost use Rattle.row_model.specs.declared.rows.Row.{Row};
 ghost use Rattle.leaf_model.specs.Groups.{groups};
-ghost use Rattle.leaf_model.specs.Values.{IsTime};
+ghost use Rattle.row_model.specs.Values.{IsTime};
 ghost use Rattle.standing_query.specs.Spread.{spread};
 ghost use Rattle.standing_query.specs.States.{FedTo, IsSpread, Means, TakesMemory, is_end, is_idle};
 
@@ -34,9 +34,15 @@ impl Model for Standing {
 
     ghost Value = { StandingState };
 
-    ghost view = { λ s. record { query = s.query; upto = s.upto; stale = s.stale; groups = all_joined s.parts.list.items } };
+    ghost view = { λ s. record {
+      query = s.query;
+      upto = s.upto;
+      stale = s.stale;
+      groups = all_joined s.parts.list.items;
+    } };
 
-    ghost invariant = { λ s. IsKept s.query s.spread s.stale s.parts.rows s.parts.list.items (vec_capacity s.parts.list) };
+    ghost invariant = { λ s. IsKept s.query s.spread s.stale s.parts.rows s.parts.list.items
+        (vec_capacity s.parts.list) };
 }
 
 impl Standing {
@@ -81,7 +87,7 @@ impl Standing {
         self.upto
     }
 
-    /// Feeds the next entry. Err is want of memory, and leaves the state stale.
+    /// Feeds the next entry. Err if memory runs out: the state is then stale.
     pub fn feed(&mut self, number: u64, fed: Fed) -> Result<(), AllocError>
         requires next { number ≡ self.old.upto + 1 }
         ensures upto { self.new.upto ≡ number }
@@ -89,7 +95,8 @@ impl Standing {
         ensures stale { self.new.stale ≡ (self.old.stale || (is_err result || is_end fed)) }
         ensures none { self.new.stale ≡ true → self.new.groups ≡ [] }
         // If the state is still fresh, it has the rows after the entry.
-        ensures fed { (rows now : List Row) → Means self.old rows → FedTo fed rows now → self.new.stale ≡ false → Means self.new now }
+        ensures fed { (rows now : List Row) → Means self.old rows → FedTo fed rows now → self.new.stale ≡ false
+            → Means self.new now }
         ensures idle { is_idle fed ≡ true → self.new.groups ≡ self.old.groups }
         ensures memory { IfErr result (λ _. (self.old.stale ≡ false) × TakesMemory fed) }
     {
@@ -140,7 +147,8 @@ impl Standing {
     /// The groups of the query, by the rows of a fresh state. Err if memory runs out.
     pub fn groups(&self) -> Result<Groups, AllocError>
         requires fresh { self.now.stale ≡ false }
-        ensures groups { (rows : List Row) → Means self.now rows → AllByRecursion (λ (row : Row). IsTime row.time) rows → IfOk result (λ gs. gs ≡ groups self.now.query rows) }
+        ensures groups { (rows : List Row) → Means self.now rows → AllByRecursion (λ (row : Row). IsTime row.time) rows
+            → IfOk result (λ gs. gs ≡ groups self.now.query rows) }
         ensures memory { IfErr result (λ _. self.now.groups ≢ []) }
     {
         let alloc = *self.parts.list.allocator();

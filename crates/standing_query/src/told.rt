@@ -24,7 +24,8 @@ fn told_one(
     group: &Group,
 ) -> Result<Groups, AllocError>
     requires { group.now.count ≤ 2 ^ 62 }
-    ensures value { IfOk result (λ gs. gs ≡ groups query.now (replicate group.now.count (row_shown names.now group.now.keys))) }
+    ensures value { IfOk result (λ gs. gs
+        ≡ groups query.now (replicate group.now.count (row_shown names.now group.now.keys))) }
     ensures within { IfOk result (λ gs. AllByRecursion (IsWithin group.now.count) gs) }
 {
     if group.count == 0 {
@@ -78,7 +79,7 @@ fn told_part(
     merge(alloc, mine, theirs)
 }
 
-/// The same of parts that stand behind one another.
+/// The same over parts, one after another.
 pub fn told_parts(
     alloc: Global,
     query: &Query,

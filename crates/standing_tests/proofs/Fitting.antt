@@ -3,9 +3,9 @@ use Rattle.std.proofs.Common.{◌≡◌, ◌≤◌, ◌≤ℤ◌, ◌++◌, ℕ,
 use Rattle.std.specs.Prelude.{FitsSigned}
 use Rattle.std.specs.Int.{w64}
 use Rattle.std.specs.List.Sorted.{IsStrictlySortedBy}
-use Rattle.leaf_model.specs.declared.rows.Cell.{Cell}
-use Rattle.leaf_model.specs.declared.rows.Value.TheVariants.{Int, Text}
-use Rattle.leaf_model.specs.Values.{IsCellName, IsRow}
+use Rattle.row_model.specs.declared.rows.Cell.{Cell}
+use Rattle.row_model.specs.declared.rows.Value.TheVariants.{Int, Text}
+use Rattle.row_model.specs.Values.{IsCellName, IsRow}
 
 code_name : IsUtf8 (codes "code")
 code_name = search rules

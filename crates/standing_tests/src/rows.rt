@@ -1,6 +1,6 @@
 // Rows with a time, a code and a host, a query over them, a state that is fed entries, and what groups have to be.
 ghost use Rattle.std.specs.Prelude.{◌≡◌, ◌+◌, ◌≤◌, IfOk, IsUtf8, length};
-ghost use Rattle.leaf_model.specs.Values.{IsRow};
+ghost use Rattle.row_model.specs.Values.{IsRow};
 
 use group_table::fold_rows;
 use leaf_model::{
@@ -16,8 +16,8 @@ pub type Spelled = (i64, i64, &'static str);
 /// What is told of a host: the number of its rows, and the sum, the least and the greatest of their codes.
 pub type Told = (&'static str, u64, i128, i64, i64);
 
-/// The rows of a table in their order, of which that of the time 10 is behind the range of the query, and one has a
-/// code that is too small.
+/// The rows of a table, in their order. That with the time 10 is after the range of the query, and one has too small a
+/// code.
 pub const FIRST: &[Spelled] = &[
     (1, 5, "a"),
     (3, 1, "a"),
@@ -30,7 +30,7 @@ pub fn first() -> &'static [Spelled] {
     FIRST
 }
 
-/// An add of which two rows are late where the horizon is 3.
+/// An add with two rows that are late at the horizon 3.
 pub const FOUR: &[Spelled] = &[(6, 4, "b"), (2, 9, "a"), (8, 3, "a"), (1, 8, "a")];
 
 pub fn text(alloc: Global, letters: &str) -> Result<Text, AllocError>
@@ -48,7 +48,7 @@ fn cell(alloc: Global, name: &str, value: Value) -> Result<Cell, AllocError>
     })
 }
 
-/// The text of a host; there is none that is too long for a row.
+/// The text of a host. None if it is too long for a row.
 fn host_text(alloc: Global, host: &str) -> Result<Text, AllocError>
     ensures utf8 { IfOk result (λ text. IsUtf8 text) }
     ensures short { IfOk result (λ text. length text ≤ 65535) }
@@ -59,7 +59,7 @@ fn host_text(alloc: Global, host: &str) -> Result<Text, AllocError>
     text(alloc, host)
 }
 
-/// The row of a time, a code and a host; there is none before the time 0.
+/// The row of a time, a code and a host. None if the time is negative.
 fn row(alloc: Global, time: i64, code: i64, host: &str) -> Result<Row, AllocError>
     ensures { IfOk result IsRow }
 {
@@ -86,7 +86,7 @@ pub fn rows_of(alloc: Global, table: &[Spelled]) -> Result<PackedRows, AllocErro
     Ok(rows)
 }
 
-/// An entry of a table's history: an add of such rows, of which so many were late, and the others.
+/// An entry of a table's history: an add of these rows, with its number of late ones; or another.
 #[derive(Clone, Copy)]
 pub enum Step {
     Add(&'static [Spelled], u64),
@@ -97,7 +97,7 @@ pub enum Step {
     Other,
 }
 
-/// What a state is fed of an add.
+/// The feed of an add.
 fn added(alloc: Global, table: &[Spelled], late: u64) -> Result<Fed, AllocError> {
     let mut rows = rows_of(alloc, table)?;
     let most = rows.len().min(100_000);
@@ -108,7 +108,7 @@ fn added(alloc: Global, table: &[Spelled], late: u64) -> Result<Fed, AllocError>
     })
 }
 
-/// What a state is fed of an entry.
+/// The feed of an entry.
 fn fed_of(alloc: Global, step: Step) -> Result<Fed, AllocError> {
     match step {
         Step::Add(table, late) => added(alloc, table, late),
@@ -120,7 +120,8 @@ fn fed_of(alloc: Global, step: Step) -> Result<Fed, AllocError> {
     }
 }
 
-/// For each host how many rows of the times 1 to 9 have a code of at least 1, and the sum of these codes.
+/// The query that gives, for each host, the number of rows with a time from 1 to 9 and a code of at least 1, and the
+/// sum of these codes.
 pub fn query(alloc: Global) -> Result<Query, AllocError> {
     let mut conds = Vec::new(alloc);
     conds.push(Cond {
@@ -145,7 +146,7 @@ pub fn query(alloc: Global) -> Result<Query, AllocError> {
     })
 }
 
-/// A state of that query which no entry was fed to.
+/// A state of that query before its first entry.
 pub fn declared(alloc: Global) -> Result<Standing, AllocError> {
     Standing::new(alloc, query(alloc)?, 0)
 }

@@ -15,7 +15,7 @@ fn are_names(names: &[Text], want: &[&str]) -> bool {
     same
 }
 
-/// Whether a query asks the table t how many rows of any time there are of each list of these keys.
+/// Whether a query counts the rows of the table t, of any time, for each list of these keys.
 fn counts_by(query: &Query, keys: &[&str]) -> bool {
     query.table.as_str() == "t"
         && query.from == 0
@@ -37,14 +37,14 @@ fn a_new_one_is_stale_and_asks_for_its_spread(rt: HostRuntime) -> Result<(), Fai
     Ok(())
 }
 
-/// Up to which entry a fresh state was fed, and whether it is stale, behind one entry more.
+/// The number of the last entry that a fresh state was fed, and whether it is stale, after one more entry.
 fn behind(alloc: Global, step: Step) -> Result<(u64, bool), AllocError> {
     let mut standing = fresh(alloc, first())?;
     feed(alloc, &mut standing, step)?;
     Ok((standing.upto(), standing.stale()))
 }
 
-/// Entries, and whether a fresh state is stale behind each.
+/// Entries, and whether a fresh state is stale after each.
 const ENTRIES: &[(Step, bool)] = &[
     (Step::Open, true),
     (Step::Close, true),
@@ -68,7 +68,7 @@ fn ends_and_keeps_that_removed_rows_make_it_stale(rt: HostRuntime) -> Result<(),
     Ok(())
 }
 
-/// Whether the state is stale behind each of the entries, one after another.
+/// Whether the state is stale after each of the entries, one after another.
 fn stays_stale(alloc: Global, standing: &mut Standing) -> Result<bool, AllocError> {
     for (step, _) in entries() {
         feed(alloc, standing, *step)?;
@@ -79,7 +79,7 @@ fn stays_stale(alloc: Global, standing: &mut Standing) -> Result<bool, AllocErro
     Ok(true)
 }
 
-/// Whether the state tells of these rows what it should, once a table of them was asked.
+/// Whether the state tells the right groups of these rows after it asked their table.
 fn tells_once_settled(
     alloc: Global,
     standing: &mut Standing,

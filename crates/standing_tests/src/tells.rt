@@ -8,7 +8,7 @@ use standing_query::Standing;
 use std::alloc::{AllocError, Global};
 use std::test::Fail;
 
-/// The groups that the state tells, where it is fresh.
+/// The groups that a fresh state tells.
 fn told(standing: &Standing) -> Result<Option<Groups>, AllocError> {
     if standing.stale() {
         return Ok(None);
@@ -33,10 +33,10 @@ pub fn tells(
     Ok(are_groups(&groups, want) && are_groups(&folded, want))
 }
 
-/// The first rows behind an expiry at 3: a row at the horizon stays.
+/// The first rows after an expiry at 3: a row at the horizon stays.
 const FROM_THREE: &[Spelled] = &[(3, 1, "a"), (7, 2, "b"), (9, 0, "b"), (10, 7, "a")];
 
-/// The same behind an add of four rows, of which those of the times 1 and 2 were late.
+/// The same after an add of four rows. Those with the times 1 and 2 were late.
 const WITH_TWO: &[Spelled] = &[
     (3, 1, "a"),
     (7, 2, "b"),
@@ -46,7 +46,7 @@ const WITH_TWO: &[Spelled] = &[
     (8, 3, "a"),
 ];
 
-/// The same behind an expiry at 5, which is between the times 3 and 6.
+/// The same after an expiry at 5, which is between the times 3 and 6.
 const FROM_FIVE: &[Spelled] = &[
     (7, 2, "b"),
     (9, 0, "b"),
@@ -55,11 +55,11 @@ const FROM_FIVE: &[Spelled] = &[
     (8, 3, "a"),
 ];
 
-/// What is told of them.
+/// The groups of these rows.
 const TOLD: &[Told] = &[("a", 1, 3, 3, 3), ("b", 2, 6, 2, 4)];
 
-/// Entries behind the one by which a state of the first rows became fresh, the rows that are left behind each, and what
-/// is told of these.
+/// Entries after the one that made a state of the first rows fresh. With each, the rows that are left after it, and
+/// their groups.
 const LIFE: &[(Step, &[Spelled], &[Told])] = &[
     (Step::Other, FIRST, &[("a", 2, 6, 1, 5), ("b", 1, 2, 2, 2)]),
     (
@@ -83,7 +83,7 @@ fn life() -> &'static [(Step, &'static [Spelled], &'static [Told])] {
     LIFE
 }
 
-/// How many entries of the life the state follows before it tells something else.
+/// The number of entries of the life that the state follows before it tells something else.
 fn followed(alloc: Global, standing: &mut Standing) -> Result<u64, AllocError> {
     let mut count = 0u64;
     for (step, left, want) in life() {

@@ -11,9 +11,9 @@ use Rattle.std.proofs.lemmas.List.{get_or_past, length-append, length-map}
 use Rattle.std.proofs.lemmas.List.Elements.{All-append, All-drop, All-filter, All-from_recursion, All-head, All-map, All-nil, All-tail, recursion_from_All}
 use Rattle.std.proofs.lemmas.List.FromFn.{get_or-map-range_with_len, length-map-range_with_len}
 use Rattle.std.proofs.lemmas.Map.Made.{All-is_member}
-use Rattle.leaf_model.specs.declared.rows.Value.{Value}
-use Rattle.leaf_model.specs.declared.rows.Cell.{Cell}
-use Rattle.leaf_model.specs.declared.rows.Row.{Row}
+use Rattle.row_model.specs.declared.rows.Value.{Value}
+use Rattle.row_model.specs.declared.rows.Cell.{Cell}
+use Rattle.row_model.specs.declared.rows.Row.{Row}
 use Rattle.column_bytes.specs.declared.kind.Kind.{Kind}
 use Rattle.column_bytes.specs.Cells.{Base, Anchors, Coded, Codebook, Entries, Sets, cell_at, value_at}
 use Rattle.column_bytes.specs.Cells as coded
@@ -22,7 +22,7 @@ use Rattle.column_bytes.proofs.Named.{kind_named}
 use Rattle.row_blocks.specs.declared.column.BlockColumn.{BlockColumn}
 use Rattle.row_blocks.specs.Columns.{MeanCells}
 use Rattle.row_blocks.specs.Headings.{Heading, heading, heading_cmp, heading_of, kind_of}
-use Rattle.row_blocks.specs.Blocks.{Block, IsBlock, IsOther, cell_of, cells_at, row_at, rows_in, value_in}
+use Rattle.row_blocks.specs.Blocks.{Block, IsBlock, IsOther, cell_at_place, cells_at, row_at, rows_in, value_in}
 use Rattle.row_blocks.specs.Held.{IsSkip, block_rows, rows_held}
 use Rattle.row_blocks.proofs.Order.{heading_total}
 use Rattle.table_state.specs.Tables.{headings_in, least_columns}
@@ -30,33 +30,33 @@ use Rattle.table_state.proofs.Distinct.{few_distinct}
 
 -- ---- what stands in a column is of its kind
 
-book_kind : (book : Codebook) (codes : List ℕ) (i : ℕ) → kind_of (value_at book codes i) ≡ coded.kind_of book
+book_kind : (book : Codebook) (codes : List ℕ) (i : ℕ) → kind_of (value_at book codes i) ≡ coded.kind_of_book book
 book_kind (Base base) codes i = refl
 book_kind (Anchors anchors) codes i = refl
 book_kind (Entries texts) codes i = refl
 book_kind (Sets sets) codes i = refl
 
-cell_kind : (view : Coded) (i : ℕ) → IfSome (cell_at view i) (λ v. kind_of v ≡ coded.kind_of view.book)
+cell_kind : (view : Coded) (i : ℕ) → IfSome (cell_at view i) (λ v. kind_of v ≡ coded.kind_of_book view.book)
 cell_kind view i = by (slice_index_or view.present i false)
   where
-    by : (b : Bool) → IfSome (if b then Some (value_at view.book view.codes i) else None) (λ v. kind_of v ≡ coded.kind_of view.book)
+    by : (b : Bool) → IfSome (if b then Some (value_at view.book view.codes i) else None) (λ v. kind_of v ≡ coded.kind_of_book view.book)
     by true = book_kind view.book view.codes i
     by false = tt
 
-listed_kind : (view : Coded) (i : ℕ) → IfSome (slice_index_or (coded.cells_of view) i None) (λ v. kind_of v ≡ coded.kind_of view.book)
+listed_kind : (view : Coded) (i : ℕ) → IfSome (slice_index_or (coded.cells_of view) i None) (λ v. kind_of v ≡ coded.kind_of_book view.book)
 listed_kind view i = by (ltb i (length view.codes)) refl
   where
-    by : (b : Bool) → ltb i (length view.codes) ≡ b → IfSome (slice_index_or (coded.cells_of view) i None) (λ v. kind_of v ≡ coded.kind_of view.book)
-    by true e = subst (λ (o : Option Value). IfSome o (λ v. kind_of v ≡ coded.kind_of view.book))
+    by : (b : Bool) → ltb i (length view.codes) ≡ b → IfSome (slice_index_or (coded.cells_of view) i None) (λ v. kind_of v ≡ coded.kind_of_book view.book)
+    by true e = subst (λ (o : Option Value). IfSome o (λ v. kind_of v ≡ coded.kind_of_book view.book))
         (sym (get_or-map-range_with_len (cell_at view) 0 (length view.codes) i i None (ltb-true i (length view.codes) e) (omega arith))) (cell_kind view i)
-    by false e = subst (λ (o : Option Value). IfSome o (λ v. kind_of v ≡ coded.kind_of view.book))
+    by false e = subst (λ (o : Option Value). IfSome o (λ v. kind_of v ≡ coded.kind_of_book view.book))
         (sym (get_or_past (coded.cells_of view) i None (omega (arith, ltb-false i (length view.codes) e, length-map-range_with_len (cell_at view) 0 (length view.codes))))) tt
 
 of_kind : (bytes : List ℕ) (n i : ℕ) → MeanCells bytes n → IfSome (value_in bytes i) (λ v. kind_of v ≡ kind_in bytes)
 unfolding MeanCells
 of_kind bytes n i mean =
     let view : Coded = coded_in mean.form bytes in
-    let kind : coded.kind_of view.book ≡ kind_in bytes = kind_named (slice_index bytes 0) (slice_index bytes 1) mean.form (count_in bytes) (extra_part bytes) mean.is.header.form_is in
+    let kind : coded.kind_of_book view.book ≡ kind_in bytes = kind_named (slice_index bytes 0) (slice_index bytes 1) mean.form (count_in bytes) (extra_part bytes) mean.is.header.form_is in
     subst (λ (cells : List (Option Value)). IfSome (slice_index_or cells i None) (λ v. kind_of v ≡ kind_in bytes)) (sym mean.cells_are)
     (subst (λ (k : Kind). IfSome (slice_index_or (coded.cells_of view) i None) (λ v. kind_of v ≡ k)) kind (listed_kind view i))
 
@@ -74,7 +74,7 @@ module _ (P : Heading → Type 0) where
   FitCells row = All P (map heading_of row.cells)
 
   one_cell : (name : List ℕ) (kind : Kind) (value : Option Value) (cells : List Cell) → IfSome value (λ v. kind_of v ≡ kind) → P (record { name = name; kind = kind })
-      → AllByRecursion P (map heading_of cells) → AllByRecursion P (map heading_of (cell_of name value ++ cells))
+      → AllByRecursion P (map heading_of cells) → AllByRecursion P (map heading_of (cell_at_place name value ++ cells))
   one_cell name kind None cells same is all = all
   one_cell name kind (Some v) cells same is all = (subst (λ (k : Kind). P (record { name = name; kind = k })) (sym same) is, all)
 

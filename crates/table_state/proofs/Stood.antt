@@ -5,8 +5,8 @@ use Rattle.std.specs.List.{AllByRecursion}
 use Rattle.std.proofs.lemmas.List.{append-nil, append_assoc, drop-append-le, length-append, length-drop, length-take-le, take-append-drop}
 use Rattle.std.proofs.lemmas.List.Concat.{flat_map-append}
 use Rattle.std.proofs.lemmas.List.Elements.{filter-append}
-use Rattle.leaf_model.specs.declared.rows.Row.{Row}
-use Rattle.leaf_model.specs.Values.{IsRow, IsTime}
+use Rattle.row_model.specs.declared.rows.Row.{Row}
+use Rattle.row_model.specs.Values.{IsRow, IsTime}
 use Rattle.leaf_model.specs.declared.writes.Write.TheVariants.{Expire}
 use Rattle.leaf_model.specs.Content.{content_after, last_rows, rows_from}
 use Rattle.row_records.specs.Records.{LogRecord}
@@ -14,7 +14,7 @@ use Rattle.row_blocks.specs.Blocks.{Block, IsBlock, rows_in}
 use Rattle.row_blocks.specs.Held.{IsSkip, block_rows, blocks_held, rows_held}
 use Rattle.expiry.specs.Laws.{HorizonsExpire}
 use Rattle.table_state.specs.declared.parts.Parts.{Parts}
-use Rattle.table_state.specs.Stored.{AreSealed, Stands, in_runs, sealed_rows}
+use Rattle.table_state.specs.Stored.{AreSealed, StoreStands, in_runs, sealed_rows}
 use Rattle.table_state.specs.Tables.{IsHeldRow, IsParts, IsPartsOf, IsStored, Table, empty_table, most_rows, no_store}
 use Rattle.table_state.proofs.Fronts.{counted, drop_none, sealed_none}
 use Rattle.table_state.proofs.Keeping.{all_from, are_rows, each-append, each-drop, each-take, each_from, few_from}
@@ -40,7 +40,7 @@ abbrev pub standing : List Block → ℕ → List Row → ℤ → ℕ → Option
 standing blocks skip tail h writes pending =
     record { contents = record { rows = sealed_rows blocks skip h ++ tail; horizon = h }; writes = writes; pending = pending; store = record { blocks = blocks; skip = skip; tail = tail } }
 
-module _ (blocks : List Block) (skip : ℕ) (tail : List Row) (h : ℤ) (live : ℕ) (s : Stands blocks skip tail h live) where
+module _ (blocks : List Block) (skip : ℕ) (tail : List Row) (h : ℤ) (live : ℕ) (s : StoreStands blocks skip tail h live) where
   pub held_count : length (sealed_rows blocks skip h ++ tail) ≡ live + length tail
   held_count = omega (arith, length-append (sealed_rows blocks skip h) tail, s.counted)
 
@@ -96,7 +96,7 @@ module _ (blocks : List Block) (skip : ℕ) (tail : List Row) (h : ℤ) (live : 
 
 -- ---- an add
 
-module _ (blocks : List Block) (skip : ℕ) (tail : List Row) (h : ℤ) (live : ℕ) (s : Stands blocks skip tail h live) (more : List Row) (are : AllByRecursion IsRow more) where
+module _ (blocks : List Block) (skip : ℕ) (tail : List Row) (h : ℤ) (live : ℕ) (s : StoreStands blocks skip tail h live) (more : List Row) (are : AllByRecursion IsRow more) where
   abbrev all : List Row
   all = tail ++ rows_from h more
 
@@ -110,7 +110,7 @@ module _ (blocks : List Block) (skip : ℕ) (tail : List Row) (h : ℤ) (live : 
     taken : AllByRecursion (IsHeldRow h) (take gone all)
     taken = each-take (IsHeldRow h) gone all each
 
-    pub added_stands : live + length tail + length (rows_from h more) ≤ most_rows → Stands now skip (drop gone all) h (live + gone)
+    pub added_stands : live + length tail + length (rows_from h more) ≤ most_rows → StoreStands now skip (drop gone all) h (live + gone)
     added_stands few =
         let sealed = ap (λ (l : List Row). length l) (sealed_rows_are blocks skip tail h live s (take gone all) now is taken) in
         let first = length-take-le gone all (runs_fit (length all)) in
@@ -132,7 +132,7 @@ module _ (blocks : List Block) (skip : ℕ) (tail : List Row) (h : ℤ) (live : 
         ∙ append_assoc old (take gone all) (drop gone all) ∙ ap (λ (l : List Row). old ++ l) (take-append-drop gone all) ∙ sym (append_assoc old tail (rows_from h more))
 
 -- the same, by what is known of the calls
-module _ (blocks : List Block) (skip : ℕ) (tail : List Row) (h : ℤ) (live : ℕ) (s : Stands blocks skip tail h live) (more : List Row) (are : AllByRecursion IsRow more) (full : List Row)
+module _ (blocks : List Block) (skip : ℕ) (tail : List Row) (h : ℤ) (live : ℕ) (s : StoreStands blocks skip tail h live) (more : List Row) (are : AllByRecursion IsRow more) (full : List Row)
     (put : full ≡ tail ++ rows_from h more) (now : List Block) (is : AreSealed blocks (take (in_runs (length full)) full) now) (rest : List Row) (left : rest ≡ drop (in_runs (length full)) full) where
   behind : AreSealed blocks (take (in_runs (length (tail ++ rows_from h more))) (tail ++ rows_from h more)) now
   behind = subst (λ (l : List Row). AreSealed blocks (take (in_runs (length l)) l) now) put is
@@ -140,10 +140,10 @@ module _ (blocks : List Block) (skip : ℕ) (tail : List Row) (h : ℤ) (live : 
   others : rest ≡ drop (in_runs (length (tail ++ rows_from h more))) (tail ++ rows_from h more)
   others = left ∙ ap (λ (l : List Row). drop (in_runs (length l)) l) put
 
-  pub add_stands : (count : ℕ) → count ≡ in_runs (length full) → live + length tail + length (rows_from h more) ≤ most_rows → Stands now skip rest h (live + count)
+  pub add_stands : (count : ℕ) → count ≡ in_runs (length full) → live + length tail + length (rows_from h more) ≤ most_rows → StoreStands now skip rest h (live + count)
   add_stands count e few =
-      subst (λ (l : List Row). Stands now skip l h (live + count)) (sym others)
-      (subst (λ (n : ℕ). Stands now skip (drop (in_runs (length (tail ++ rows_from h more))) (tail ++ rows_from h more)) h (live + n)) (sym (e ∙ ap (λ (l : List Row). in_runs (length l)) put))
+      subst (λ (l : List Row). StoreStands now skip l h (live + count)) (sym others)
+      (subst (λ (n : ℕ). StoreStands now skip (drop (in_runs (length (tail ++ rows_from h more))) (tail ++ rows_from h more)) h (live + n)) (sym (e ∙ ap (λ (l : List Row). in_runs (length l)) put))
       (added_stands blocks skip tail h live s more are now behind few))
 
   pub add_rows : sealed_rows now skip h ++ rest ≡ (sealed_rows blocks skip h ++ tail) ++ rows_from h more
@@ -151,7 +151,7 @@ module _ (blocks : List Block) (skip : ℕ) (tail : List Row) (h : ℤ) (live : 
 
 -- ---- an expiry
 
-module _ (blocks : List Block) (skip : ℕ) (tail : List Row) (h g now : ℤ) (later : now ≡ int_max h g) (live : ℕ) (s : Stands blocks skip tail h live) (law : HorizonsExpire)
+module _ (blocks : List Block) (skip : ℕ) (tail : List Row) (h g now : ℤ) (later : now ≡ int_max h g) (live : ℕ) (s : StoreStands blocks skip tail h live) (law : HorizonsExpire)
     (left : List Block) (cut : ℕ) (same : sealed_rows left cut now ≡ sealed_rows blocks skip now) where
   from_max : sealed_rows blocks skip (int_max h g) ≡ rows_from (int_max h g) (sealed_rows blocks skip h)
   unfolding sealed_rows
@@ -174,10 +174,10 @@ module _ (blocks : List Block) (skip : ℕ) (tail : List Row) (h g now : ℤ) (l
   raised_few = omega (arith, raised_fewer, s.few)
 
   pub raised_stands : (rest : List Row) (counted : ℕ) → rest ≡ rows_from now tail → IsTime now → IsSkip cut left → AllByRecursion IsBlock left → counted ≡ length (sealed_rows left cut now)
-      → Stands left cut rest now counted
+      → StoreStands left cut rest now counted
   raised_stands rest counted e time inside sealed is =
       let fewer = few_from now tail in
-      subst (λ (l : List Row). Stands left cut l now counted) (sym e) (record {
+      subst (λ (l : List Row). StoreStands left cut l now counted) (sym e) (record {
         time = time;
         cut = inside;
         sealed = sealed;
@@ -213,7 +213,7 @@ drop_two (x ∷ xs) ys (suc k) (suc f) low high full =
     ap (λ (m : ℕ). drop f xs ++ drop m ys) same
     ∙ drop_two xs ys k f (omega (arith, low)) (omega (arith, high)) (λ less. omega (arith, full (omega (arith, less))))
 
-module _ (blocks : List Block) (skip : ℕ) (tail : List Row) (h : ℤ) (live : ℕ) (s : Stands blocks skip tail h live) (n gone first : ℕ) (is : gone ≡ live + length tail - n)
+module _ (blocks : List Block) (skip : ℕ) (tail : List Row) (h : ℤ) (live : ℕ) (s : StoreStands blocks skip tail h live) (n gone first : ℕ) (is : gone ≡ live + length tail - n)
     (low : first ≤ gone) (high : first ≤ live) (full : first < live → first ≡ gone) (left : List Block) (cut : ℕ) (same : sealed_rows left cut h ≡ drop first (sealed_rows blocks skip h)) where
   pub kept_rows : sealed_rows left cut h ++ drop (gone - first) tail ≡ last_rows n (sealed_rows blocks skip h ++ tail)
   kept_rows =
@@ -223,7 +223,7 @@ module _ (blocks : List Block) (skip : ℕ) (tail : List Row) (h : ℤ) (live : 
       ∙ drop_two old tail gone first low (omega (arith, high, s.counted)) (λ less. full (omega (arith, less, s.counted)))
       ∙ ap (λ (m : ℕ). drop m (old ++ tail)) all
 
-  pub kept_stands : IsSkip cut left → AllByRecursion IsBlock left → Stands left cut (drop (gone - first) tail) h (live - first)
+  pub kept_stands : IsSkip cut left → AllByRecursion IsBlock left → StoreStands left cut (drop (gone - first) tail) h (live - first)
   kept_stands inside sealed =
       let count = ap (λ (l : List Row). length l) same in
       let rest = length-drop (gone - first) tail in
@@ -239,11 +239,11 @@ module _ (blocks : List Block) (skip : ℕ) (tail : List Row) (h : ℤ) (live : 
 
 -- ---- a tail that is sealed
 
-module _ (blocks : List Block) (skip : ℕ) (tail : List Row) (h : ℤ) (live : ℕ) (s : Stands blocks skip tail h live) (now : List Block) (is : AreSealed blocks tail now) where
+module _ (blocks : List Block) (skip : ℕ) (tail : List Row) (h : ℤ) (live : ℕ) (s : StoreStands blocks skip tail h live) (now : List Block) (is : AreSealed blocks tail now) where
   pub tail_rows : sealed_rows now skip h ++ [] ≡ sealed_rows blocks skip h ++ tail
   tail_rows = append-nil (sealed_rows now skip h) ∙ sealed_rows_are blocks skip tail h live s tail now is s.each
 
-  pub tail_stands : Stands now skip [] h (live + length tail)
+  pub tail_stands : StoreStands now skip [] h (live + length tail)
   tail_stands = record {
     time = s.time;
     cut = sealed_cut blocks skip tail h live s tail now is s.each;
@@ -256,7 +256,7 @@ module _ (blocks : List Block) (skip : ℕ) (tail : List Row) (h : ℤ) (live : 
 
 -- ---- parts
 
-pub parts_of : (blocks : List Block) (skip : ℕ) (tail : List Row) (h : ℤ) (live : ℕ) → Stands blocks skip tail h live → (writes : ℕ) (pending : Option LogRecord) → tail ≡ []
+pub parts_of : (blocks : List Block) (skip : ℕ) (tail : List Row) (h : ℤ) (live : ℕ) → StoreStands blocks skip tail h live → (writes : ℕ) (pending : Option LogRecord) → tail ≡ []
     → IsPartsOf (record { horizon = h; writes = writes; skip = skip; blocks = blocks }) (standing blocks skip tail h writes pending)
 parts_of blocks skip tail h live s writes pending none = record {
   contents = ap (λ (rows : List Row). record { rows = rows; horizon = h }) (all_rows blocks [] skip h tt ∙ ap (λ (l : List Row). sealed_rows blocks skip h ++ l) (sym none));
@@ -266,7 +266,7 @@ parts_of blocks skip tail h live s writes pending none = record {
   tail = none;
 }
 
-pub are_parts : (blocks : List Block) (skip : ℕ) (tail : List Row) (h : ℤ) (live : ℕ) → Stands blocks skip tail h live → (writes : ℕ) → tail ≡ []
+pub are_parts : (blocks : List Block) (skip : ℕ) (tail : List Row) (h : ℤ) (live : ℕ) → StoreStands blocks skip tail h live → (writes : ℕ) → tail ≡ []
     → IsParts (record { horizon = h; writes = writes; skip = skip; blocks = blocks })
 are_parts blocks skip tail h live s writes none = record {
   horizon = s.time;
@@ -280,9 +280,9 @@ parts_few p is =
     let count = ap (λ (l : List Row). length l) (all_rows p.blocks [] p.skip p.horizon tt ∙ append-nil (sealed_rows p.blocks p.skip p.horizon)) in omega (arith, count, is.few)
 
 pub parts_stand : (p : Parts) (blocks : List Block) (tail : List Row) (live : ℕ) → IsParts p → blocks ≡ p.blocks → tail ≡ [] → live ≡ length (sealed_rows p.blocks p.skip p.horizon)
-    → Stands blocks p.skip tail p.horizon live
+    → StoreStands blocks p.skip tail p.horizon live
 parts_stand p blocks tail live is same none counted =
-    subst (λ (l : List Block). Stands l p.skip tail p.horizon live) (sym same) (subst (λ (l : List Row). Stands p.blocks p.skip l p.horizon live) (sym none) (record {
+    subst (λ (l : List Block). StoreStands l p.skip tail p.horizon live) (sym same) (subst (λ (l : List Row). StoreStands p.blocks p.skip l p.horizon live) (sym none) (record {
       time = is.horizon;
       cut = is.skip;
       sealed = is.blocks;
@@ -304,9 +304,9 @@ parts_told p blocks tail pending same none =
 
 -- ---- no rows
 
-pub none_stand : (blocks : List Block) (tail : List Row) (h : ℤ) → blocks ≡ [] → tail ≡ [] → IsTime h → Stands blocks 0 tail h 0
+pub none_stand : (blocks : List Block) (tail : List Row) (h : ℤ) → blocks ≡ [] → tail ≡ [] → IsTime h → StoreStands blocks 0 tail h 0
 none_stand blocks tail h no_blocks none time =
-    subst (λ (l : List Block). Stands l 0 tail h 0) (sym no_blocks) (subst (λ (l : List Row). Stands [] 0 l h 0) (sym none) (record {
+    subst (λ (l : List Block). StoreStands l 0 tail h 0) (sym no_blocks) (subst (λ (l : List Row). StoreStands [] 0 l h 0) (sym none) (record {
       time = time;
       cut = refl;
       sealed = tt;

@@ -1,8 +1,8 @@
--- How rows stand: sealed blocks, of the first of which some rows are cut off, and then a tail.
+-- How rows stand: sealed blocks, the first with some rows cut off, and then a tail.
 use Rattle.std.specs.Prelude.{◌≡◌, ℕ, ◌+◌, ◌*◌, ◌/◌, ◌≤◌, List, [], ◌∷◌, ◌++◌, length, if◌then◌else◌, true, int_le, ℤ, Option, Some, None, IfSome, ⊤}
 use Rattle.std.specs.List.{AllByRecursion}
-use Rattle.leaf_model.specs.declared.rows.Row.{Row}
-use Rattle.leaf_model.specs.Values.{IsTime}
+use Rattle.row_model.specs.declared.rows.Row.{Row}
+use Rattle.row_model.specs.Values.{IsTime}
 use Rattle.row_blocks.specs.Blocks.{Block, IsBlock}
 use Rattle.row_blocks.specs.Held.{IsSkip, block_rows, blocks_held, columns_count, live_rows, rows_and_cells}
 use Rattle.row_blocks.specs.Live.{has_live}
@@ -12,7 +12,7 @@ use Rattle.table_state.specs.Tables.{IsHeldRow, most_rows}
 abbrev pub in_runs : ℕ → ℕ
 in_runs n = n / 65536 * 65536
 
--- the rows that the blocks hold, of which the first `skip` are cut off
+-- the rows of the blocks after the first `skip`, which are cut off
 unfoldable pub sealed_rows : List Block → ℕ → ℤ → List Row
 sealed_rows blocks skip horizon = blocks_held blocks skip horizon
 
@@ -50,7 +50,7 @@ AreAhead n (b ∷ blocks) skip horizon = n ≤ length (live_rows skip horizon b)
 
 -- the invariant of a table's fields: the cut leaves some row of the first block, the tail is short and has no row below
 -- the horizon, and `live` counts the live rows of the blocks
-pub record Stands (blocks : List Block) (skip : ℕ) (tail : List Row) (horizon : ℤ) (live : ℕ) : Type 0 where
+pub record StoreStands (blocks : List Block) (skip : ℕ) (tail : List Row) (horizon : ℤ) (live : ℕ) : Type 0 where
   pub time : IsTime horizon
   pub cut : IsSkip skip blocks
   pub sealed : AllByRecursion IsBlock blocks

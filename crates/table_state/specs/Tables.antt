@@ -3,10 +3,10 @@ use Rattle.std.specs.Prelude.{◌≡◌, ℕ, ◌+◌, ◌-◌, ◌<◌, ◌≤�
 use Rattle.std.specs.List.{AllByRecursion, flat_map}
 use Rattle.std.specs.Ordering.{eq_by_cmp}
 use Rattle.std.specs.Set.{distinct_count}
-use Rattle.leaf_model.specs.declared.rows.Row.{Row}
+use Rattle.row_model.specs.declared.rows.Row.{Row}
 use Rattle.leaf_model.specs.declared.writes.Write.{Write}
 use Rattle.leaf_model.specs.declared.writes.Write.TheVariants.{Add, Expire, Keep}
-use Rattle.leaf_model.specs.Values.{IsRow, IsTime}
+use Rattle.row_model.specs.Values.{IsRow, IsTime}
 use Rattle.leaf_model.specs.Content.{Contents, nothing, content_after, kept_count, late_count, removed_count}
 use Rattle.row_blocks.specs.Blocks.{Block, IsBlock}
 use Rattle.row_blocks.specs.Held.{IsSkip, columns_count, rows_and_cells, rows_held}
@@ -128,8 +128,8 @@ Seals t (Ok done) now = (bare now ≡ bare t) × (now.store.tail ≡ [])
 Seals t (Err e) now = now ≡ t
 
 -- the contents that parts stand for
-abbrev pub contents_of : Parts → Contents
-contents_of parts = record { rows = rows_held parts.blocks [] parts.skip parts.horizon; horizon = parts.horizon }
+abbrev pub contents_of_parts : Parts → Contents
+contents_of_parts parts = record { rows = rows_held parts.blocks [] parts.skip parts.horizon; horizon = parts.horizon }
 
 -- valid parts of a table
 pub record IsParts (parts : Parts) : Type 0 where
@@ -140,7 +140,7 @@ pub record IsParts (parts : Parts) : Type 0 where
 
 -- these are the parts of a table with an empty tail
 pub record IsPartsOf (parts : Parts) (t : Table) : Type 0 where
-  pub contents : contents_of parts ≡ t.contents
+  pub contents : contents_of_parts parts ≡ t.contents
   pub writes : parts.writes ≡ t.writes
   pub skip : parts.skip ≡ t.store.skip
   pub blocks : parts.blocks ≡ t.store.blocks

@@ -7,7 +7,7 @@ pub enum AddFault {
     NoMemory,
 }
 
-/// How many rows of an add were kept, and how many were late.
+/// The numbers of rows of an add that were kept and that were late.
 #[derive(Clone, Copy, PartialEq, Eq)]
 pub struct Added {
     pub kept: u64,

@@ -8,17 +8,17 @@ ghost use Rattle.table_state.specs.Tables.{most_rows};
 
 use row_blocks::{Blocks, RowBlock};
 
-/// The first `skip` rows of the first block are cut off. At least `ahead` of its other rows are live. A keep that
-/// removes fewer rows does not count them.
+/// The first `skip` rows of the first block are cut off, and at least `ahead` of its others are live: a keep that
+/// removes fewer rows need not count them.
 #[derive(Clone, Copy)]
 pub struct Cut {
     pub skip: u32,
     pub ahead: u32,
 }
 
-/// How many blocks go from the front, and the cut of the next one.
+/// The number of blocks to remove from the start, and the cut of the next one.
 #[derive(Clone, Copy)]
-struct Front {
+struct FrontCut {
     blocks: usize,
     skip: u32,
     ahead: u32,
@@ -91,7 +91,7 @@ pub fn leave_live(blocks: &mut Blocks, skip: u32, horizon: i64) -> u32
 }
 
 /// The place after the first `gone` live rows.
-fn front_of(blocks: &[RowBlock], skip: u32, horizon: i64, gone: u64) -> Front
+fn front_of(blocks: &[RowBlock], skip: u32, horizon: i64, gone: u64) -> FrontCut
     requires cut { IsCut skip blocks.now }
     requires few { gone ≤ length (sealed_rows blocks.now skip horizon) }
     ensures blocks { result.blocks ≤ length blocks.now }
@@ -107,7 +107,7 @@ fn front_of(blocks: &[RowBlock], skip: u32, horizon: i64, gone: u64) -> Front
         if left < u64::from(live) {
             let skip = blocks[i].place_behind(cut, horizon, left as u32);
             let ahead = live - left as u32;
-            return Front {
+            return FrontCut {
                 blocks: i,
                 skip,
                 ahead,
@@ -116,7 +116,7 @@ fn front_of(blocks: &[RowBlock], skip: u32, horizon: i64, gone: u64) -> Front
         left -= u64::from(live);
         cut = 0;
     }
-    Front {
+    FrontCut {
         blocks: blocks.len(),
         skip: 0,
         ahead: 0,

@@ -3,7 +3,7 @@ ghost use Rattle.std.specs.Prelude.{◌≡◌, ◌+◌, ◌<◌, ◌≤◌, ◌+
 ghost use Rattle.std.specs.List.{AllByRecursion};
 ghost use Rattle.leaf_model.specs.Content.{rows_from};
 ghost use Rattle.leaf_model.specs.Lent.{lent_rows};
-ghost use Rattle.leaf_model.specs.Values.{IsRow};
+ghost use Rattle.row_model.specs.Values.{IsRow};
 ghost use Rattle.row_blocks.specs.Blocks.{IsBlock};
 ghost use Rattle.row_blocks.specs.Held.{block_rows, columns_count, rows_and_cells};
 ghost use Rattle.table_state.specs.Stored.{AreSealed, in_runs};
@@ -41,8 +41,8 @@ fn runs_of(alloc: Global, rows: &LentRows) -> Result<Vec<RowBlock>, AllocError>
     Ok(blocks)
 }
 
-/// Seals each whole run at the front of the tail, and appends the blocks. The tail stays as it is, and so do the blocks
-/// after Err.
+/// Seals each whole run at the start of the tail and appends the blocks. The tail stays as it is; after Err the blocks
+/// stay too.
 fn seal_runs(blocks: &mut Blocks, tail: &Tail) -> Result<(), AllocError>
     ensures sealed { OnOk result (AreSealed blocks.old (take (in_runs (length tail.now)) tail.now) blocks.new) }
     ensures refused { OnErr result (blocks.new ≡ blocks.old) }
@@ -52,8 +52,8 @@ fn seal_runs(blocks: &mut Blocks, tail: &Tail) -> Result<(), AllocError>
     blocks.append(sealed)
 }
 
-/// Does what can fail of an add. It appends the new rows that are not late to the tail, if there are at most 2^40 rows
-/// then, and seals the whole runs. Gives the number of rows that it appended.
+/// Does the part of an add that can fail: appends the rows that are not late to the tail, if the table then has at most
+/// 2^40 rows, and seals the whole runs. Gives the number of appended rows.
 pub fn prepare(
     live: u64,
     blocks: &mut Blocks,
@@ -88,7 +88,7 @@ pub fn prepare(
     Ok((tail.len() - before) as u64)
 }
 
-/// Removes the whole runs from the front of the tail. Gives their number of rows.
+/// Removes the whole runs from the start of the tail. Gives their number of rows.
 pub fn drop_runs(tail: &mut Tail) -> u64
     ensures rows { tail.new ≡ drop (in_runs (length tail.old)) tail.old }
     ensures gone { result ≡ in_runs (length tail.old) }

@@ -2,7 +2,8 @@
 ghost use Rattle.std.specs.Prelude.{◌≡◌, ◌+◌, ◌≤◌, ◌<◌, ◌-◌, ◌^◌, [], None, length};
 ghost use Rattle.std.specs.List.{AllByRecursion};
 ghost use Rattle.leaf_model.specs.Lent.{lent_rows};
-ghost use Rattle.leaf_model.specs.Values.{IsRow, IsTime, IsWrite};
+ghost use Rattle.row_model.specs.Values.{IsRow, IsTime};
+ghost use Rattle.leaf_model.specs.Writes.{IsWrite};
 ghost use Rattle.leaf_model.specs.declared.writes.Write.TheVariants.{Add, Expire, Keep};
 ghost use Rattle.row_blocks.specs.Held.{rows_and_cells};
 ghost use Rattle.table_state.specs.Tables.{added_by, bare, columns_most, empty_table, most_rows, replayed, Adds, IsParts, IsPartsOf, IsStored, MayWrite, Removes, Replays, Seals, Takes};
@@ -38,13 +39,22 @@ pub struct TableState {
 impl Model for TableState {
     ghost use Rattle.std.specs.Prelude.{◌++◌};
     ghost use Rattle.table_state.specs.Tables.{Table};
-    ghost use Rattle.table_state.specs.Stored.{AreAhead, Stands, sealed_rows};
+    ghost use Rattle.table_state.specs.Stored.{AreAhead, StoreStands, sealed_rows};
 
     ghost Value = { Table };
 
-    ghost view = { λ t. record { contents = record { rows = sealed_rows t.blocks t.skip t.horizon ++ t.tail; horizon = t.horizon }; writes = t.writes; pending = t.pending; store = record { blocks = t.blocks; skip = t.skip; tail = t.tail } } };
+    ghost view = { λ t. record {
+      contents = record {
+        rows = sealed_rows t.blocks t.skip t.horizon ++ t.tail;
+        horizon = t.horizon;
+      };
+      writes = t.writes;
+      pending = t.pending;
+      store = record { blocks = t.blocks; skip = t.skip; tail = t.tail };
+    } };
 
-    ghost invariant = { λ t. Stands t.blocks t.skip t.tail t.horizon t.live × AreAhead t.ahead t.blocks t.skip t.horizon };
+    ghost invariant = { λ t. StoreStands t.blocks t.skip t.tail t.horizon t.live
+        × AreAhead t.ahead t.blocks t.skip t.horizon };
 }
 
 impl TableState {
@@ -250,7 +260,7 @@ impl TableState {
         self.tail.lend()
     }
 
-    /// How many rows of the first block are cut off.
+    /// The number of rows that are cut off the first block.
     pub fn skip(&self) -> u32
         ensures { result ≡ self.now.store.skip }
     {

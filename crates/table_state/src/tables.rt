@@ -18,7 +18,10 @@ impl Model for Tables {
 
     ghost Value = { HeldTables };
 
-    ghost view = { λ tables. record { each = map bare tables.inner.items; columns = map (λ (t : Table). columns_most t.store) tables.inner.items } };
+    ghost view = { λ tables. record {
+      each = map bare tables.inner.items;
+      columns = map (λ (t : Table). columns_most t.store) tables.inner.items;
+    } };
 }
 
 impl Tables {

@@ -3,7 +3,7 @@ ghost use Rattle.std.specs.Prelude.{◌≡◌, ◌≤◌, ◌++◌, [], drop, in
 ghost use Rattle.std.specs.List.{AllByRecursion};
 ghost use Rattle.leaf_model.specs.Content.{rows_from};
 ghost use Rattle.leaf_model.specs.Lent.{lent_rows};
-ghost use Rattle.leaf_model.specs.Values.{IsRow};
+ghost use Rattle.row_model.specs.Values.{IsRow};
 ghost use Rattle.table_state.specs.Stored.{AreFrom};
 
 use crate::order::{ascend_on, drop_below, last_known, last_left};
@@ -23,7 +23,7 @@ pub struct Tail {
 
 impl Model for Tail {
     ghost use Rattle.std.specs.Prelude.{List};
-    ghost use Rattle.leaf_model.specs.declared.rows.Row.{Row};
+    ghost use Rattle.row_model.specs.declared.rows.Row.{Row};
     ghost use Rattle.table_state.specs.Stored.{AreNoted};
 
     ghost Value = { List Row };

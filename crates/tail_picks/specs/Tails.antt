@@ -36,15 +36,15 @@ module _ {R : Type 0} (free : R → Option ℕ) (is_added : R → Bool) where
   abbrev pub sent_by : TryOf R → Option ℕ
   sent_by t = option_and_then (λ r. if is_added r then pick_of t else None) t.added
 
-  -- a try whose add was accepted is the last one
-  abbrev pub Goes : Option ℕ → List (TryOf R) → Option ℕ → Type 0 → Type 0
-  Goes (Some leaf) ts sent more = (ts ≡ []) × (sent ≡ Some leaf)
-  Goes None ts sent more = more
+  -- a tail ends after the try whose add was accepted
+  abbrev pub TryGoesOn : Option ℕ → List (TryOf R) → Option ℕ → Type 0 → Type 0
+  TryGoesOn (Some leaf) ts sent more = (ts ≡ []) × (sent ≡ Some leaf)
+  TryGoesOn None ts sent more = more
 
   -- The tries over n leaves, two words each, and the leaf that took the rows: None if the words ran out first.
   abbrev pub Tails : ℕ → List ℕ → List (TryOf R) → Option ℕ → Type 0
   Tails n [] [] sent = sent ≡ None
-  Tails n (u ∷ v ∷ words) (t ∷ ts) sent = IsTry n u v t × Goes (sent_by t) ts sent (Tails n words ts sent)
+  Tails n (u ∷ v ∷ words) (t ∷ ts) sent = IsTry n u v t × TryGoesOn (sent_by t) ts sent (Tails n words ts sent)
   Tails n _ _ sent = ⊥
 
 -- the generator of a key's words

@@ -3,7 +3,7 @@ use Rattle.std.proofs.Common.{◌≡◌, ℕ, zero, suc, List, [], ◌∷◌, �
 use Rattle.std.specs.Prelude.{slice_get, slice_set, option_and_then}
 use Rattle.std.specs.List.{AllByRecursion}
 use Rattle.std.proofs.lemmas.List.{append-nil}
-use Rattle.leaf_model.specs.declared.rows.Row.{Row}
+use Rattle.row_model.specs.declared.rows.Row.{Row}
 use Rattle.leaf_model.specs.declared.queries.Query.{Query}
 use Rattle.leaf_model.specs.declared.groups.Group.{Group}
 use Rattle.leaf_model.specs.Groups.{groups}
@@ -19,11 +19,11 @@ use Rattle.leaf_table.specs.Turns.{Shared}
 use Rattle.leaf_table.specs.Lists.{place}
 use Rattle.leaf_table.specs.Calls.{SeatView, SameSeat, Answered, IsToldAs, Replied, base_seen, entry_seen, seen_of, state_before}
 use Rattle.aggregator.specs.Asks.{Asked}
-use Rattle.aggregator.specs.Partial.{GoOn, bases_in, rows_before}
+use Rattle.aggregator.specs.Partial.{SeatsGoOn, bases_in, rows_seen_before}
 use Rattle.aggregator.proofs.Replies.{all_over}
 use Rattle.tail_picks.specs.Room.{every_row}
 use Rattle.tail_picks.specs.Tails.{TryOf, pick_of}
-use Rattle.tailer.specs.Calls.{LeafCall, CallAt, CallsOn, IsOverRows, adding, asking_also, calls_in, free_of, is_added}
+use Rattle.tailer.specs.Calls.{LeafCall, CallAt, CallsOn, IsOverRows, adding, asking_also, calls_of_tries, free_of, is_added}
 use Rattle.tailer.proofs.Calling.{before_set, same_some, set_here}
 
 -- ---- which calls a tail makes
@@ -49,12 +49,12 @@ add_of_tail rows (Some leaf) (Some r) = (tt, tt)
 add_of_tail rows (Some leaf) None = tt
 add_of_tail rows None r = tt
 
-all_of_tail : (rows : List Row) (ts : List (TryOf Reply)) → AreOfTail (calls_in rows ts)
+all_of_tail : (rows : List Row) (ts : List (TryOf Reply)) → AreOfTail (calls_of_tries rows ts)
 all_of_tail rows [] = tt
 all_of_tail rows (t ∷ ts) =
     let pick = pick_of free_of is_added t in
     let rest = both_parts (asking_also t.second t.two) (adding rows pick t.added) (also_of_tail t.second t.two) (add_of_tail rows pick t.added) in
-    (refl, both_parts (asking_also t.second t.two ++ adding rows pick t.added) (calls_in rows ts) rest (all_of_tail rows ts))
+    (refl, both_parts (asking_also t.second t.two ++ adding rows pick t.added) (calls_of_tries rows ts) rest (all_of_tail rows ts))
 
 -- ---- a seat sees more and more
 
@@ -74,19 +74,19 @@ sees_more base v w c (told.NoMemory number) a = replied_more base v w c (told.No
 
 -- a query is over the rows before its entry: the clause over all leaves, of a fleet of this one
 asked_over : (shared : Shared) (q : Query) (v w : SeatView) (number : ℕ) (gs : List Group) (entries more : List Entry) → IsSeatOf w shared.site → SameSeat v w
-    → entries ≡ seen_of w ++ more → Answered (base_seen shared) v (call.Ask q) (told.Groups number gs) w → gs ≡ groups q (rows_before (base_seen shared) entries number)
+    → entries ≡ seen_of w ++ more → Answered (base_seen shared) v (call.Ask q) (told.Groups number gs) w → gs ≡ groups q (rows_seen_before (base_seen shared) entries number)
 asked_over shared q v w number gs entries more seat same is a =
     let fleet : List (List Shared) = (shared ∷ []) ∷ [] in
     let replies : List Reply = told.Groups number gs ∷ [] in
     let asked : Asked q fleet 0 0 (v ∷ []) replies (w ∷ []) = (record { shared = shared; stands = refl; answered = a; seat = seat; same = same }, tt) in
-    (all_over q fleet 0 (λ leaf. entries) (v ∷ []) replies (w ∷ []) go asked).0 ∙ ap (groups q) (append-nil (rows_before (base_seen shared) entries number))
+    (all_over q fleet 0 (λ leaf. entries) (v ∷ []) replies (w ∷ []) go asked).0 ∙ ap (groups q) (append-nil (rows_seen_before (base_seen shared) entries number))
   where
     go : (leaf : ℕ) (u : SeatView) → slice_get (w ∷ []) leaf ≡ Some u → (more : List Entry) × (entries ≡ seen_of u ++ more)
     go zero u e = let own : w ≡ u = cc in (more, is ∙ ap (λ (x : SeatView). seen_of x ++ more) own)
     go (suc leaf) u e = absurd cc
 
 -- an add is not answered with groups
-no_groups : (s : HistoryState) (rows : List Row) (m n : ℕ) (gs : List Group) (r : reply.Reply) → AddReply s rows r → IsToldAs m r (told.Groups n gs) → ⊥
+no_groups : (s : HistoryState) (rows : List Row) (m n : ℕ) (gs : List Group) (r : reply.EntryReply) → AddReply s rows r → IsToldAs m r (told.Groups n gs) → ⊥
 no_groups s rows m n gs (reply.Added kept late) may is = cc
 no_groups s rows m n gs reply.Shut may is = cc
 no_groups s rows m n gs reply.Full may is = cc
@@ -97,9 +97,9 @@ no_groups s rows m n gs (reply.Counted k) may is = may
 no_groups s rows m n gs reply.Noted may is = may
 
 groups_over : (shared : Shared) (c : Call) (v w : SeatView) (number : ℕ) (gs : List Group) (entries more : List Entry) → IsOfTail c → IsSeatOf w shared.site → SameSeat v w
-    → entries ≡ seen_of w ++ more → Answered (base_seen shared) v c (told.Groups number gs) w → gs ≡ groups every_row (rows_before (base_seen shared) entries number)
+    → entries ≡ seen_of w ++ more → Answered (base_seen shared) v c (told.Groups number gs) w → gs ≡ groups every_row (rows_seen_before (base_seen shared) entries number)
 groups_over shared (call.Ask q) v w number gs entries more ours seat same is a =
-    asked_over shared q v w number gs entries more seat same is a ∙ ap (λ (p : Query). groups p (rows_before (base_seen shared) entries number)) ours
+    asked_over shared q v w number gs entries more seat same is a ∙ ap (λ (p : Query). groups p (rows_seen_before (base_seen shared) entries number)) ours
 groups_over shared (call.Add rows) v w number gs entries more ours seat same is a =
     absurd (no_groups (state_before (base_seen shared) v a.2.between) rows _ number gs a.1 a.2.allowed.1 a.3)
 groups_over shared (call.Expire horizon) v w number gs entries more ours seat same is a = absurd ours
@@ -115,7 +115,7 @@ module _ (fleet : List (List Shared)) (table : ℕ) (histories : ℕ → List En
       → histories leaf ≡ seen_of w ++ more → Answered (base_seen shared) v c x w → IsOverRows (bases_in fleet table) histories (record { leaf = leaf; call = c; reply = x })
   reply_over shared leaf c (told.Groups number gs) v w more stands ours seat same is a =
       groups_over shared c v w number gs (histories leaf) more ours seat same is a
-      ∙ ap (λ (t : Option Shared). groups every_row (rows_before (option_and_then base_seen t) (histories leaf) number)) (sym stands)
+      ∙ ap (λ (t : Option Shared). groups every_row (rows_seen_before (option_and_then base_seen t) (histories leaf) number)) (sym stands)
   reply_over shared leaf c (told.Added number kept late) v w more stands ours seat same is a = tt
   reply_over shared leaf c (told.Removed number rows) v w more stands ours seat same is a = tt
   reply_over shared leaf c (told.Shut number) v w more stands ours seat same is a = tt
@@ -127,13 +127,13 @@ module _ (fleet : List (List Shared)) (table : ℕ) (histories : ℕ → List En
   after_call : (vs ws : List SeatView) (c : LeafCall) (h : CallAt fleet table vs c ws) → slice_get ws c.leaf ≡ Some h.after
   after_call vs ws c h = ap (λ (us : List SeatView). slice_get us c.leaf) h.now ∙ set_here vs c.leaf h.before h.after h.was
 
-  call_over : (vs ws : List SeatView) (c : LeafCall) → IsOfTail c.call → CallAt fleet table vs c ws → GoOn ws histories → IsOverRows (bases_in fleet table) histories c
+  call_over : (vs ws : List SeatView) (c : LeafCall) → IsOfTail c.call → CallAt fleet table vs c ws → SeatsGoOn ws histories → IsOverRows (bases_in fleet table) histories c
   call_over vs ws c ours h go =
       let on = go c.leaf h.after (after_call vs ws c h) in
       reply_over h.shared c.leaf c.call c.reply h.before h.after on.0 h.stands ours h.seat h.same on.1 h.answered
 
   -- what goes on behind a call goes on before it
-  earlier : (vs ws : List SeatView) (c : LeafCall) → CallAt fleet table vs c ws → GoOn ws histories → GoOn vs histories
+  earlier : (vs ws : List SeatView) (c : LeafCall) → CallAt fleet table vs c ws → SeatsGoOn ws histories → SeatsGoOn vs histories
   earlier vs ws c h go = λ leaf u is. by leaf u is (before_set vs c.leaf h.after leaf u is)
     where
       by : (leaf : ℕ) (u : SeatView) → slice_get vs leaf ≡ Some u → (leaf ≡ c.leaf) ⊎ (slice_get (slice_set vs c.leaf h.after) leaf ≡ Some u) → (more : List Entry) × (histories leaf ≡ seen_of u ++ more)
@@ -147,13 +147,13 @@ module _ (fleet : List (List Shared)) (table : ℕ) (histories : ℕ → List En
 
   -- ---- what all calls saw
 
-  calls_over : (vs : List SeatView) (cs : List LeafCall) (ws : List SeatView) → AreOfTail cs → CallsOn fleet table vs cs ws → GoOn ws histories
-      → AllByRecursion (IsOverRows (bases_in fleet table) histories) cs × GoOn vs histories
-  calls_over vs [] ws ours h go = (tt, subst (λ (us : List SeatView). GoOn us histories) h go)
+  calls_over : (vs : List SeatView) (cs : List LeafCall) (ws : List SeatView) → AreOfTail cs → CallsOn fleet table vs cs ws → SeatsGoOn ws histories
+      → AllByRecursion (IsOverRows (bases_in fleet table) histories) cs × SeatsGoOn vs histories
+  calls_over vs [] ws ours h go = (tt, subst (λ (us : List SeatView). SeatsGoOn us histories) h go)
   calls_over vs (c ∷ cs) ws ours h go =
       let rest = calls_over h.0 cs ws ours.1 h.2 go in
       ((call_over vs h.0 c ours.0 h.1 rest.1, rest.0), earlier vs h.0 c h.1 rest.1)
 
-  pub all_seen : (rows : List Row) (vs ws : List SeatView) (ts : List (TryOf Reply)) → CallsOn fleet table vs (calls_in rows ts) ws → GoOn ws histories
-      → AllByRecursion (IsOverRows (bases_in fleet table) histories) (calls_in rows ts)
-  all_seen rows vs ws ts h go = (calls_over vs (calls_in rows ts) ws (all_of_tail rows ts) h go).0
+  pub all_seen : (rows : List Row) (vs ws : List SeatView) (ts : List (TryOf Reply)) → CallsOn fleet table vs (calls_of_tries rows ts) ws → SeatsGoOn ws histories
+      → AllByRecursion (IsOverRows (bases_in fleet table) histories) (calls_of_tries rows ts)
+  all_seen rows vs ws ts h go = (calls_over vs (calls_of_tries rows ts) ws (all_of_tail rows ts) h go).0

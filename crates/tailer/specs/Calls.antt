@@ -3,7 +3,7 @@ use Rattle.std.specs.Prelude.{◌≡◌, ℕ, zero, suc, Bool, true, false, List
 use Rattle.std.specs.List.{flat_map}
 use Rattle.rand_pcg.specs.Lcg.{Lcg}
 use Rattle.rand_pcg.specs.Pcg.{pcg32}
-use Rattle.leaf_model.specs.declared.rows.Row.{Row}
+use Rattle.row_model.specs.declared.rows.Row.{Row}
 use Rattle.leaf_model.specs.Groups.{groups}
 use Rattle.leaf_history.specs.Calls.{Call}
 use Rattle.leaf_history.specs.Calls as call
@@ -15,7 +15,7 @@ use Rattle.leaf_table.specs.declared.replies.Reply.TheVariants as told
 use Rattle.leaf_table.specs.Turns.{Shared}
 use Rattle.leaf_table.specs.Calls.{SeatView, SameSeat, Answered, base_seen}
 use Rattle.leaf_table.specs.Lists.{place}
-use Rattle.aggregator.specs.Partial.{rows_before}
+use Rattle.aggregator.specs.Partial.{rows_seen_before}
 use Rattle.tail_picks.specs.Room.{every_row, free_rows}
 use Rattle.tail_picks.specs.Tails.{TryOf, pick_of}
 use Rattle.tailer.specs.declared.tries.Try.{Try}
@@ -43,14 +43,14 @@ abbrev pub sent_to : Sent → Option ℕ
 sent_to (sent.To leaf) = Some leaf
 sent_to sent.Refused = None
 
--- the generator after the two words of a try
-abbrev pub behind : Lcg → Lcg
-behind words = (pcg32 (pcg32 words).1).1
+-- the state of the generator after the two words of a try
+abbrev pub words_after : Lcg → Lcg
+words_after words = (pcg32 (pcg32 words).1).1
 
 -- the generator after the words of n tries
 abbrev pub behind_tries : ℕ → Lcg → Lcg
 behind_tries zero words = words
-behind_tries (suc n) words = behind (behind_tries n words)
+behind_tries (suc n) words = words_after (behind_tries n words)
 
 -- ---- calls
 
@@ -78,8 +78,8 @@ abbrev pub calls_of : List Row → TryOf Reply → List LeafCall
 calls_of rows t = asking t.first t.one ∷ (asking_also t.second t.two ++ adding rows (pick_of free_of is_added t) t.added)
 
 -- the calls of all tries, in order
-abbrev pub calls_in : List Row → List (TryOf Reply) → List LeafCall
-calls_in rows ts = flat_map (calls_of rows) ts
+abbrev pub calls_of_tries : List Row → List (TryOf Reply) → List LeafCall
+calls_of_tries rows ts = flat_map (calls_of rows) ts
 
 -- a call by the seat of its leaf; no other seat changes
 pub record CallAt (fleet : List (List Shared)) (table : ℕ) (vs : List SeatView) (c : LeafCall) (ws : List SeatView) : Type 0 where
@@ -105,5 +105,5 @@ abbrev pub IsOverRows : (ℕ → Option TableBase) → (ℕ → List Entry) → 
 IsOverRows bases histories c = by c.reply
   where
     by : Reply → Type 0
-    by (told.Groups number gs) = gs ≡ groups every_row (rows_before (bases c.leaf) (histories c.leaf) number)
+    by (told.Groups number gs) = gs ≡ groups every_row (rows_seen_before (bases c.leaf) (histories c.leaf) number)
     by _ = ⊤

@@ -1,7 +1,7 @@
 // The calls of a try, each by the seat of its leaf.
 ghost use Rattle.std.specs.Prelude.{◌≡◌, ◌<◌, ◌==◌, length, not, is_some, IfSome};
 ghost use Rattle.std.specs.List.{AllByRecursion};
-ghost use Rattle.leaf_model.specs.Values.{IsRow};
+ghost use Rattle.row_model.specs.Values.{IsRow};
 ghost use Rattle.leaf_history.specs.Calls as call;
 ghost use Rattle.aggregator.specs.Asks.{AreSeatsAt};
 ghost use Rattle.tail_picks.specs.Room.{every_row};
@@ -13,7 +13,7 @@ use leaf_table::{FleetTables, Reply, Seat};
 use std::sync::Wait;
 use std::thread::Threads;
 
-/// What a tail asks and adds, and the table that it asks at each leaf.
+/// The query and the rows of a tail, and the table that it asks at each leaf.
 #[derive(Clone, Copy)]
 pub(crate) struct Tail<'t> {
     pub(crate) fleet: &'t FleetTables,

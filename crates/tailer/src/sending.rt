@@ -3,12 +3,12 @@ ghost use Rattle.std.specs.Prelude.{◌≡◌, ◌<◌, ℕ, List, length, IfOk,
 ghost use Rattle.std.specs.List.{AllByRecursion};
 ghost use Rattle.rand_core.specs.Steps.{first_words};
 ghost use Rattle.rand_pcg.specs.Pcg.{pcg32};
-ghost use Rattle.leaf_model.specs.Values.{IsRow};
+ghost use Rattle.row_model.specs.Values.{IsRow};
 ghost use Rattle.leaf_history.specs.History.{Entry};
 ghost use Rattle.aggregator.specs.Asks.{AreSeatsAt};
-ghost use Rattle.aggregator.specs.Partial.{GoOn, bases_in};
+ghost use Rattle.aggregator.specs.Partial.{SeatsGoOn, bases_in};
 ghost use Rattle.tail_picks.specs.Tails.{Tails};
-ghost use Rattle.tailer.specs.Calls.{CallsOn, IsOverRows, behind_tries, calls_in, free_of, is_added, sent_to, tries_seen};
+ghost use Rattle.tailer.specs.Calls.{CallsOn, IsOverRows, behind_tries, calls_of_tries, free_of, is_added, sent_to, tries_seen};
 
 use crate::calls::Tail;
 use crate::tries::{Tailed, Tries};
@@ -46,10 +46,11 @@ pub fn send<R: Wait + Threads + Sync, G: Gate>(
     ensures words { IfOk result (λ t. words.new ≡ behind_tries (length t.tries) words.old) }
     // Each reply is that of a call by the seat of its leaf, one call after another.
     ensures calls { IfOk result (λ t.
-        CallsOn fleet.now table seats.old (calls_in rows.now (tries_seen t.tries)) seats.new) }
+        CallsOn fleet.now table seats.old (calls_of_tries rows.now (tries_seen t.tries)) seats.new) }
     // The count in an answer is that of the rows before its entry, however the histories go on.
-    ensures over { (histories : ℕ → List Entry) → GoOn seats.new histories → IfOk result (λ t.
-        AllByRecursion (IsOverRows (bases_in fleet.now table) histories) (calls_in rows.now (tries_seen t.tries))) }
+    ensures over { (histories : ℕ → List Entry) → SeatsGoOn seats.new histories → IfOk result (λ t.
+        AllByRecursion (IsOverRows (bases_in fleet.now table) histories)
+        (calls_of_tries rows.now (tries_seen t.tries))) }
     // After Err no leaf was asked, and no word was drawn.
     ensures refused { IsErr result → seats.new ≡ seats.old }
     ensures undrawn { IsErr result → words.new ≡ words.old }

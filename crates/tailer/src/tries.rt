@@ -51,7 +51,7 @@ impl Tries {
     }
 }
 
-/// Where the rows of a tail went.
+/// The leaf that took the rows of a tail, if one did.
 #[derive(Clone, Copy, PartialEq, Eq)]
 pub enum Sent {
     /// The leaf that took them.

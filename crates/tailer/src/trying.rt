@@ -3,11 +3,11 @@ ghost use Rattle.std.specs.Prelude.{◌≡◌, ◌<◌, ◌≤◌, ◌==◌, [],
 ghost use Rattle.std.specs.List.{AllByRecursion};
 ghost use Rattle.rand_core.specs.Steps.{first_words};
 ghost use Rattle.rand_pcg.specs.Pcg.{pcg32};
-ghost use Rattle.leaf_model.specs.Values.{IsRow};
+ghost use Rattle.row_model.specs.Values.{IsRow};
 ghost use Rattle.aggregator.specs.Asks.{AreSeatsAt};
 ghost use Rattle.tail_picks.specs.Room.{every_row};
 ghost use Rattle.tail_picks.specs.Tails.{Tails, pick_of};
-ghost use Rattle.tailer.specs.Calls.{CallsOn, behind_tries, calls_in, calls_of, free_of, is_added, sent_to, tries_seen, try_seen};
+ghost use Rattle.tailer.specs.Calls.{CallsOn, behind_tries, calls_of_tries, calls_of, free_of, is_added, sent_to, tries_seen, try_seen};
 
 use crate::calls::{Tail, add_to_picked, ask_at, ask_other};
 use crate::replies::{pick_by, taker};
@@ -74,7 +74,7 @@ pub(crate) fn try_all<'t, R: Wait + Threads + Sync, G: Gate>(
         (first_words pcg32 32 words.old) (tries_seen tries.new.items) (sent_to result) }
     ensures words { words.new ≡ behind_tries (length tries.new.items) words.old }
     ensures calls { CallsOn tail.now.fleet.now tail.now.table seats.old
-        (calls_in tail.now.rows.now (tries_seen tries.new.items)) seats.new }
+        (calls_of_tries tail.now.rows.now (tries_seen tries.new.items)) seats.new }
     ensures seats { AreSeatsAt tail.now.fleet.now tail.now.table seats.new }
 {
     let leaves = seats.len() as u32;

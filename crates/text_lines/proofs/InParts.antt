@@ -4,23 +4,23 @@ use Rattle.std.specs.Prelude.{IfOk, IfErr}
 use Rattle.std.specs.List.{AllByRecursion, AllZip, onto_first}
 use Rattle.std.proofs.lemmas.Bool.{eqb-true}
 use Rattle.std.proofs.lemmas.List.{append-nil, append_cancel_right, map-append, take-append-drop, take_at, drop_at, take_rest, length-map, length-drop}
-use Rattle.text_lines.specs.Lines.{before, behind, lines, lines_of, without_return}
+use Rattle.text_lines.specs.Lines.{before, bytes_after, lines, lines_of, without_return}
 use Rattle.text_lines.specs.Parts.{IsLineCut, IsFront, IsTextCut, ends_line, lines_of_parts}
 use Rattle.text_lines.proofs.Cut.{pieces_cut, drop_next}
 
 -- ---- a text cut behind a byte 10
 
-before_behind_by : (at b : ℕ) (bs : List ℕ) (is : Bool) → eqb b at ≡ is → (bs ≡ before at bs ++ at ∷ behind at bs) ⊎ ((bs ≡ before at bs) × (behind at bs ≡ []))
-    → (b ∷ bs ≡ before at (b ∷ bs) ++ at ∷ behind at (b ∷ bs)) ⊎ ((b ∷ bs ≡ before at (b ∷ bs)) × (behind at (b ∷ bs) ≡ []))
+before_behind_by : (at b : ℕ) (bs : List ℕ) (is : Bool) → eqb b at ≡ is → (bs ≡ before at bs ++ at ∷ bytes_after at bs) ⊎ ((bs ≡ before at bs) × (bytes_after at bs ≡ []))
+    → (b ∷ bs ≡ before at (b ∷ bs) ++ at ∷ bytes_after at (b ∷ bs)) ⊎ ((b ∷ bs ≡ before at (b ∷ bs)) × (bytes_after at (b ∷ bs) ≡ []))
 before_behind_by at b bs true is later = rw is (inl (ap (λ (c : ℕ). c ∷ bs) (eqb-true b at is)))
 before_behind_by at b bs false is (inl both) = rw is (inl (ap (λ (l : List ℕ). b ∷ l) both))
 before_behind_by at b bs false is (inr last) = rw is (inr (ap (λ (l : List ℕ). b ∷ l) last.0, last.1))
 
-before_behind : (at : ℕ) (text : List ℕ) → (text ≡ before at text ++ at ∷ behind at text) ⊎ ((text ≡ before at text) × (behind at text ≡ []))
+before_behind : (at : ℕ) (text : List ℕ) → (text ≡ before at text ++ at ∷ bytes_after at text) ⊎ ((text ≡ before at text) × (bytes_after at text ≡ []))
 before_behind at [] = inr (refl, refl)
 before_behind at (b ∷ bs) = before_behind_by at b bs (eqb b at) refl (before_behind at bs)
 
-pub line_cut : (text line rest : List ℕ) → line ≡ before 10 text → rest ≡ behind 10 text → IsLineCut text line rest
+pub line_cut : (text line rest : List ℕ) → line ≡ before 10 text → rest ≡ bytes_after 10 text → IsLineCut text line rest
 line_cut text line rest first others = rw (first, others) (before_behind 10 text)
 
 pub ends_line-push : (xs : List ℕ) → ends_line (xs ++ 10 ∷ []) ≡ true

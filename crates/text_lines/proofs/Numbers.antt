@@ -9,7 +9,7 @@ use Rattle.std.specs.Str.Parse.{ParsesSigned, ParsesUnsigned, digits_value}
 use Rattle.std.specs.Result.{OkIff, result_ok, result_unwrap_or}
 use Rattle.std.specs.Option.{option_map}
 use Rattle.std.proofs.lemmas.Str.Parse.{IsNumeralModel, numerals_by_value, tells_all_ascii_digits, parse_digits, parse_signed_digits}
-use Rattle.text_lines.specs.Numbers.{is_number, number_of, capped, count_of, time_of}
+use Rattle.text_lines.specs.Numbers.{is_number, number_of, capped, count_of, time_of_word}
 use mir.Syntax.{w64}
 
 -- numbers
@@ -61,7 +61,7 @@ timed : {E : Type 0} (v n : ℕ) (number : Bool) (r : Result ℤ E) → number �
 timed v n number (Ok x) is some h = grind (arith, nat_tests, h.0.1, h.1)
 timed v n number (Err e) is some h = grind (arith, nat_tests, h)
 
-pub time_parsed : {E : Type 0} (word digits : List ℕ) (r : Result ℤ E) → digits ≡ word → ParsesSigned w64 10 digits r → is_number word ≡ true → result_ok r ≡ time_of word
+pub time_parsed : {E : Type 0} (word digits : List ℕ) (r : Result ℤ E) → digits ≡ word → ParsesSigned w64 10 digits r → is_number word ≡ true → result_ok r ≡ time_of_word word
 time_parsed word digits r same parsed is =
     let here : ParsesSigned w64 10 word r = subst (λ ds. ParsesSigned w64 10 ds r) same parsed in
     timed (digits_value 10 word) (length word) (is_number word) r is (number_some word is) (parse_signed_digits own w64 word r here (all_digits word ∙ number_digits word is))

@@ -13,9 +13,9 @@ before at [] = []
 before at (b ∷ bs) = if b == at then [] else b ∷ before at bs
 
 -- the bytes after the first byte `at`; none if there is none
-abbrev pub behind : ℕ → List ℕ → List ℕ
-behind at [] = []
-behind at (b ∷ bs) = if b == at then bs else behind at bs
+abbrev pub bytes_after : ℕ → List ℕ → List ℕ
+bytes_after at [] = []
+bytes_after at (b ∷ bs) = if b == at then bs else bytes_after at bs
 
 -- The text, cut at each byte 10. A last piece that is empty is no line.
 abbrev pub lines : List ℕ → List (List ℕ)

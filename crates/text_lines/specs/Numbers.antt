@@ -22,5 +22,5 @@ abbrev pub count_of : List ℕ → Option ℕ
 count_of word = if is_number word && nat_lt (digits_value 10 word) (2 ^ 64) then Some (digits_value 10 word) else None
 
 -- the number of a word of 1 to 20 digits, if it is a time: below 2^63
-abbrev pub time_of : List ℕ → Option ℤ
-time_of word = if is_number word && nat_lt (digits_value 10 word) (2 ^ 63) then Some (pos (digits_value 10 word)) else None
+abbrev pub time_of_word : List ℕ → Option ℤ
+time_of_word word = if is_number word && nat_lt (digits_value 10 word) (2 ^ 63) then Some (pos (digits_value 10 word)) else None

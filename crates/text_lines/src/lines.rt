@@ -1,6 +1,6 @@
 // Cuts lines off a text, and pieces off a line.
 ghost use Rattle.std.specs.Prelude.{◌≡◌, ◌<◌, ◌≤◌, ◌+◌, ◌-◌, ◌∷◌, ℕ, None, IfSome, length, take, drop, nat_le};
-ghost use Rattle.text_lines.specs.Lines.{before, behind, lines, lines_of, without_return, is_blank, is_comment, is_skipped};
+ghost use Rattle.text_lines.specs.Lines.{before, bytes_after, lines, lines_of, without_return, is_blank, is_comment, is_skipped};
 ghost use Rattle.text_lines.specs.Parts.{IsLineCut, IsTextCut};
 
 use crate::passing::pass_blocks;
@@ -9,7 +9,7 @@ use memchr::memchr;
 /// The bytes before the first byte `at`, and the bytes after it. Without that byte: all, and none.
 pub fn cut_at(at: u8, text: &[u8]) -> (&[u8], &[u8])
     ensures before { result.0.now ≡ before at text.now }
-    ensures behind { result.1.now ≡ behind at text.now }
+    ensures behind { result.1.now ≡ bytes_after at text.now }
 {
     match memchr(at, text) {
         Some(end) => (&text[..end], &text[end + 1..]),
@@ -44,7 +44,7 @@ pub fn is_blank(line: &[u8]) -> bool
     line.iter().all(|byte| *byte == b' ')
 }
 
-/// Whether a line is blank or a comment, and so no command.
+/// Whether a line is blank or a comment: a script skips it.
 pub fn is_skipped(line: &[u8]) -> bool
     ensures { result ≡ is_skipped line.now }
 {

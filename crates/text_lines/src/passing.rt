@@ -18,8 +18,7 @@ pub struct Passed<'a> {
     pub after: &'a [u8],
 }
 
-/// Skips blocks of lines, at most `most` lines in all. The lines that are then left to skip are about as many as those
-/// of one block.
+/// Skips blocks of lines, at most `most` lines in all. About as many lines as one block has may then be left to skip.
 #[tactic(auto, using(crate::proofs::InParts::front_none, crate::proofs::InParts::front_then))]
 pub fn pass_blocks(text: &[u8], most: u64) -> Passed
     ensures front { IsFront text.now result.after.now result.lines }
@@ -34,8 +33,8 @@ pub fn pass_blocks(text: &[u8], most: u64) -> Passed
     Passed { lines, after: rest }
 }
 
-/// Skips the lines that the first block of bytes stands in. None if the text is shorter than a block, or these are more
-/// than `most` lines.
+/// Skips the lines that reach into the first block of bytes. None if the text is shorter than a block, or these are
+/// more than `most` lines.
 #[tactic(auto, using(crate::proofs::InParts::front_of_cut))]
 fn pass_block(text: &[u8], most: u64) -> Option<Passed>
     ensures front { IfSome result (λ passed. IsFront text.now passed.after.now passed.lines) }

@@ -2,7 +2,7 @@
 ghost use Rattle.std.specs.Prelude.{◌<◌, length};
 ghost use Rattle.time_range.specs.Ranges.{IsRangeOf};
 
-/// What one pass over some times finds.
+/// The least and the greatest of some times, and whether they are known never to fall.
 #[derive(Debug, Clone, Copy)]
 pub struct TimeRange {
     /// The least time.

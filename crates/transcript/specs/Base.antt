@@ -14,10 +14,3 @@ LogHas disk name count = (records : List LogRecord) × (log_end : ℕ) × IsLog 
 abbrev pub watched_from : ℕ → List (List ℕ) → NamedStates → (ℕ → List Entry) → List Watched
 watched_from place [] base histories = []
 watched_from place (n ∷ ns) base histories = record { name = n; base = base n; seen = histories place } ∷ watched_from (suc place) ns base histories
-
-abbrev pub watched_with : List (List ℕ) → NamedStates → (ℕ → List Entry) → List Watched
-watched_with names base histories = watched_from 0 names base histories
-
--- the history before the first entry
-abbrev pub unseen : ℕ → List Entry
-unseen table = []

@@ -30,20 +30,11 @@ deeds_in test leaf (Acted l deed notes ending ∷ pieces) = (if (l == leaf) && t
 deeds_in test leaf (_ ∷ pieces) = deeds_in test leaf pieces
 
 -- the count rose by at least `count`, or stands at the last value of a u64
-abbrev pub Counted : ℕ → ℕ → ℕ → Type 0
-Counted before now count = min (before + count) (2 ^ 64 - 1) ≤ now
-
-abbrev pub region_faults_in : ℕ → List Piece → ℕ
-region_faults_in leaf pieces = deeds_in (λ deed ending. is_region_fault ending) leaf pieces
-
-abbrev pub disk_faults_in : ℕ → List Piece → ℕ
-disk_faults_in leaf pieces = deeds_in (λ deed ending. is_disk_fault ending) leaf pieces
-
-abbrev pub disk_reads_in : ℕ → List Piece → ℕ
-disk_reads_in leaf pieces = deeds_in reads_disk leaf pieces
+abbrev pub CountRose : ℕ → ℕ → ℕ → Type 0
+CountRose before now count = min (before + count) (2 ^ 64 - 1) ≤ now
 
 -- Each fault that a leaf's lines tell was counted. If no start of the leaf read the disk, the disk was not read.
 pub record CountsRose (leaf : ℕ) (pieces : List Piece) (old new : Meaning) : Type 0 where
-  pub region : Counted old.region_faults new.region_faults (region_faults_in leaf pieces)
-  pub disk : Counted old.disk_faults new.disk_faults (disk_faults_in leaf pieces)
-  pub reads : disk_reads_in leaf pieces ≡ 0 → new.disk_reads ≡ old.disk_reads
+  pub region : CountRose old.region_faults new.region_faults (deeds_in (λ deed ending. is_region_fault ending) leaf pieces)
+  pub disk : CountRose old.disk_faults new.disk_faults (deeds_in (λ deed ending. is_disk_fault ending) leaf pieces)
+  pub reads : deeds_in reads_disk leaf pieces ≡ 0 → new.disk_reads ≡ old.disk_reads

@@ -1,5 +1,5 @@
 -- What a run writes and leaves, over leaves whose base is known or not.
-use Rattle.std.specs.Prelude.{◌≡◌, ℕ, ◌<◌, true, List, drop, Option, Some, None, IfSome, slice_get, ⊤}
+use Rattle.std.specs.Prelude.{◌≡◌, ℕ, ◌<◌, true, List, [], drop, Option, Some, None, IfSome, slice_get, ⊤}
 use Rattle.std.specs.Io.KnownBytes.{Appends}
 use Rattle.berth_face.specs.Berth.{Meaning}
 use Rattle.berth_face.specs.Moments.{EachNow}
@@ -11,19 +11,19 @@ use Rattle.leaf_words.specs.declared.ways.Way.TheVariants.{Memory}
 use Rattle.leaf_opening.specs.Starts.{IsWayOf}
 use Rattle.crash_moments.specs.Left.{NamedStates, Left}
 use Rattle.crash_moments.specs.Told as moments
-use Rattle.crash_states.specs.Standing.{tables_of}
+use Rattle.crash_states.specs.Standing.{states_of_tables}
 use Rattle.crash_states.specs.Beginning.{BeginsAgain}
 use Rattle.rollover_watch.specs.Watches.{Held}
 use Rattle.script_text.specs.declared.item.Item.{Item}
 use Rattle.printed_lines.specs.declared.line.Line.{Line}
 use Rattle.printed_lines.specs.Lines.{lines_text}
-use Rattle.transcript.specs.Base.{LogHas, unseen, watched_with}
+use Rattle.transcript.specs.Base.{LogHas, watched_from}
 use Rattle.script_text.specs.Commands.{leaf_count}
-use Rattle.transcript.specs.Pieces.{all_lines, all_pieces, script_fleet, plays_in}
+use Rattle.transcript.specs.Pieces.{all_lines, all_pieces, deeds, script_fleet, plays_in}
 use Rattle.transcript.specs.Life.{Life}
 use Rattle.transcript.specs.Counts.{CountsRose}
-use Rattle.transcript.specs.Strangers.{Strangers}
-use Rattle.transcript.specs.Transcript.{Known, Transcript, grounds_of}
+use Rattle.transcript.specs.Strangers.{StrangersIn}
+use Rattle.transcript.specs.Transcript.{Known, Transcript, base_states_of}
 use Rattle.transcript.specs.Telling.{AreTold}
 use Rattle.transcript.specs.Watching.{HearsAll}
 use Rattle.transcript.specs.Moments.{MomentsRise, notes_told}
@@ -35,9 +35,9 @@ use Rattle.transcript.specs.Moments.{MomentsRise, notes_told}
 -- berth again, and its first start prints the way that is claimed of it. An image that a drain of this run left has the
 -- version that drains write.
 pub record LeavesBerth (names : List (List ℕ)) (base : NamedStates) (life : Life) (histories : ℕ → List Entry) (old new : Meaning) : Type 0 where
-  pub crash : moments.Told base (watched_with names base unseen) (watched_with names base histories) old new
-  pub left : EachNow (λ p. Left reads (tables_of base (watched_with names base histories) new) p) new
-  pub begins : BeginsAgain (tables_of base (watched_with names base histories) new) new
+  pub crash : moments.Told base (watched_from 0 names base (λ table. [])) (watched_from 0 names base histories) old new
+  pub left : EachNow (λ p. Left reads (states_of_tables base (watched_from 0 names base histories) new) p) new
+  pub begins : BeginsAgain (states_of_tables base (watched_from 0 names base histories) new) new
   pub way : IfSome life.way (IsWayOf new.held.region)
   pub layout : life.begun ≡ true → life.way ≡ Some Memory → head_of new.held.region ≡ Version layout
 
@@ -63,11 +63,11 @@ module _ {B : Type 0} (meaning : B → Meaning) (olds news : List B) where
   pub record IsToldRun (items : List Item) (known : ℕ → Option Known) (lines : List Line) (before after : List Held) : Type 0 where
     pub transcript : Transcript (script_fleet items) known items (lines_text (script_fleet items).names lines)
     pub lines_are : all_lines transcript.played ≡ lines
-    pub standing : AreTold (script_fleet items) (grounds_of (script_fleet items) known) transcript.histories transcript.played
+    pub standing : AreTold (script_fleet items) (base_states_of (script_fleet items) known) transcript.histories transcript.played
     pub watched : HearsAll (script_fleet items) (plays_in transcript.played) before after
     pub counts : (leaf : ℕ) → leaf < (leaf_count (script_fleet items)) → AtBerth leaf (CountsRose leaf (all_pieces transcript.played))
     pub strangers : (leaf : ℕ) (k : Known) → leaf < (leaf_count (script_fleet items)) → known leaf ≡ Some k →
-        Strangers (script_fleet items).names k.held.disk leaf k.held.region (all_pieces transcript.played)
+        StrangersIn (script_fleet items).names k.held.disk k.held.region (deeds leaf (all_pieces transcript.played))
     pub leaves : (leaf : ℕ) (k : Known) → leaf < (leaf_count (script_fleet items)) → known leaf ≡ Some k →
         AtBerth leaf (LeavesBerth (script_fleet items).names k.base (transcript.lives leaf) (transcript.histories leaf))
     pub moments : (leaf : ℕ) → leaf < (leaf_count (script_fleet items)) →

@@ -28,13 +28,13 @@ pub record Progress : Type 0 where
   pub treated : ℕ
   pub waits : Bool
 
-pub data Mode : Type 0 where
-  Down : Mode
-  Up : (owed : Option Owed) → Mode
-  Preparing : (at : Progress) → Mode
+pub data LifeMode : Type 0 where
+  Down : LifeMode
+  Up : (owed : Option Owed) → LifeMode
+  Preparing : (at : Progress) → LifeMode
 
 pub record Life : Type 0 where
-  pub mode : Mode
+  pub mode : LifeMode
   -- the way that the next start prints, unless the leaf is drained first; None if nothing is claimed of it
   pub way : Option Way
   -- for each table the number of writes that its next `opened` line tells; None if nothing is claimed of them
@@ -45,10 +45,10 @@ pub record Life : Type 0 where
 -- ---- entries without their numbers
 
 -- the notes say this, one of each table from `place` on
-abbrev pub Notes : ℕ → List Said → List Noted → Type 0
-Notes place [] [] = ⊤
-Notes place (said ∷ saids) (n ∷ ns) = (n.table ≡ place) × (n.said ≡ said) × Notes (suc place) saids ns
-Notes place _ _ = ⊥
+abbrev pub NotesFrom : ℕ → List Said → List Noted → Type 0
+NotesFrom place [] [] = ⊤
+NotesFrom place (said ∷ saids) (n ∷ ns) = (n.table ≡ place) × (n.said ≡ said) × NotesFrom (suc place) saids ns
+NotesFrom place _ _ = ⊥
 
 -- the note of what was owed, once it is on the disk
 abbrev pub owed_words : Option Owed → List (ℕ × Said)
@@ -73,11 +73,11 @@ abbrev pub durable_with : Option (List ℕ) → List Noted → Option (List ℕ)
 durable_with known notes = option_map (λ counts. durable_after counts notes) known
 
 -- the leaf in this mode, after these entries; its next start prints this way
-abbrev pub on : Life → Mode → Option Way → List Noted → Life
+abbrev pub on : Life → LifeMode → Option Way → List Noted → Life
 on life mode way notes = record { mode = mode; way = way; durable = durable_with life.durable notes; begun = life.begun }
 
 -- the same, after a fault of the disk
-abbrev pub failed : Life → Mode → Life
+abbrev pub failed : Life → LifeMode → Life
 failed life mode = record { mode = mode; way = life.way; durable = None; begun = life.begun }
 
 -- ---- starts
@@ -89,20 +89,8 @@ claimed false a = None
 
 -- no start over a berth with a known base finds bytes that are no image
 abbrev pub MayCome : Bool → Way → Type 0
-MayCome told (Disk why.NoImage) = told ≡ false
-MayCome told _ = ⊤
-
--- Why a start may be refused. The disk: only if the start does not come from memory. A stranger: over a berth with a
--- known base, only if the leaf was never up. A worn seat: of a table that the leaf has. A damaged log: only if no base
--- is known.
-abbrev pub IsStartRefusal : Bool → ℕ → Life → Ending → Type 0
-IsStartRefusal told tables life ends.FaultRegion = ⊤
-IsStartRefusal told tables life ends.FaultDisk = life.way ≢ Some Memory
-IsStartRefusal told tables life ends.FaultMemory = ⊤
-IsStartRefusal told tables life (ends.FaultStranger name) = ((told && life.begun) ≡ false) × IsName name
-IsStartRefusal told tables life (ends.FaultWorn table) = table < tables
-IsStartRefusal told tables life ends.FaultDamaged = told ≡ false
-IsStartRefusal told tables life _ = ⊥
+MayCome founded (Disk why.NoImage) = founded ≡ false
+MayCome founded _ = ⊤
 
 -- the way of the start after a refused one: the same after a worn seat, not known after a fault of the region, else
 -- that of a region whose open flag was closed
@@ -110,13 +98,6 @@ abbrev pub way_refused : Ending → Option Way → Option Way
 way_refused ends.FaultRegion way = None
 way_refused (ends.FaultWorn table) way = way
 way_refused _ way = option_map way_after way
-
--- a start: each table is opened; or it is refused, and makes no entry; or the leaf is not down
-abbrev pub OfStart : Bool → ℕ → Life → List Noted → Ending → Life → Type 0
-OfStart told tables life notes (ends.Started way) next = (counts : List ℕ) × (life.mode ≡ Down) × MayCome told way × IfSome life.way (λ w. way ≡ w) × IfSome life.durable (λ known. counts ≡ known)
-    × (length counts ≡ tables) × Notes 0 (map Opened counts) notes × (next ≡ record { mode = Up None; way = claimed told (way_after way); durable = claimed told counts; begun = true })
-OfStart told tables life notes ends.NotDown next = (life.mode ≡ Down → ⊥) × (notes ≡ []) × (next ≡ life)
-OfStart told tables life notes ending next = (life.mode ≡ Down) × IsStartRefusal told tables life ending × (notes ≡ []) × (next ≡ on life Down (way_refused ending life.way) [])
 
 -- ---- flushes
 
@@ -134,12 +115,12 @@ OfFlush table life notes _ next = ⊥
 -- ---- the steps of a drain
 
 -- how far a drain has come: it shuts the tables, or has made this many steps of their copy
-pub data Stage : Type 0 where
-  Shutting : (at : Progress) → Stage
-  Copying : (made : ℕ) → Stage
+pub data StageOfDrain : Type 0 where
+  Shutting : (at : Progress) → StageOfDrain
+  Copying : (made : ℕ) → StageOfDrain
 
 -- where the drain of a leaf in this mode begins
-abbrev pub BeginsAt : Mode → Progress → Type 0
+abbrev pub BeginsAt : LifeMode → Progress → Type 0
 BeginsAt Down p = ⊥
 BeginsAt (Up owed) p = p ≡ record { owed = owed; treated = 0; waits = false }
 BeginsAt (Preparing at) p = p ≡ at
@@ -150,22 +131,27 @@ abbrev pub Treats : Progress → List Noted → Progress → Type 0
 Treats p notes q =
     ((count : ℕ) × NotesOf p.owed p.treated (if p.waits then [] else Closed count ∷ Flushed count ∷ []) notes) × (q ≡ record { owed = None; treated = suc p.treated; waits = false })
 
--- One step that neither ends the drain nor fails, of a leaf with this many tables and a copy of this many steps: a
--- table is treated; or all are, and the copy is planned; or a step of it is made.
-abbrev pub Step : ℕ → ℕ → Stage → List Noted → Stage → Type 0
-Step tables copy (Shutting p) notes (Shutting q) = (p.treated < tables) × Treats p notes q
-Step tables copy (Shutting p) notes (Copying made) = (p.treated ≡ tables) × (notes ≡ []) × (made ≡ 0)
-Step tables copy (Copying made) notes (Copying now) = (now < copy) × (notes ≡ []) × (now ≡ suc made)
-Step tables copy _ notes _ = ⊥
+module _ (tables copy : ℕ) where
+  -- One step that neither ends the drain nor fails, of a leaf with this many tables and a copy of this many steps: a
+  -- table is treated; or all are, and the copy is planned; or a step of it is made.
+  abbrev pub StepOfDrain : StageOfDrain → List Noted → StageOfDrain → Type 0
+  StepOfDrain (Shutting p) notes (Shutting q) = (p.treated < tables) × Treats p notes q
+  StepOfDrain (Shutting p) notes (Copying made) = (p.treated ≡ tables) × (notes ≡ []) × (made ≡ 0)
+  StepOfDrain (Copying made) notes (Copying now) = (now < copy) × (notes ≡ []) × (now ≡ suc made)
+  StepOfDrain _ notes _ = ⊥
 
--- n such steps
-abbrev pub Steps : ℕ → ℕ → ℕ → Stage → List Noted → Stage → Type 0
-Steps tables copy zero s notes t = (notes ≡ []) × (t ≡ s)
-Steps tables copy (suc n) s notes t = (first others : List Noted) × (between : Stage) × Step tables copy s first between × Steps tables copy n between others t × (notes ≡ first ++ others)
+  -- n such steps
+  abbrev pub StepsOfDrain : ℕ → StageOfDrain → List Noted → StageOfDrain → Type 0
+  StepsOfDrain zero s notes t = (notes ≡ []) × (t ≡ s)
+  StepsOfDrain (suc n) s notes t = (first others : List Noted) × (between : StageOfDrain) × StepOfDrain s first between × StepsOfDrain n between others t × (notes ≡ first ++ others)
+
+  -- the drain comes this far in n steps
+  abbrev pub DrainComes : ℕ → LifeMode → List Noted → StageOfDrain → Type 0
+  DrainComes n mode notes s = (p : Progress) × BeginsAt mode p × StepsOfDrain n (Shutting p) notes s
 
 -- Bounds on the columns of a leaf's tables when they are copied. Their exact number is no function of the contents.
 -- `least`: by the entries that hand the tables over. `most`: only if the leaf's base is known. `bulk`: the number of
--- their writes, with the rows and cells that these add.
+-- their writes, with the rows and cells that these add and the spare columns.
 pub record Columns : Type 0 where
   pub least : List Noted → ℕ
   pub most : ℕ
@@ -178,11 +164,11 @@ IsCopyLength columns copy = columns + 3 ≤ copy
 
 -- a copy of `columns` columns or fewer takes this many steps, if the base is known
 abbrev pub IsCopyWithin : Bool → ℕ → ℕ → Type 0
-IsCopyWithin told columns copy = told ≡ true → copy ≤ columns + 3
+IsCopyWithin founded columns copy = founded ≡ true → copy ≤ columns + 3
 
 -- tables with a known base make no image only if they are this large
 abbrev pub IsCrowded : Bool → ℕ → Type 0
-IsCrowded told bulk = told ≡ true → 2 ^ 25 ≤ bulk
+IsCrowded founded bulk = founded ≡ true → 2 ^ 25 ≤ bulk
 
 -- the disk fails, after the next table was closed, or before anything was flushed
 abbrev pub Halts : Progress → List Noted → Progress → Type 0
@@ -200,9 +186,9 @@ abbrev pub first_open : Progress → ℕ
 first_open p = if p.waits then suc p.treated else p.treated
 
 abbrev pub ClosesFrom : ℕ → ℕ → List Noted → Type 0
-ClosesFrom tables place notes = (counts : List ℕ) × (place + length counts ≡ tables) × Notes place (map Closed counts) notes
+ClosesFrom tables place notes = (counts : List ℕ) × (place + length counts ≡ tables) × NotesFrom place (map Closed counts) notes
 
-abbrev pub ClosesRest : ℕ → Stage → List Noted → Type 0
+abbrev pub ClosesRest : ℕ → StageOfDrain → List Noted → Type 0
 ClosesRest tables (Shutting p) notes = ClosesFrom tables (first_open p) notes
 ClosesRest tables (Copying made) notes = notes ≡ []
 
@@ -211,33 +197,10 @@ abbrev pub MayMake : Option ℕ → ℕ → Type 0
 MayMake stop n = IfSome stop (λ most. n ≤ most)
 
 -- the way of the start after a drain that was stopped here: the first step of the copy leaves a closed flag
-abbrev pub way_stopped : Stage → Option Way → Option Way
+abbrev pub way_stopped : StageOfDrain → Option Way → Option Way
 way_stopped (Shutting p) way = way
 way_stopped (Copying zero) way = way
 way_stopped (Copying (suc made)) way = option_map (λ (w : Way). Disk (why.Closed 0)) way
-
--- the drain comes this far in n steps
-abbrev pub Comes : ℕ → ℕ → ℕ → Mode → List Noted → Stage → Type 0
-Comes tables copy n mode notes s = (p : Progress) × BeginsAt mode p × Steps tables copy n (Shutting p) notes s
-
--- A drain makes its steps until one is the last, and each table is handed over, with at least the columns that these
--- entries imply; or until one fails; or until it has made as many as it may, and the leaf is killed. A copy that does
--- not end made no more steps than its columns need.
-abbrev pub OfDrain : Bool → ℕ → Columns → Option ℕ → Life → List Noted → Ending → Life → Type 0
-OfDrain told tables columns stop life notes ends.Done next = (n made : ℕ) × (treating handing : List Noted) × Comes tables (suc made) n life.mode treating (Copying made) × MayMake stop (suc n)
-    × IsCopyLength (columns.least handing) (suc made) × Notes 0 (replicate tables Handed) handing × (notes ≡ treating ++ handing) × (next ≡ on life Down (claimed told Memory) treating)
-OfDrain told tables columns stop life notes ends.FaultRegion next =
-    (copy n made : ℕ) × IsCopyWithin told columns.most copy × Comes tables copy n life.mode notes (Copying made) × MayMake stop (suc n) × (next ≡ on life Down None notes)
-OfDrain told tables columns stop life notes ends.FaultRoom next =
-    (n : ℕ) × (q : Progress) × IsCrowded told columns.bulk × Comes tables 0 n life.mode notes (Shutting q) × (q.treated ≡ tables) × MayMake stop (suc n) × (next ≡ on life (Preparing q) life.way notes)
-OfDrain told tables columns stop life notes ends.FaultMemory next = (n : ℕ) × (q r : Progress) × (treating starving : List Noted) × Comes tables 0 n life.mode treating (Shutting q) × MayMake stop (suc n)
-    × Starves tables q starving r × (notes ≡ treating ++ starving) × (next ≡ on life (Preparing r) life.way notes)
-OfDrain told tables columns stop life notes ends.FaultDisk next = (n : ℕ) × (q r : Progress) × (treating halting : List Noted) × Comes tables 0 n life.mode treating (Shutting q) × MayMake stop (suc n)
-    × (q.treated < tables) × Halts q halting r × (notes ≡ treating ++ halting) × (next ≡ failed life (Preparing r))
-OfDrain told tables columns stop life notes ends.Stopped next = (copy n : ℕ) × (s : Stage) × (treating closing : List Noted) × IsCopyWithin told columns.most copy × Comes tables copy n life.mode treating s × (stop ≡ Some n)
-    × ClosesRest tables s closing × (notes ≡ treating ++ closing) × (next ≡ on life Down (way_stopped s life.way) treating)
-OfDrain told tables columns stop life notes ends.NotUp next = (life.mode ≡ Down) × (notes ≡ []) × (next ≡ life)
-OfDrain told tables columns stop life notes _ next = ⊥
 
 -- ---- kills
 
@@ -247,18 +210,57 @@ OfKill tables life notes ends.Done next = (p : Progress) × BeginsAt life.mode p
 OfKill tables life notes ends.NotUp next = (life.mode ≡ Down) × (notes ≡ []) × (next ≡ life)
 OfKill tables life notes _ next = ⊥
 
--- ---- a whole life
+-- ---- of a leaf with this many tables, whose base is known or not
 
--- what a deed prints and leaves, of a leaf with this many tables, whose base is known or not
-abbrev pub Does : Bool → ℕ → Columns → Deed → Life → List Noted → Ending → Life → Type 0
-Does told tables columns Start life notes ending next = OfStart told tables life notes ending next
-Does told tables columns (Flush table) life notes ending next = OfFlush table life notes ending next
-Does told tables columns (Drain stop) life notes ending next = OfDrain told tables columns stop life notes ending next
-Does told tables columns Kill life notes ending next = OfKill tables life notes ending next
+module _ (founded : Bool) (tables : ℕ) where
+  -- Why a start may be refused. The disk: only if the start does not come from memory. A stranger: over a berth with a
+  -- known base, only if the leaf was never up. A worn seat: of a table that the leaf has. A damaged log: only if no
+  -- base is known.
+  abbrev pub IsStartRefusal : Life → Ending → Type 0
+  IsStartRefusal life ends.FaultRegion = ⊤
+  IsStartRefusal life ends.FaultDisk = life.way ≢ Some Memory
+  IsStartRefusal life ends.FaultMemory = ⊤
+  IsStartRefusal life (ends.FaultStranger name) = ((founded && life.begun) ≡ false) × IsName name
+  IsStartRefusal life (ends.FaultWorn table) = table < tables
+  IsStartRefusal life ends.FaultDamaged = founded ≡ false
+  IsStartRefusal life _ = ⊥
 
--- the deeds of a leaf, one after another, after the entries `before`; the columns of its tables are bounded by its
--- entries up to the last of each deed
-abbrev pub Lives : Bool → ℕ → (List Noted → Columns) → List Noted → Life → List Did → Life → Type 0
-Lives told tables columns before life [] next = next ≡ life
-Lives told tables columns before life (d ∷ ds) next =
-    (between : Life) × Does told tables (columns (before ++ d.notes)) d.deed life d.notes d.ending between × Lives told tables columns (before ++ d.notes) between ds next
+  -- a start: each table is opened; or it is refused, and makes no entry; or the leaf is not down
+  abbrev pub OfStart : Life → List Noted → Ending → Life → Type 0
+  OfStart life notes (ends.Started way) next = (counts : List ℕ) × (life.mode ≡ Down) × MayCome founded way × IfSome life.way (λ w. way ≡ w) × IfSome life.durable (λ known. counts ≡ known)
+      × (length counts ≡ tables) × NotesFrom 0 (map Opened counts) notes × (next ≡ record { mode = Up None; way = claimed founded (way_after way); durable = claimed founded counts; begun = true })
+  OfStart life notes ends.NotDown next = (life.mode ≡ Down → ⊥) × (notes ≡ []) × (next ≡ life)
+  OfStart life notes ending next = (life.mode ≡ Down) × IsStartRefusal life ending × (notes ≡ []) × (next ≡ on life Down (way_refused ending life.way) [])
+
+  -- A drain makes its steps until one is the last, and each table is handed over, with at least the columns that these
+  -- entries imply; or until one fails; or until it has made as many as it may, and the leaf is killed. A copy that does
+  -- not end made no more steps than its columns need.
+  abbrev pub OfDrain : Columns → Option ℕ → Life → List Noted → Ending → Life → Type 0
+  OfDrain columns stop life notes ends.Done next = (n made : ℕ) × (treating handing : List Noted) × DrainComes tables (suc made) n life.mode treating (Copying made) × MayMake stop (suc n)
+      × IsCopyLength (columns.least handing) (suc made) × NotesFrom 0 (replicate tables Handed) handing × (notes ≡ treating ++ handing) × (next ≡ on life Down (claimed founded Memory) treating)
+  OfDrain columns stop life notes ends.FaultRegion next =
+      (copy n made : ℕ) × IsCopyWithin founded columns.most copy × DrainComes tables copy n life.mode notes (Copying made) × MayMake stop (suc n) × (next ≡ on life Down None notes)
+  OfDrain columns stop life notes ends.FaultRoom next =
+      (n : ℕ) × (q : Progress) × IsCrowded founded columns.bulk × DrainComes tables 0 n life.mode notes (Shutting q) × (q.treated ≡ tables) × MayMake stop (suc n) × (next ≡ on life (Preparing q) life.way notes)
+  OfDrain columns stop life notes ends.FaultMemory next = (n : ℕ) × (q r : Progress) × (treating starving : List Noted) × DrainComes tables 0 n life.mode treating (Shutting q) × MayMake stop (suc n)
+      × Starves tables q starving r × (notes ≡ treating ++ starving) × (next ≡ on life (Preparing r) life.way notes)
+  OfDrain columns stop life notes ends.FaultDisk next = (n : ℕ) × (q r : Progress) × (treating halting : List Noted) × DrainComes tables 0 n life.mode treating (Shutting q) × MayMake stop (suc n)
+      × (q.treated < tables) × Halts q halting r × (notes ≡ treating ++ halting) × (next ≡ failed life (Preparing r))
+  OfDrain columns stop life notes ends.Stopped next = (copy n : ℕ) × (s : StageOfDrain) × (treating closing : List Noted) × IsCopyWithin founded columns.most copy × DrainComes tables copy n life.mode treating s × (stop ≡ Some n)
+      × ClosesRest tables s closing × (notes ≡ treating ++ closing) × (next ≡ on life Down (way_stopped s life.way) treating)
+  OfDrain columns stop life notes ends.NotUp next = (life.mode ≡ Down) × (notes ≡ []) × (next ≡ life)
+  OfDrain columns stop life notes _ next = ⊥
+
+  -- what a deed prints and leaves
+  abbrev pub Does : Columns → Deed → Life → List Noted → Ending → Life → Type 0
+  Does columns Start = OfStart
+  Does columns (Flush table) = OfFlush table
+  Does columns (Drain stop) = OfDrain columns stop
+  Does columns Kill = OfKill tables
+
+  -- the deeds of a leaf, one after another, after the entries `before`; the columns of its tables are bounded by its
+  -- entries up to the last of each deed
+  abbrev pub Lives : (List Noted → Columns) → List Noted → Life → List Did → Life → Type 0
+  Lives columns before life [] next = next ≡ life
+  Lives columns before life (d ∷ ds) next =
+      (between : Life) × Does (columns (before ++ d.notes)) d.deed life d.notes d.ending between × Lives columns (before ++ d.notes) between ds next

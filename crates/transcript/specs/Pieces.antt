@@ -1,8 +1,8 @@
 -- The pieces that the commands of a script print.
-use Rattle.std.specs.Prelude.{ℕ, suc, ◌==◌, List, [], ◌∷◌, ◌++◌, map, Option, if◌then◌else◌, bytes_eq}
+use Rattle.std.specs.Prelude.{ℕ, suc, ◌==◌, List, [], ◌∷◌, ◌++◌, map, if◌then◌else◌, bytes_eq}
 use Rattle.std.specs.List.{flat_map}
 use Rattle.leaf_history.specs.Calls.{Call}
-use Rattle.script_text.specs.declared.fleet.Fleet.{Fleet}
+use Rattle.script_text.specs.declared.fleet.FleetShape.{FleetShape}
 use Rattle.script_text.specs.declared.command.Command.{Command}
 use Rattle.script_text.specs.declared.command.Command.TheVariants as command
 use Rattle.script_text.specs.declared.item.Item.{Item}
@@ -99,21 +99,17 @@ did_in leaf _ = []
 abbrev pub deeds : ℕ → List Piece → List Did
 deeds leaf pieces = flat_map (did_in leaf) pieces
 
--- their entries, in the order in which they were made
-abbrev pub notes_of : List Did → List Noted
-notes_of ds = flat_map (λ (d : Did). d.notes) ds
-
 -- ---- the fleet
 
-abbrev pub no_fleet : Fleet
+abbrev pub no_fleet : FleetShape
 no_fleet = record { machines = 0; per_machine = 0; names = [] }
 
-abbrev pub fleet_made : Command → Fleet
+abbrev pub fleet_made : Command → FleetShape
 fleet_made (command.Fleet machines per_machine tables) = record { machines = machines; per_machine = per_machine; names = tables }
 fleet_made _ = no_fleet
 
 -- the fleet that a script's first command makes; an empty one without a command
-abbrev pub script_fleet : List Item → Fleet
+abbrev pub script_fleet : List Item → FleetShape
 script_fleet (item.One c ∷ items) = fleet_made c
 script_fleet _ = no_fleet
 

@@ -5,16 +5,22 @@ use Rattle.leaf_model.specs.declared.queries.Query.{Query}
 use Rattle.leaf_history.specs.Calls.{Call}
 use Rattle.leaf_history.specs.Calls as call
 use Rattle.script_text.specs.declared.command.Command.{Command}
-use Rattle.script_text.specs.declared.command.Command.TheVariants as command
+use Rattle.script_text.specs.declared.order.Order.{Order}
+use Rattle.script_text.specs.declared.order.Order.TheVariants as order
+use Rattle.script_text.specs.declared.order.Part.{Part}
+use Rattle.script_text.specs.declared.order.Part.TheVariants as part
+use Rattle.script_text.specs.declared.order.TableRequest.{TableRequest}
+use Rattle.script_text.specs.declared.order.TableRequest.TheVariants as request
+use Rattle.script_text.specs.Orders.{part_of}
 use Rattle.printed_lines.specs.declared.line.Said.{Said}
 use Rattle.printed_lines.specs.declared.line.Said.TheVariants.{Asked}
 use Rattle.printed_lines.specs.declared.line.Ending.{Ending}
 use Rattle.printed_lines.specs.declared.line.Line.TheVariants as line
 use Rattle.rollover_plan.specs.Plan.{IsPlan}
-use Rattle.script_text.specs.declared.fleet.Fleet.{Fleet}
+use Rattle.script_text.specs.declared.fleet.FleetShape.{FleetShape}
 use Rattle.script_text.specs.Commands.{leaf_count}
 use Rattle.printed_lines.specs.declared.line.Deed.{Deed}
-use Rattle.printed_lines.specs.declared.line.Deed.TheVariants.{Start, Flush, Drain, Kill}
+use Rattle.printed_lines.specs.declared.line.Deed.TheVariants.{Start, Drain}
 use Rattle.transcript.specs.Pieces.{Piece, Called, Worn, Acted, Says, Noted, place_among}
 
 -- A caller's call at a table. The history of the table decides what its line may tell.
@@ -33,19 +39,15 @@ abbrev pub OnePiece : (Piece → Type 0) → List Piece → Type 0
 OnePiece P pieces = (p : Piece) × P p × (pieces ≡ p ∷ [])
 
 -- the leaves that pieces name, each with the number of its entry
-abbrev pub named_by : ℕ → ℕ → Said → List (ℕ × ℕ)
-named_by leaf number Asked = (leaf, number) ∷ []
-named_by leaf number _ = []
-
 abbrev pub named_in : Piece → List (ℕ × ℕ)
-named_in (Called leaf table c number said) = named_by leaf number said
+named_in (Called leaf table c number Asked) = (leaf, number) ∷ []
 named_in _ = []
 
 abbrev pub named : List Piece → List (ℕ × ℕ)
 named pieces = flat_map named_in pieces
 
 -- an ask of each leaf, and the answer, which tells the number of named leaves
-pub record QueryPieces (fleet : Fleet) (q : Query) (pieces : List Piece) : Type 0 where
+pub record QueryPieces (fleet : FleetShape) (q : Query) (pieces : List Piece) : Type 0 where
   pub asks : List Piece
   pub rows : List (List ℕ)
   pub each : AllZip (λ leaf piece. CallPiece leaf (place_among q.table fleet.names) (call.Ask q) piece) (range_with_len 0 (leaf_count fleet)) asks
@@ -76,24 +78,33 @@ pub record RollPieces (plan : List (List ℕ)) (pieces : List Piece) : Type 0 wh
   pub are : pieces ≡ flat_map (λ (wave : List Piece). wave) begun ++ (Says (line.Rolled halted (length begun) (length plan)) ∷ map (λ (text : List ℕ). Says (line.Watch text)) texts)
 
 -- a rollover with this share, by some plan
-pub record Rolls (fleet : Fleet) (percent : ℕ) (pieces : List Piece) : Type 0 where
+pub record Rolls (fleet : FleetShape) (percent : ℕ) (pieces : List Piece) : Type 0 where
   pub plan : List (List ℕ)
   pub is_plan : IsPlan fleet.machines fleet.per_machine percent plan
   pub roll : RollPieces plan pieces
 
--- One case for each command; a new command adds one. Answers has what a tail prints, which depends on the rows of the
--- tables. Telling has what standing queries print, which depends on what was printed before.
-abbrev pub Prints : Fleet → Command → List Piece → Type 0
-Prints fleet (command.Fleet machines per_machine tables) pieces = EachActs Start (range_with_len 0 (leaf_count fleet)) pieces
-Prints fleet (command.Add leaf table rows) pieces = OnePiece (CallPiece leaf table (call.Add rows)) pieces
-Prints fleet (command.Expire leaf table horizon) pieces = OnePiece (CallPiece leaf table (call.Expire horizon)) pieces
-Prints fleet (command.Keep leaf table n) pieces = OnePiece (CallPiece leaf table (call.Keep n)) pieces
-Prints fleet (command.Query q) pieces = QueryPieces fleet q pieces
-Prints fleet (command.Tail key table rows) pieces = ⊤
-Prints fleet (command.Flush leaf table) pieces = OnePiece (ActPiece leaf (Flush table)) pieces
-Prints fleet (command.Drain leaf stop) pieces = OnePiece (ActPiece leaf (Drain stop)) pieces
-Prints fleet (command.Kill leaf) pieces = OnePiece (ActPiece leaf Kill) pieces
-Prints fleet (command.Start leaf) pieces = OnePiece (ActPiece leaf Start) pieces
-Prints fleet (command.Rollover percent) pieces = Rolls fleet percent pieces
-Prints fleet (command.Standing leaf q) pieces = ⊤
-Prints fleet (command.Tell standing) pieces = ⊤
+-- the call that a request makes
+abbrev pub call_of : TableRequest → Call
+call_of (request.Add rows) = call.Add rows
+call_of (request.Expire horizon) = call.Expire horizon
+call_of (request.Keep n) = call.Keep n
+call_of (request.Ask q) = call.Ask q
+
+-- One case for each order; a new one adds a case. Answers has what a tail prints, which depends on the rows of the
+-- tables.
+abbrev pub PrintsOrder : FleetShape → Order → List Piece → Type 0
+PrintsOrder fleet order.Start pieces = EachActs Start (range_with_len 0 (leaf_count fleet)) pieces
+PrintsOrder fleet (order.Call leaf table r) pieces = OnePiece (CallPiece leaf table (call_of r)) pieces
+PrintsOrder fleet (order.Deed leaf d) pieces = OnePiece (ActPiece leaf d) pieces
+PrintsOrder fleet (order.Query q) pieces = QueryPieces fleet q pieces
+PrintsOrder fleet (order.Tail key table rows) pieces = ⊤
+PrintsOrder fleet (order.Rollover percent) pieces = Rolls fleet percent pieces
+
+-- Telling has what standing queries print, which depends on what was printed before.
+abbrev pub PrintsPart : FleetShape → Part → List Piece → Type 0
+PrintsPart fleet (part.Leaves o) pieces = PrintsOrder fleet o pieces
+PrintsPart fleet (part.Run o) pieces = ⊤
+
+-- what a command prints, by what it tells
+abbrev pub Prints : FleetShape → Command → List Piece → Type 0
+Prints fleet c pieces = PrintsPart fleet (part_of c) pieces

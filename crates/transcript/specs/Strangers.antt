@@ -7,7 +7,7 @@ use Rattle.log_recovery.specs.declared.fault.RecoveryFault.TheVariants as found
 use Rattle.leaf_words.specs.declared.ways.Way.TheVariants.{Memory, Disk}
 use Rattle.printed_lines.specs.declared.line.Ending.{Ending}
 use Rattle.printed_lines.specs.declared.line.Ending.TheVariants as ends
-use Rattle.transcript.specs.Pieces.{Did, Piece, deeds}
+use Rattle.transcript.specs.Pieces.{Did}
 
 -- A start over this region and log tells the first stranger of the region's directory, or, if the region is no image,
 -- of the log. A start that came up found none.
@@ -30,6 +30,3 @@ Behind _ region P = (now : List ℕ) × IsClosed now × P now
 abbrev pub StrangersIn : List (List ℕ) → List ℕ → List ℕ → List Did → Type 0
 StrangersIn names disk region [] = ⊤
 StrangersIn names disk region (d ∷ ds) = FitsStrangers names region disk d.ending × Behind d.ending region (λ now. StrangersIn names disk now ds)
-
-abbrev pub Strangers : List (List ℕ) → List ℕ → ℕ → List ℕ → List Piece → Type 0
-Strangers names disk leaf region pieces = StrangersIn names disk region (deeds leaf pieces)

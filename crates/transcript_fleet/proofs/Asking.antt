@@ -2,7 +2,7 @@
 use Rattle.std.proofs.Common.{◌≡◌, ℕ, zero, suc, ◌+◌, ◌<◌, List, [], ◌∷◌, ◌++◌, length, inl, inr, refl, sym, ap, ap₂, subst, ◌∙◌, arith, Option}
 use Rattle.std.specs.List.{AllByRecursion, AllZip, range_with_len}
 use Rattle.std.proofs.lemmas.Grind.{flat_map-append}
-use Rattle.leaf_model.specs.declared.rows.Row.{Row}
+use Rattle.row_model.specs.declared.rows.Row.{Row}
 use Rattle.leaf_model.specs.declared.queries.Query.{Query}
 use Rattle.berth_face.specs.Berth.{Meaning}
 use Rattle.leaf_history.specs.Calls.{Call}
@@ -13,18 +13,18 @@ use Rattle.script_text.specs.declared.command.Command.TheVariants as command
 use Rattle.printed_lines.specs.declared.line.Said.{Said}
 use Rattle.printed_lines.specs.declared.line.Said.TheVariants.{Added, Removed, Asked, RefusedShut, RefusedFull, RefusedMemory, Opened, Took, Flushed, Closed, Handed}
 use Rattle.printed_lines.specs.declared.line.Line.TheVariants as line
-use Rattle.script_text.specs.declared.fleet.Fleet.{Fleet}
+use Rattle.script_text.specs.declared.fleet.FleetShape.{FleetShape}
 use Rattle.script_text.specs.Commands.{leaf_count}
-use Rattle.transcript.specs.Pieces.{Piece, PlayedItem, Says, place_among}
-use Rattle.transcript.specs.Shapes.{CallPiece, Prints, QueryPieces, named, named_by, named_in}
-use Rattle.transcript.specs.Histories.{Ground, rows_before}
-use Rattle.transcript.specs.Answers.{AnswerIs, Answers, partial}
-use Rattle.transcript.specs.Transcript.{Known, grounds_of}
-use Rattle.leaf_moves.specs.Holds.{Hold, grounds_in}
-use Rattle.transcript_leaf.proofs.Leaf.{leaf_ground}
+use Rattle.transcript.specs.Pieces.{Called, Piece, PlayedItem, Says, place_among}
+use Rattle.transcript.specs.Shapes.{CallPiece, Prints, QueryPieces, named, named_in}
+use Rattle.transcript.specs.Histories.{BaseState, rows_before}
+use Rattle.transcript.specs.Answers.{AnswerIs, Answers, rows_of_named}
+use Rattle.transcript.specs.Transcript.{Known, base_states_of}
+use Rattle.leaf_moves.specs.Holds.{Hold, base_states_in}
+use Rattle.transcript_leaf.proofs.Leaf.{leaf_base_state}
 use Rattle.transcript_leaf.proofs.Lists.{element_at}
 use Rattle.transcript_fleet.proofs.Lists.{All-append, All-weaken}
-use Rattle.transcript_fleet.proofs.Growing.{grounds_here}
+use Rattle.transcript_fleet.proofs.Growing.{base_states_here}
 use Rattle.transcript_fleet.proofs.Going.{IsWithin, Leaves}
 use Rattle.transcript_fleet.proofs.Tailing.{All-parts, tail_same}
 
@@ -34,24 +34,24 @@ use Rattle.transcript_fleet.proofs.Tailing.{All-parts, tail_same}
 abbrev IsBelow : ℕ → ℕ → ℕ → ℕ × ℕ → Type 0
 IsBelow leaves table tables l = (l.0 < leaves) × (table < tables)
 
-said_named : (leaves leaf table tables number : ℕ) (said : Said) → leaf < leaves → table < tables → AllByRecursion (IsBelow leaves table tables) (named_by leaf number said)
-said_named leaves leaf table tables number Asked below within = ((below, within), tt)
-said_named leaves leaf table tables number (Added kept late) below within = tt
-said_named leaves leaf table tables number (Removed rows) below within = tt
-said_named leaves leaf table tables number RefusedShut below within = tt
-said_named leaves leaf table tables number RefusedFull below within = tt
-said_named leaves leaf table tables number RefusedMemory below within = tt
-said_named leaves leaf table tables number (Opened n) below within = tt
-said_named leaves leaf table tables number (Took n) below within = tt
-said_named leaves leaf table tables number (Flushed n) below within = tt
-said_named leaves leaf table tables number (Closed n) below within = tt
-said_named leaves leaf table tables number Handed below within = tt
+said_named : (leaves leaf table tables number : ℕ) (c : Call) (said : Said) → leaf < leaves → table < tables → AllByRecursion (IsBelow leaves table tables) (named_in (Called leaf table c number said))
+said_named leaves leaf table tables number c Asked below within = ((below, within), tt)
+said_named leaves leaf table tables number c (Added kept late) below within = tt
+said_named leaves leaf table tables number c (Removed rows) below within = tt
+said_named leaves leaf table tables number c RefusedShut below within = tt
+said_named leaves leaf table tables number c RefusedFull below within = tt
+said_named leaves leaf table tables number c RefusedMemory below within = tt
+said_named leaves leaf table tables number c (Opened n) below within = tt
+said_named leaves leaf table tables number c (Took n) below within = tt
+said_named leaves leaf table tables number c (Flushed n) below within = tt
+said_named leaves leaf table tables number c (Closed n) below within = tt
+said_named leaves leaf table tables number c Handed below within = tt
 
 ask_named : (leaves leaf table tables : ℕ) (c : Call) (p : Piece) → leaf < leaves → CallPiece leaf table c p → IsWithin tables p
     → AllByRecursion (IsBelow leaves table tables) (named_in p)
 ask_named leaves leaf table tables c p below (inl k) within =
     subst (λ (q : Piece). AllByRecursion (IsBelow leaves table tables) (named_in q)) (sym k.2)
-    (said_named leaves leaf table tables k.0 k.1 below (subst (λ (q : Piece). IsWithin tables q) k.2 within))
+    (said_named leaves leaf table tables k.0 c k.1 below (subst (λ (q : Piece). IsWithin tables q) k.2 within))
 ask_named leaves leaf table tables c p below (inr is) within = subst (λ (q : Piece). AllByRecursion (IsBelow leaves table tables) (named_in q)) (sym is) tt
 
 asks_named : (leaves leaf count table tables : ℕ) (c : Call) (asks : List Piece) → leaf + count ≡ leaves
@@ -68,7 +68,7 @@ asks_named leaves leaf (suc count) table tables c (p ∷ ps) all is within =
 from_none : (n : ℕ) → 0 + n ≡ n
 from_none n = omega arith
 
-query_named : (fleet : Fleet) (q : Query) (pieces : List Piece) → QueryPieces fleet q pieces → AllByRecursion (IsWithin (length fleet.names)) pieces
+query_named : (fleet : FleetShape) (q : Query) (pieces : List Piece) → QueryPieces fleet q pieces → AllByRecursion (IsWithin (length fleet.names)) pieces
     → AllByRecursion (IsBelow (leaf_count fleet) (place_among q.table fleet.names) (length fleet.names)) (named pieces)
 query_named fleet q pieces asked within =
     let table : ℕ = place_among q.table fleet.names in
@@ -83,30 +83,30 @@ query_named fleet q pieces asked within =
 
 -- ---- what they are over
 
-partial_same : (f g : ℕ → Ground) (histories : ℕ → List Entry) (leaves : List (ℕ × ℕ)) → AllByRecursion (λ (l : ℕ × ℕ). f l.0 ≡ g l.0) leaves → partial f histories leaves ≡ partial g histories leaves
+partial_same : (f g : ℕ → BaseState) (histories : ℕ → List Entry) (leaves : List (ℕ × ℕ)) → AllByRecursion (λ (l : ℕ × ℕ). f l.0 ≡ g l.0) leaves → rows_of_named f histories leaves ≡ rows_of_named g histories leaves
 partial_same f g histories [] same = refl
 partial_same f g histories (l ∷ ls) same =
-    ap₂ (λ (xs ys : List Row). xs ++ ys) (ap (λ (x : Ground). rows_before x (histories l.0) l.1) same.0) (partial_same f g histories ls same.1)
+    ap₂ (λ (xs ys : List Row). xs ++ ys) (ap (λ (x : BaseState). rows_before x (histories l.0) l.1) same.0) (partial_same f g histories ls same.1)
 
-module _ {B : Type 0} (meaning : B → Meaning) (fleet : Fleet) (known : ℕ → Option Known) (olds : List B) (before : List Piece) (start : ℕ → ℕ → List Entry)
+module _ {B : Type 0} (meaning : B → Meaning) (fleet : FleetShape) (known : ℕ → Option Known) (olds : List B) (before : List Piece) (start : ℕ → ℕ → List Entry)
     (items : List PlayedItem) (pieces : List Piece) (ys : List (Hold B)) (now : Leaves meaning fleet known olds before start items ys) where
   -- the leaves' tables began from what is known of them
-  pub ground_is : (leaf table : ℕ) → leaf < leaf_count fleet → table < length fleet.names → grounds_in ys leaf table ≡ grounds_of fleet known leaf table
-  ground_is leaf table below within =
+  pub base_state_is : (leaf table : ℕ) → leaf < leaf_count fleet → table < length fleet.names → base_states_in ys leaf table ≡ base_states_of fleet known leaf table
+  base_state_is leaf table below within =
       let old = element_at olds leaf (subst (λ (n : ℕ). leaf < n) (sym now.counts.0) below) in
       let y = element_at ys leaf (subst (λ (n : ℕ). leaf < n) (sym now.counts.1) below) in
-      grounds_here ys leaf y.0 table y.1
-      ∙ leaf_ground meaning leaf fleet.names (known leaf) (meaning old.0) before (start leaf) items y.0 (now.each leaf old.0 y.0 old.1 y.1) table within
+      base_states_here ys leaf y.0 table y.1
+      ∙ leaf_base_state meaning leaf fleet.names (known leaf) (meaning old.0) before (start leaf) items y.0 (now.each leaf old.0 y.0 old.1 y.1) table within
 
   pub answers_known : (c : Command) (histories : ℕ → ℕ → List Entry) → Prints fleet c pieces → AllByRecursion (IsWithin (length fleet.names)) pieces
-      → Answers fleet (grounds_in ys) histories (record { command = c; pieces = pieces }) → Answers fleet (grounds_of fleet known) histories (record { command = c; pieces = pieces })
+      → Answers fleet (base_states_in ys) histories (record { command = c; pieces = pieces }) → Answers fleet (base_states_of fleet known) histories (record { command = c; pieces = pieces })
   answers_known (command.Query q) histories prints within answers =
       let table : ℕ = place_among q.table fleet.names in
-      let same = partial_same (λ leaf. grounds_in ys leaf table) (λ leaf. grounds_of fleet known leaf table) (λ leaf. histories leaf table) (named pieces)
-      (All-weaken (IsBelow (leaf_count fleet) table (length fleet.names)) (λ (l : ℕ × ℕ). grounds_in ys l.0 table ≡ grounds_of fleet known l.0 table)
-      (λ l is. ground_is l.0 table is.0 is.1) (named pieces) (query_named fleet q pieces prints within)) in
+      let same = partial_same (λ leaf. base_states_in ys leaf table) (λ leaf. base_states_of fleet known leaf table) (λ leaf. histories leaf table) (named pieces)
+      (All-weaken (IsBelow (leaf_count fleet) table (length fleet.names)) (λ (l : ℕ × ℕ). base_states_in ys l.0 table ≡ base_states_of fleet known l.0 table)
+      (λ l is. base_state_is l.0 table is.0 is.1) (named pieces) (query_named fleet q pieces prints within)) in
       subst (λ (rows : List Row). AllByRecursion (AnswerIs q rows) pieces) same answers
   answers_known (command.Tail key table rows) histories prints within answers =
-      tail_same (leaf_count fleet) table (length fleet.names) (λ leaf. grounds_in ys leaf table) (λ leaf. grounds_of fleet known leaf table) (λ leaf. histories leaf table)
-      (λ leaf below here. ground_is leaf table below here) key rows pieces within answers
+      tail_same (leaf_count fleet) table (length fleet.names) (λ leaf. base_states_in ys leaf table) (λ leaf. base_states_of fleet known leaf table) (λ leaf. histories leaf table)
+      (λ leaf below here. base_state_is leaf table below here) key rows pieces within answers
   answers_known _ histories prints within answers = tt

@@ -4,12 +4,12 @@ use Rattle.std.specs.Prelude.{slice_get, nat_lt, is_some}
 use Rattle.std.proofs.lemmas.Bool.{ltb-true, ltb-false}
 use Rattle.berth_face.specs.Berth.{Meaning}
 use Rattle.leaf_history.specs.History.{Entry}
-use Rattle.script_text.specs.declared.fleet.Fleet.{Fleet}
+use Rattle.script_text.specs.declared.fleet.FleetShape.{FleetShape}
 use Rattle.script_text.specs.Commands.{leaf_count}
 use Rattle.transcript.specs.Pieces.{Piece, PlayedItem, all_pieces, deeds}
 use Rattle.transcript.specs.Life.{Life, Lives}
 use Rattle.transcript.specs.Answers.{columns_of}
-use Rattle.transcript.specs.Transcript.{Known, first_life, grounds_of}
+use Rattle.transcript.specs.Transcript.{Known, first_life, base_states_of}
 use Rattle.transcript.specs.Moments.{MomentsRise, notes_told}
 use Rattle.transcript.specs.Leaving.{LeavesBerth}
 use Rattle.leaf_moves.specs.Stage.{Leaf}
@@ -52,7 +52,7 @@ abbrev nobody : {B : Type 0} → Hold B
 nobody = record { tables = []; callers = []; held = None }
 
 -- a leaf ended so
-record EndsSo {B : Type 0} (meaning : B → Meaning) (fleet : Fleet) (known : ℕ → Option Known) (olds : List B) (items : List PlayedItem) (xs : List (Hold B)) (leaf : ℕ) (end : Final B) : Type 0 where
+record EndsSo {B : Type 0} (meaning : B → Meaning) (fleet : FleetShape) (known : ℕ → Option Known) (olds : List B) (items : List PlayedItem) (xs : List (Hold B)) (leaf : ℕ) (end : Final B) : Type 0 where
   old : B
   x : Hold B
   at_old : slice_get olds leaf ≡ Some old
@@ -67,7 +67,7 @@ record EndsSo {B : Type 0} (meaning : B → Meaning) (fleet : Fleet) (known : �
   berth_is : berth_in x ≡ Some berth
   longer : Grows x end.hold
 
-module _ {B : Type 0} (meaning : B → Meaning) (olds : List B) (fleet : Fleet) (known : ℕ → Option Known) (items : List PlayedItem) (xs : List (Hold B))
+module _ {B : Type 0} (meaning : B → Meaning) (olds : List B) (fleet : FleetShape) (known : ℕ → Option Known) (items : List PlayedItem) (xs : List (Hold B))
     (s : Session meaning fleet known olds items xs) (met : (leaf : ℕ) (x : Hold B) → slice_get xs leaf ≡ Some x → HasMet meaning x) where
   abbrev pieces : List Piece
   pieces = all_pieces items
@@ -152,7 +152,7 @@ module _ {B : Type 0} (meaning : B → Meaning) (olds : List B) (fleet : Fleet) 
       prints = s.stretch.prints;
       each_lives = λ leaf below.
           let end = ended_so leaf below in
-          subst (λ (l : Life). Lives (is_some (known leaf)) (length fleet.names) (columns_of (grounds_of fleet known leaf) (histories leaf) (length fleet.names)) [] (first_life (known leaf) fleet.names) (deeds leaf pieces) l)
+          subst (λ (l : Life). Lives (is_some (known leaf)) (length fleet.names) (columns_of (base_states_of fleet known leaf) (histories leaf) (length fleet.names)) [] (first_life (known leaf) fleet.names) (deeds leaf pieces) l)
           end.life_is (leaf_lives meaning leaf fleet.names (known leaf) (meaning end.old) items (finals leaf).hold end.now end.met end.last end.berth end.held);
       one_history = λ leaf table below within.
           let end = ended_so leaf below in

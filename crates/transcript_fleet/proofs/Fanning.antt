@@ -3,7 +3,7 @@ use Rattle.std.proofs.Common.{◌≡◌, ◌⊎◌, ℕ, Bool, false, List, [], 
 use Rattle.std.specs.Prelude.{is_some, slice_get}
 use Rattle.berth_face.specs.Berth.{Meaning}
 use Rattle.leaf_history.specs.History.{Entry}
-use Rattle.script_text.specs.declared.fleet.Fleet.{Fleet}
+use Rattle.script_text.specs.declared.fleet.FleetShape.{FleetShape}
 use Rattle.script_text.specs.Commands.{leaf_count}
 use Rattle.transcript.specs.Pieces.{Piece, Played, PlayedItem, One, Burst, all_pieces, pieces_in, plays_in}
 use Rattle.transcript.specs.Transcript.{Known}
@@ -76,7 +76,7 @@ record Found {B : Type 0} (olds : List B) (xs off rest off' rest' : List (Hold B
   at_o' : slice_get off' leaf ≡ Some o'
   at_r' : slice_get rest' leaf ≡ Some r'
 
-module _ {B : Type 0} (meaning : B → Meaning) (fleet : Fleet) (known : ℕ → Option Known) (olds : List B) (before : List Piece) (start : ℕ → ℕ → List Entry) where
+module _ {B : Type 0} (meaning : B → Meaning) (fleet : FleetShape) (known : ℕ → Option Known) (olds : List B) (before : List Piece) (start : ℕ → ℕ → List Entry) where
   abbrev Here : List PlayedItem → List (Hold B) → Type 0
   Here items xs = Stretch meaning fleet known olds before start items xs
 

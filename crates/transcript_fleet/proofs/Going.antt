@@ -11,7 +11,7 @@ use Rattle.leaf_table.specs.Calls.{SeatView, name_of}
 use Rattle.script_text.specs.declared.command.Command.{Command}
 use Rattle.printed_lines.specs.declared.line.Line.{Line}
 use Rattle.printed_lines.specs.declared.line.Said.{Said}
-use Rattle.script_text.specs.declared.fleet.Fleet.{Fleet}
+use Rattle.script_text.specs.declared.fleet.FleetShape.{FleetShape}
 use Rattle.script_text.specs.Commands.{leaf_count}
 use Rattle.printed_lines.specs.declared.line.Deed.{Deed}
 use Rattle.transcript.specs.Pieces.{Acted, Called, Piece, PlayedItem, Says, Worn}
@@ -42,7 +42,7 @@ abbrev pub LeavesAlone : {B : Type 0} → List (Hold B) → List Piece → Type 
 LeavesAlone {B} xs pieces = (leaf : ℕ) (x : Hold B) → slice_get xs leaf ≡ Some x → is_some x.held ≡ false → HasNoDeed leaf pieces
 
 -- each leaf after these items
-pub record Leaves {B : Type 0} (meaning : B → Meaning) (fleet : Fleet) (known : ℕ → Option Known) (olds : List B) (before : List Piece) (start : ℕ → ℕ → List Entry)
+pub record Leaves {B : Type 0} (meaning : B → Meaning) (fleet : FleetShape) (known : ℕ → Option Known) (olds : List B) (before : List Piece) (start : ℕ → ℕ → List Entry)
     (items : List PlayedItem) (xs : List (Hold B)) : Type 0 where
   pub counts : (length olds ≡ leaf_count fleet) × (length xs ≡ leaf_count fleet)
   pub each : (leaf : ℕ) (old : B) (x : Hold B) → slice_get olds leaf ≡ Some old → slice_get xs leaf ≡ Some x
@@ -50,7 +50,7 @@ pub record Leaves {B : Type 0} (meaning : B → Meaning) (fleet : Fleet) (known 
 
 -- What is known behind more pieces of a command: of each leaf; that it grew, and who holds what stays; that seats that
 -- are told as worn are; and of which leaves and tables they are.
-pub record Behind {B : Type 0} (meaning : B → Meaning) (fleet : Fleet) (known : ℕ → Option Known) (olds : List B) (before : List Piece) (start : ℕ → ℕ → List Entry)
+pub record Behind {B : Type 0} (meaning : B → Meaning) (fleet : FleetShape) (known : ℕ → Option Known) (olds : List B) (before : List Piece) (start : ℕ → ℕ → List Entry)
     (items : List PlayedItem) (c0 : Command) (ps more : List Piece) (xs ys : List (Hold B)) : Type 0 where
   pub leaves : Leaves meaning fleet known olds before start (with_pieces items c0 (ps ++ more)) ys
   pub becomes : Becomes xs ys
@@ -96,7 +96,7 @@ alone_on xs ys some others becomes first then leaf x at none =
     let y = also_at xs ys leaf x becomes.grow.count at in
     All-append (IsNoDeed leaf) some others (first leaf x at none) (then leaf y.0 y.1 (sym (becomes.same leaf x y.0 at y.1).held ∙ none))
 
-module _ {B : Type 0} (meaning : B → Meaning) (fleet : Fleet) (known : ℕ → Option Known) (olds : List B) (before : List Piece) (start : ℕ → ℕ → List Entry)
+module _ {B : Type 0} (meaning : B → Meaning) (fleet : FleetShape) (known : ℕ → Option Known) (olds : List B) (before : List Piece) (start : ℕ → ℕ → List Entry)
     (items : List PlayedItem) (c0 : Command) where
   -- what is known of the leaf with that number
   abbrev Now : ℕ → B → List Piece → Hold B → Type 0

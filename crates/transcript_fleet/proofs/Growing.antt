@@ -5,7 +5,7 @@ use Rattle.std.specs.Prelude.{slice_get, slice_set, nat_lt}
 use Rattle.std.proofs.lemmas.Bool.{ltb-true, ltb-false}
 use Rattle.std.proofs.lemmas.List.{append-nil, append_assoc}
 use Rattle.leaf_history.specs.History.{Entry}
-use Rattle.leaf_moves.specs.Holds.{GoOn, Hold, ground_at, grounds_in, histories_of, seen_in}
+use Rattle.leaf_moves.specs.Holds.{GoOn, Hold, base_state_at, base_states_in, histories_of, seen_in}
 use Rattle.transcript_leaf.specs.Session.{AreSame}
 use Rattle.transcript_leaf.proofs.Lists.{element_at, length_set, same_some}
 use Rattle.transcript_leaf.proofs.Terms.{Grows}
@@ -45,10 +45,10 @@ module _ {B : Type 0} where
   no_histories (x ∷ xs) zero table h = absurd (omega (arith, h))
   no_histories (x ∷ xs) (suc leaf) table h = no_histories xs leaf table (omega (arith, h))
 
-  pub grounds_here : (xs : List (Hold B)) (leaf : ℕ) (x : Hold B) (table : ℕ) → slice_get xs leaf ≡ Some x → grounds_in xs leaf table ≡ ground_at x.tables table
-  grounds_here [] leaf x table at = absurd cc
-  grounds_here (y ∷ ys) zero x table at = ap (λ (z : Hold B). ground_at z.tables table) (same_some y x at)
-  grounds_here (y ∷ ys) (suc leaf) x table at = grounds_here ys leaf x table at
+  pub base_states_here : (xs : List (Hold B)) (leaf : ℕ) (x : Hold B) (table : ℕ) → slice_get xs leaf ≡ Some x → base_states_in xs leaf table ≡ base_state_at x.tables table
+  base_states_here [] leaf x table at = absurd cc
+  base_states_here (y ∷ ys) zero x table at = ap (λ (z : Hold B). base_state_at z.tables table) (same_some y x at)
+  base_states_here (y ∷ ys) (suc leaf) x table at = base_states_here ys leaf x table at
 
   -- histories that go on from all go on from each
   pub goes_on_here : (xs : List (Hold B)) (leaf : ℕ) (x : Hold B) (histories : ℕ → ℕ → List Entry) → slice_get xs leaf ≡ Some x → GoOn xs histories

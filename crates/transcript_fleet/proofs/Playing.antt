@@ -4,11 +4,11 @@ use Rattle.std.specs.List.{AllByRecursion}
 use Rattle.std.proofs.lemmas.List.{append-nil, append_assoc}
 use Rattle.berth_face.specs.Berth.{Meaning}
 use Rattle.leaf_history.specs.History.{Entry}
-use Rattle.script_text.specs.declared.fleet.Fleet.{Fleet}
+use Rattle.script_text.specs.declared.fleet.FleetShape.{FleetShape}
 use Rattle.transcript.specs.Pieces.{Piece, Played, PlayedItem, One, pieces_in, plays_in}
 use Rattle.transcript.specs.Shapes.{Prints}
 use Rattle.transcript.specs.Answers.{Answers, WornIsLong}
-use Rattle.transcript.specs.Transcript.{Known, grounds_of}
+use Rattle.transcript.specs.Transcript.{Known, base_states_of}
 use Rattle.leaf_moves.specs.Holds.{GoOn, Hold}
 use Rattle.leaf_moves.specs.Plays.{Plays}
 use Rattle.leaf_moves.specs.Lanes.{PlaysOn}
@@ -22,13 +22,13 @@ use Rattle.transcript_fleet.proofs.Asking.{answers_known}
 
 -- What is known of commands that were played: each printed what belongs to it, and its answers, and the seats that it
 -- told as worn, are right however histories go on from these holds.
-pub record AreRight {B : Type 0} (fleet : Fleet) (known : ℕ → Option Known) (plays : List Played) (xs : List (Hold B)) : Type 0 where
+pub record AreRight {B : Type 0} (fleet : FleetShape) (known : ℕ → Option Known) (plays : List Played) (xs : List (Hold B)) : Type 0 where
   pub prints : AllByRecursion (λ (p : Played). Prints fleet p.command p.pieces) plays
-  pub answered : (histories : ℕ → ℕ → List Entry) → GoOn xs histories → AllByRecursion (Answers fleet (grounds_of fleet known) histories) plays
+  pub answered : (histories : ℕ → ℕ → List Entry) → GoOn xs histories → AllByRecursion (Answers fleet (base_states_of fleet known) histories) plays
   pub worn : (histories : ℕ → ℕ → List Entry) → GoOn xs histories → AllByRecursion (WornIsLong histories) (pieces_in plays)
 
 -- A stretch went on by these pieces up to these items.
-pub record WentOn {B : Type 0} (meaning : B → Meaning) (fleet : Fleet) (known : ℕ → Option Known) (olds : List B) (before : List Piece) (start : ℕ → ℕ → List Entry)
+pub record WentOn {B : Type 0} (meaning : B → Meaning) (fleet : FleetShape) (known : ℕ → Option Known) (olds : List B) (before : List Piece) (start : ℕ → ℕ → List Entry)
     (items : List PlayedItem) (pieces : List Piece) (xs ys : List (Hold B)) : Type 0 where
   pub stretch : Stretch meaning fleet known olds before start items ys
   pub becomes : Becomes xs ys
@@ -36,11 +36,11 @@ pub record WentOn {B : Type 0} (meaning : B → Meaning) (fleet : Fleet) (known 
 
 -- ---- what is known of commands
 
-module _ {B : Type 0} (fleet : Fleet) (known : ℕ → Option Known) where
+module _ {B : Type 0} (fleet : FleetShape) (known : ℕ → Option Known) where
   pub right_joined : (plays others : List Played) (xs : List (Hold B)) → AreRight fleet known plays xs → AreRight fleet known others xs → AreRight fleet known (plays ++ others) xs
   right_joined plays others xs first then = record {
     prints = All-append (λ (p : Played). Prints fleet p.command p.pieces) plays others first.prints then.prints;
-    answered = λ histories on. All-append (Answers fleet (grounds_of fleet known) histories) plays others (first.answered histories on) (then.answered histories on);
+    answered = λ histories on. All-append (Answers fleet (base_states_of fleet known) histories) plays others (first.answered histories on) (then.answered histories on);
     worn = λ histories on. subst (λ (ps : List Piece). AllByRecursion (WornIsLong histories) ps) (sym (pieces-append plays others))
         (All-append (WornIsLong histories) (pieces_in plays) (pieces_in others) (first.worn histories on) (then.worn histories on));
   }
@@ -53,7 +53,7 @@ module _ {B : Type 0} (fleet : Fleet) (known : ℕ → Option Known) where
     worn = λ histories on. right.worn histories (went_back xs ys histories grow on);
   }
 
-module _ {B : Type 0} (meaning : B → Meaning) (fleet : Fleet) (known : ℕ → Option Known) (olds : List B) (before : List Piece) (start : ℕ → ℕ → List Entry) where
+module _ {B : Type 0} (meaning : B → Meaning) (fleet : FleetShape) (known : ℕ → Option Known) (olds : List B) (before : List Piece) (start : ℕ → ℕ → List Entry) where
   abbrev Here : List PlayedItem → List (Hold B) → Type 0
   Here items xs = Stretch meaning fleet known olds before start items xs
 

@@ -4,7 +4,7 @@ use Rattle.std.specs.Prelude.{slice_get}
 use Rattle.std.specs.List.{flat_map}
 use Rattle.berth_face.specs.Berth.{Meaning}
 use Rattle.leaf_history.specs.History.{Entry}
-use Rattle.script_text.specs.declared.fleet.Fleet.{Fleet}
+use Rattle.script_text.specs.declared.fleet.FleetShape.{FleetShape}
 use Rattle.transcript.specs.Pieces.{Played, PlayedItem, One, Burst, all_pieces, plays_in}
 use Rattle.transcript.specs.Transcript.{Known}
 use Rattle.leaf_moves.specs.Stage.{Leaf}
@@ -22,7 +22,7 @@ use Rattle.transcript_fleet.proofs.Items.{also_at, plays-append, plays_in_turn}
 use Rattle.transcript_fleet.proofs.Growing.{Becomes, becomes_still, went_back}
 use Rattle.transcript_fleet.proofs.Playing.{AreRight, WentOn, command_on, lane_on, right_joined, right_of, right_still, stretch_of}
 use Rattle.transcript_fleet.proofs.Fanning.{fans_on}
-use Rattle.transcript_fleet.proofs.Asking.{ground_is}
+use Rattle.transcript_fleet.proofs.Asking.{base_state_is}
 
 -- ---- it begins
 
@@ -66,7 +66,7 @@ abbrev seen_at : {B : Type 0} → Option (Hold B) → ℕ → List Entry
 seen_at None place = []
 seen_at (Some x) place = seen_in x place
 
-module _ {B : Type 0} (meaning : B → Meaning) (olds : List B) (fleet : Fleet) (known : ℕ → Option Known) (items : List PlayedItem) (xs : List (Hold B))
+module _ {B : Type 0} (meaning : B → Meaning) (olds : List B) (fleet : FleetShape) (known : ℕ → Option Known) (items : List PlayedItem) (xs : List (Hold B))
     (s : Session meaning fleet known olds items xs) where
   abbrev Now : ℕ → B → List PlayedItem → Hold B → Type 0
   Now leaf old is x = LeafSession meaning leaf fleet.names (known leaf) (meaning old) [] (nothing_yet leaf) is x
@@ -201,4 +201,4 @@ module _ {B : Type 0} (meaning : B → Meaning) (olds : List B) where
 
   pub sessions_know : SessionsKnow meaning olds
   sessions_know fleet known items xs s leaf table below within =
-      ground_is meaning fleet known olds [] nothing_yet items [] xs (record { counts = s.stretch.counts; each = s.stretch.each }) leaf table below within
+      base_state_is meaning fleet known olds [] nothing_yet items [] xs (record { counts = s.stretch.counts; each = s.stretch.each }) leaf table below within

@@ -2,19 +2,19 @@
 use Rattle.std.proofs.Common.{◌≡◌, ℕ, ◌<◌, Bool, List, [], ◌∷◌, ◌++◌, inl, inr, refl, sym, ap, ap₂, subst, ◌∙◌, mod-lt, Option, Some, None, IfSome}
 use Rattle.std.specs.Prelude.{if◌then◌else◌, option_and_then, option_to_list, is_some}
 use Rattle.std.specs.List.{AllByRecursion, flat_map}
-use Rattle.leaf_model.specs.declared.rows.Row.{Row}
+use Rattle.row_model.specs.declared.rows.Row.{Row}
 use Rattle.leaf_model.specs.Groups.{groups}
 use Rattle.leaf_history.specs.Calls.{Call}
 use Rattle.leaf_history.specs.Calls as call
 use Rattle.leaf_history.specs.History.{Entry}
 use Rattle.tail_picks.specs.Room.{every_row, free_rows}
-use Rattle.tail_picks.specs.Tails.{TryOf, Tails, IsTry, Goes, pick_of, picked, sent_by, words_of}
+use Rattle.tail_picks.specs.Tails.{TryOf, Tails, IsTry, TryGoesOn, pick_of, picked, sent_by, words_of}
 use Rattle.printed_lines.specs.declared.line.Said.{Said}
 use Rattle.printed_lines.specs.declared.line.Said.TheVariants.{Asked}
 use Rattle.printed_lines.specs.declared.line.Line.TheVariants as line
 use Rattle.transcript.specs.Pieces.{Piece, Called, Says}
 use Rattle.transcript.specs.Shapes.{CallPiece}
-use Rattle.transcript.specs.Histories.{Ground, rows_before}
+use Rattle.transcript.specs.Histories.{BaseState, rows_before}
 use Rattle.transcript.specs.Tails.{TailPieces, TryPieces, free_then, pieces_of_try, tells_added}
 use Rattle.transcript_fleet.proofs.Going.{IsWithin}
 
@@ -39,22 +39,22 @@ module _ {R : Type 0} (free other : R → Option ℕ) (is_added : R → Bool) wh
   tails_same n [] [] sent agree tails = tails
   tails_same n (u ∷ v ∷ words) (t ∷ ts) sent agree tails = (
     record { first = tails.0.first; second = tails.0.second; two = tails.0.two; add = tails.0.add ∙ ap (λ (o : Option ℕ). is_some o) (pick_same t agree.0) },
-    subst (λ (o : Option ℕ). Goes free is_added o ts sent (Tails other is_added n words ts sent)) (sent_same t agree.0) (goes (λ more. tails_same n words ts sent agree.1 more) (sent_by free is_added t) tails.1),
+    subst (λ (o : Option ℕ). TryGoesOn free is_added o ts sent (Tails other is_added n words ts sent)) (sent_same t agree.0) (goes (λ more. tails_same n words ts sent agree.1 more) (sent_by free is_added t) tails.1),
   )
     where
       goes : (Tails free is_added n words ts sent → Tails other is_added n words ts sent) → (o : Option ℕ)
-          → Goes free is_added o ts sent (Tails free is_added n words ts sent) → Goes free is_added o ts sent (Tails other is_added n words ts sent)
+          → TryGoesOn free is_added o ts sent (Tails free is_added n words ts sent) → TryGoesOn free is_added o ts sent (Tails other is_added n words ts sent)
       goes further (Some leaf) ends = ends
       goes further None more = further more
   tails_same n [] (t ∷ ts) sent agree tails = absurd tails
   tails_same n (u ∷ []) ts sent agree tails = absurd tails
   tails_same n (u ∷ v ∷ words) [] sent agree tails = absurd tails
 
-module _ (leaves table tables : ℕ) (f g : ℕ → Ground) (histories : ℕ → List Entry) (same : (leaf : ℕ) → leaf < leaves → table < tables → f leaf ≡ g leaf) where
+module _ (leaves table tables : ℕ) (f g : ℕ → BaseState) (histories : ℕ → List Entry) (same : (leaf : ℕ) → leaf < leaves → table < tables → f leaf ≡ g leaf) where
   -- ---- what one leaf told
 
   said_free : (leaf number : ℕ) (c : Call) (said : Said) → leaf < leaves → table < tables → free_then f histories (Called leaf table c number said) ≡ free_then g histories (Called leaf table c number said)
-  said_free leaf number c Asked below within = ap (λ (x : Ground). Some (free_rows (groups every_row (rows_before x (histories leaf) number)))) (same leaf below within)
+  said_free leaf number c Asked below within = ap (λ (x : BaseState). Some (free_rows (groups every_row (rows_before x (histories leaf) number)))) (same leaf below within)
   said_free leaf number c _ below within = refl
 
   free_same : (leaf : ℕ) (c : Call) (p : Piece) → leaf < leaves → CallPiece leaf table c p → IsWithin tables p → free_then f histories p ≡ free_then g histories p
@@ -79,7 +79,7 @@ module _ (leaves table tables : ℕ) (f g : ℕ → Ground) (histories : ℕ →
 
   -- ---- all of them
 
-  abbrev Picks : (ℕ → Ground) → List Row → TryOf Piece → Type 0
+  abbrev Picks : (ℕ → BaseState) → List Row → TryOf Piece → Type 0
   Picks h rows t = TryPieces table rows (pick_of (free_then h histories) tells_added t) t
 
   all_agree : (some : 0 < leaves) (rows : List Row) (words : List ℕ) (ts : List (TryOf Piece)) (sent : Option ℕ) → Tails (free_then f histories) tells_added leaves words ts sent → AllByRecursion (Picks f rows) ts
@@ -92,7 +92,7 @@ module _ (leaves table tables : ℕ) (f g : ℕ → Ground) (histories : ℕ →
       (try_agrees (pick_of (free_then f histories) tells_added t) rows t first second calls.0 parts.0, others (λ more. all_agree some rows words ts sent more calls.1 parts.1) (sent_by (free_then f histories) tells_added t) tails.1)
     where
       others : (Tails (free_then f histories) tells_added leaves words ts sent → AllByRecursion Agrees ts) → (o : Option ℕ)
-          → Goes (free_then f histories) tells_added o ts sent (Tails (free_then f histories) tells_added leaves words ts sent) → AllByRecursion Agrees ts
+          → TryGoesOn (free_then f histories) tells_added o ts sent (Tails (free_then f histories) tells_added leaves words ts sent) → AllByRecursion Agrees ts
       others further (Some leaf) ends = subst (AllByRecursion Agrees) (sym ends.0) tt
       others further None more = further more
   all_agree some rows [] (t ∷ ts) sent tails calls within = absurd tails

@@ -11,8 +11,8 @@ use Rattle.leaf_steward.proofs.Keeping.{makes_tables}
 use Rattle.printed_lines.specs.declared.line.Ending.{Ending}
 use Rattle.printed_lines.specs.declared.line.Deed.{Deed}
 use Rattle.transcript.specs.Pieces.{Acted, Piece, PlayedItem, all_pieces}
-use Rattle.transcript.specs.Histories.{Ground}
-use Rattle.transcript.specs.Transcript.{Known, ground_of}
+use Rattle.transcript.specs.Histories.{BaseState}
+use Rattle.transcript.specs.Transcript.{Known, base_state_of}
 use Rattle.leaf_moves.specs.Stage.{Leaf, Carries, MeetAll, MeetsIf, seated_of}
 use Rattle.leaf_moves.specs.Holds.{Hold, caller_in, seen_by, steward_in, with_leaf}
 use Rattle.leaf_moves.specs.Steps.{DeedStep, Moves, noted_all}
@@ -66,23 +66,23 @@ module _ {B : Type 0} (meaning : B → Meaning) (number : ℕ) (names : List (Li
       (omega (arith, within (seated_of moved).seats place w sat, many, many_seats meaning number names known old before start (with_pieces items c0 ps) x now met b is))
 
   table_then : (place : ℕ) (t : Shared) (w v' : SeatView) → slice_get x.tables place ≡ Some t → slice_get (seated_of moved).seats place ≡ Some w → MeetsIf w (caller_in x.callers place) v' (caller_in callers place)
-      → TableSession (ground_of known (name_of t)) (start place) number place (with_pieces items c0 (ps ++ act ∷ [])) (Some v') (caller_in callers place)
+      → TableSession (base_state_of known (name_of t)) (start place) number place (with_pieces items c0 (ps ++ act ∷ [])) (Some v') (caller_in callers place)
   table_then place t w v' at sat meets =
-      let g : Ground = ground_of known (name_of t) in
+      let g : BaseState = base_state_of known (name_of t) in
       let v = seat_before place w sat in
       let was = table_held meaning number names known old before start (with_pieces items c0 ps) x now met b is place t v.0 at v.1 in
       let own = same_name names x.tables (seated_of met).tables now.named now_held.in_place.named place t at in
       let u : Shared = own.0 in
-      let h : Ground = ground_of known (name_of u) in
-      let grounded = now_held.grounded place u v.0 own.1 v.1 in
-      let legal_first : LegalFrom h.founded h.base (seen_of v.0) = subst (λ (n : List ℕ). LegalFrom (ground_of known n).founded (ground_of known n).base (seen_of v.0)) (sym own.2)
+      let h : BaseState = base_state_of known (name_of u) in
+      let known_base = now_held.known_base place u v.0 own.1 v.1 in
+      let legal_first : LegalFrom h.founded h.base (seen_of v.0) = subst (λ (n : List ℕ). LegalFrom (base_state_of known n).founded (base_state_of known n).base (seen_of v.0)) (sym own.2)
       (steward_legal g (start place) number place (with_pieces items c0 ps) v.0 (caller_in x.callers place) was) in
       let legal_was : LegalFrom (is_founded (base_seen u)) (start_of (base_seen u)) (seen_of v.0) =
-      subst (λ f. LegalFrom f (start_of (base_seen u)) (seen_of v.0)) (sym grounded.0) (subst (λ (s : HistoryState). LegalFrom h.founded s (seen_of v.0)) (sym grounded.1) legal_first) in
+      subst (λ f. LegalFrom f (start_of (base_seen u)) (seen_of v.0)) (sym known_base.0) (subst (λ (s : HistoryState). LegalFrom h.founded s (seen_of v.0)) (sym known_base.1) legal_first) in
       let legal_then : LegalFrom (is_founded (base_seen u)) (start_of (base_seen u)) (seen_of w) =
       legal_at (meaning b).clock (meaning b').clock (seated_of met) notes (seated_of moved) place u v.0 w carries.made own.1 v.1 sat legal_was in
-      let legal_is : LegalFrom g.founded g.base (seen_of w) = subst (λ (n : List ℕ). LegalFrom (ground_of known n).founded (ground_of known n).base (seen_of w)) own.2
-      (subst (λ (s : HistoryState). LegalFrom h.founded s (seen_of w)) grounded.1 (subst (λ f. LegalFrom f (start_of (base_seen u)) (seen_of w)) grounded.0 legal_then)) in
+      let legal_is : LegalFrom g.founded g.base (seen_of w) = subst (λ (n : List ℕ). LegalFrom (base_state_of known n).founded (base_state_of known n).base (seen_of w)) own.2
+      (subst (λ (s : HistoryState). LegalFrom h.founded s (seen_of w)) known_base.1 (subst (λ f. LegalFrom f (start_of (base_seen u)) (seen_of w)) known_base.0 legal_then)) in
       let steward_is : steward_in x.held place ≡ Some v.0 = ap (λ (h : Option (Leaf × B)). steward_in h place) is ∙ v.1 in
       table_acts g (start place) number place items c0 ps deed ends notes v.0 w (made place v.0 w v.1 sat)
       legal_is
@@ -90,24 +90,24 @@ module _ {B : Type 0} (meaning : B → Meaning) (number : ℕ) (names : List (Li
       (if_some (caller_in x.callers place) (λ s. seen_of v.0 ≡ seen_of s) (λ s e. (are place v.0 s steward_is e).0)) meets
 
   tables_then : (place : ℕ) (t : Shared) → slice_get x.tables place ≡ Some t
-      → TableSession (ground_of known (name_of t)) (start place) number place (with_pieces items c0 (ps ++ act ∷ [])) (slice_get (seated_of l').seats place) (caller_in callers place)
+      → TableSession (base_state_of known (name_of t)) (start place) number place (with_pieces items c0 (ps ++ act ∷ [])) (slice_get (seated_of l').seats place) (caller_in callers place)
   tables_then place t at =
       let below : place < length x.callers = omega (arith, within x.tables place t at, now.callers_are, many_tables meaning number names known old before start (with_pieces items c0 ps) x now) in
       let m = met_at moved x.callers l' callers (meaning b') second many place below in
-      subst (λ (s : Option SeatView). TableSession (ground_of known (name_of t)) (start place) number place (with_pieces items c0 (ps ++ act ∷ [])) s (caller_in callers place)) (sym m.at_then)
+      subst (λ (s : Option SeatView). TableSession (base_state_of known (name_of t)) (start place) number place (with_pieces items c0 (ps ++ act ∷ [])) s (caller_in callers place)) (sym m.at_then)
       (table_then place t m.steward m.steward_then at m.at m.meets)
 
   same_tables : (seated_of moved).tables ≡ (seated_of met).tables
   same_tables = makes_tables (meaning b).clock (meaning b').clock (seated_of met) notes (seated_of moved) carries.made
 
   learned : (place : ℕ) (t : Shared) (w v' : SeatView) → slice_get (seated_of moved).tables place ≡ Some t → slice_get (seated_of moved).seats place ≡ Some w → slice_get (seated_of l').seats place ≡ Some v'
-      → MeetsIf w (caller_in x.callers place) v' (caller_in callers place) → HasLearned (ground_of known (name_of t)) w v'
+      → MeetsIf w (caller_in x.callers place) v' (caller_in callers place) → HasLearned (base_state_of known (name_of t)) w v'
   learned place t w v' at sat sat' meets =
       let there = same_name names (seated_of met).tables x.tables now_held.in_place.named now.named place t (ap (λ (ts : List Shared). slice_get ts place) (sym same_tables) ∙ at) in
       let v = seat_before place w sat in
-      subst (λ (n : List ℕ). HasLearned (ground_of known n) w v') there.2
-      (learns_if (ground_of known (name_of there.0)) w v' (caller_in x.callers place) (caller_in callers place) (stewards_still v.0 w (made place v.0 w v.1 sat).ids (stewards place v.0 v.1)) meets
-      (steward_legal (ground_of known (name_of there.0)) (start place) number place (with_pieces items c0 (ps ++ act ∷ [])) v' (caller_in callers place) (table_then place there.0 w v' there.1 sat meets)))
+      subst (λ (n : List ℕ). HasLearned (base_state_of known n) w v') there.2
+      (learns_if (base_state_of known (name_of there.0)) w v' (caller_in x.callers place) (caller_in callers place) (stewards_still v.0 w (made place v.0 w v.1 sat).ids (stewards place v.0 v.1)) meets
+      (steward_legal (base_state_of known (name_of there.0)) (start place) number place (with_pieces items c0 (ps ++ act ∷ [])) v' (caller_in callers place) (table_then place there.0 w v' there.1 sat meets)))
 
   held_then : LeafHeld number names known old (before ++ all_pieces (with_pieces items c0 (ps ++ act ∷ []))) l' (meaning b')
   held_then =
@@ -125,7 +125,7 @@ module _ {B : Type 0} (meaning : B → Meaning) (number : ℕ) (names : List (Li
     named = now.named;
     callers_are = second.count.1 ∙ now.callers_are;
     tables = tables_then;
-    grounded = now.grounded;
+    known_base = now.known_base;
     held = λ k d e.
         same_pair (λ (h : Leaf × B). (map name_of (seated_of h.0).tables ≡ map name_of x.tables) × LeafHeld number names known old (before ++ all_pieces (with_pieces items c0 (ps ++ act ∷ []))) h.0 (meaning h.1)) (l', b') (k, d) e
         (tables_are, held_then);

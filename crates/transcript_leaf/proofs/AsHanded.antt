@@ -8,7 +8,7 @@ use Rattle.region_head.specs.Closing.{IsBroken}
 use Rattle.adopt.specs.Adopting.{IsLeftBehind, IsStranger}
 use Rattle.region_head.proofs.Closing.{untouched}
 use Rattle.disk_backup.specs.Logs.{open_records}
-use Rattle.disk_backup.specs.Scanning.{BeginsScan, FirstByte, Scanned, begun}
+use Rattle.disk_backup.specs.Scanning.{BeginsScan, FirstByte, Scanned, scanned_disk}
 use Rattle.disk_backup.proofs.Logs.{end_snoc}
 use Rattle.log_recovery.specs.Recovery.{IsRecoveryRefusal}
 use Rattle.log_recovery.specs.declared.fault.RecoveryFault.TheVariants as found
@@ -75,20 +75,20 @@ log_named names old now name (inr first) refusal =
 
 -- ---- the log that a start reads
 
-begun_named : (names : List (List ℕ)) (disk name : List ℕ) → IsRecoveryRefusal names (begun disk) (found.Stranger name) → IsRecoveryRefusal names disk (found.Stranger name)
+begun_named : (names : List (List ℕ)) (disk name : List ℕ) → IsRecoveryRefusal names (scanned_disk disk) (found.Stranger name) → IsRecoveryRefusal names disk (found.Stranger name)
 begun_named names [] name refusal = absurd (no_record (0 ∷ []) refusal.0 refusal.1 refusal.2.at (omega arith) refusal.2.scanned)
 begun_named names (b ∷ []) name refusal = absurd (no_record (0 ∷ []) refusal.0 refusal.1 refusal.2.at (omega arith) refusal.2.scanned)
 begun_named names (b ∷ c ∷ rest) name refusal = refusal
 
 -- its strangers are those of the one that was handed
-pub read_named : (names : List (List ℕ)) (old now name : List ℕ) → BeginsScan (length old) old now → IsRecoveryRefusal names (begun now) (found.Stranger name) → IsRecoveryRefusal names old (found.Stranger name)
+pub read_named : (names : List (List ℕ)) (old now name : List ℕ) → BeginsScan (length old) old now → IsRecoveryRefusal names (scanned_disk now) (found.Stranger name) → IsRecoveryRefusal names old (found.Stranger name)
 read_named names old now name begins refusal = log_named names old now name begins (begun_named names now name refusal)
 
-then_begun : (names : List (List ℕ)) (disk name : List ℕ) → IsRecoveryRefusal names disk (found.Stranger name) → IsRecoveryRefusal names (begun disk) (found.Stranger name)
+then_begun : (names : List (List ℕ)) (disk name : List ℕ) → IsRecoveryRefusal names disk (found.Stranger name) → IsRecoveryRefusal names (scanned_disk disk) (found.Stranger name)
 then_begun names [] name refusal = absurd (no_record [] refusal.0 refusal.1 refusal.2.at (omega arith) refusal.2.scanned)
 then_begun names (b ∷ []) name refusal = absurd (no_record (b ∷ []) refusal.0 refusal.1 refusal.2.at (omega arith) refusal.2.scanned)
 then_begun names (b ∷ c ∷ rest) name refusal = refusal
 
-pub then_read : (names : List (List ℕ)) (old now name : List ℕ) → BeginsScan (length old) old now → IsRecoveryRefusal names old (found.Stranger name) → IsRecoveryRefusal names (begun now) (found.Stranger name)
+pub then_read : (names : List (List ℕ)) (old now name : List ℕ) → BeginsScan (length old) old now → IsRecoveryRefusal names old (found.Stranger name) → IsRecoveryRefusal names (scanned_disk now) (found.Stranger name)
 then_read names old now name (inl same) refusal = then_begun names now name (subst (λ (d : List ℕ). IsRecoveryRefusal names d (found.Stranger name)) (sym same) refusal)
 then_read names old now name (inr first) refusal = absurd (no_record old refusal.0 refusal.1 refusal.2.at first.short refusal.2.scanned)

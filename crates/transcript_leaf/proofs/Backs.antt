@@ -5,11 +5,11 @@ use Rattle.std.proofs.lemmas.Grind.{flat_map-append}
 use Rattle.std.proofs.lemmas.List.{append_assoc, append_cancel_left, append-nil, length-append, map-append}
 use Rattle.std.proofs.lemmas.List.Sorted.{IsPermutation-append, IsPermutation-append_comm, IsPermutation-append_left, IsPermutation-append_right, IsPermutation-trans}
 use Rattle.leaf_history.specs.History.{Entry, LegalFrom}
-use Rattle.leaf_table.specs.Turns.{Turns, told, history}
+use Rattle.leaf_table.specs.Turns.{TurnsTaken, told, history}
 use Rattle.leaf_table.specs.Calls.{SeatView, seen_of}
 use Rattle.turnstile.specs.Seats.{Owns, Others}
 use Rattle.transcript.specs.Pieces.{Piece, Played, One, Burst, pieces_in, plays_in}
-use Rattle.transcript.specs.Histories.{Ground, Shown, Rises, InOrder, shown, shown_in}
+use Rattle.transcript.specs.Histories.{BaseState, Shown, Rises, InOrder, shown, shown_in}
 use Rattle.leaf_moves.specs.Lanes.{JoinsTo}
 use Rattle.transcript_leaf.specs.Session.{TableSession, TellsOf, OneOf, OwnedBy, IsCallers}
 use Rattle.transcript_leaf.proofs.Merging.{Merged, Split, tells_append, tells_merge, tells_others, tells_same, tells_split}
@@ -74,7 +74,7 @@ four a b c d =
 
 -- ---- what a seat learned
 
-pub others_of : (v : SeatView) (es : Turns) → Others v es → AllByRecursion (λ (e : Entry). Owns v e.caller → ⊥) (history es)
+pub others_of : (v : SeatView) (es : TurnsTaken) → Others v es → AllByRecursion (λ (e : Entry). Owns v e.caller → ⊥) (history es)
 others_of v [] o = tt
 others_of v (e ∷ es) o = (o.0, others_of v es o.1)
 
@@ -82,7 +82,7 @@ pub alone_to : (d : SeatView) (id : ℕ) → OneOf None (Some d) id → OwnedBy 
 alone_to d id (inl none) = absurd none
 alone_to d id (inr owns) = owns
 
-pub back_calls : (g : Ground) (start : List Entry) (leaf table : ℕ) (lanes : List (List Played)) (lane : List Played) (v : Option SeatView) (c d t : SeatView)
+pub back_calls : (g : BaseState) (start : List Entry) (leaf table : ℕ) (lanes : List (List Played)) (lane : List Played) (v : Option SeatView) (c d t : SeatView)
     → TableSession g start leaf table (Burst lanes ∷ []) v (Some c)
     → TableSession g start leaf table (map One lane) None (Some d)
     → ((id : ℕ) → OneOf v (Some c) id → Owns d id → ⊥)
@@ -113,13 +113,13 @@ back_calls g start leaf table lanes lane v c d t M L apart j callers ids = recor
     own : List Entry
     own = L.met ++ L.since
 
-    more : Turns
+    more : TurnsTaken
     more = j.met.steward.longer.own.0
 
     learned : List Entry
     learned = history more
 
-    further : Turns
+    further : TurnsTaken
     further = j.met.steward.longer.theirs.0
 
     one_view : j.one.seen ≡ j.met.steward.seen

@@ -8,13 +8,13 @@ use Rattle.crash_moments.specs.Left.{NamedStates}
 use Rattle.leaf_table.specs.Turns.{Shared}
 use Rattle.leaf_table.specs.Calls.{SeatView, OwnsTheRest, name_of}
 use Rattle.leaf_steward.specs.Seated.{Seated, AtEach}
-use Rattle.transcript.specs.Histories.{Ground, Shown}
-use Rattle.transcript.specs.Transcript.{Known, first_life, ground_of}
+use Rattle.transcript.specs.Histories.{BaseState, Shown}
+use Rattle.transcript.specs.Transcript.{Known, first_life, base_state_of}
 use Rattle.transcript.specs.Leaving.{IsKnown}
 use Rattle.leaf_moves.specs.Stage.{Leaf, IsDown, seated_of}
 use Rattle.leaf_moves.specs.Holds.{Hold, caller_in, steward_in}
 use Rattle.transcript.specs.Life.{Down}
-use Rattle.transcript_leaf.specs.Session.{AreGrounded, AreInPlace, FitsNext, IsNewHold, IsWhole, KnownLeaf, LeafHeld, LeafSession, StandsFirst, TableSession}
+use Rattle.transcript_leaf.specs.Session.{HaveKnownBase, AreInPlace, FitsNext, IsNewHold, IsWhole, KnownLeaf, LeafHeld, LeafSession, StandsFirst, TableSession}
 use Rattle.transcript_leaf.proofs.Lists.{clash_bool, element_at, same_some}
 use Rattle.transcript_leaf.proofs.Places.{as_many_names, caller_is, same_pair}
 use Rattle.transcript_leaf.proofs.Durable.{first_durable}
@@ -25,7 +25,7 @@ use Rattle.transcript_leaf.proofs.Standing.{told_first}
 abbrev no_lines : List Shown
 no_lines = []
 
-first_table : (g : Ground) (number place : ℕ) (t : Shared) → TableSession g [] number place [] (Some (unused_seat t.site 0 1 1024)) (Some (unused_seat t.site 1 65536 65536))
+first_table : (g : BaseState) (number place : ℕ) (t : Shared) → TableSession g [] number place [] (Some (unused_seat t.site 0 1 1024)) (Some (unused_seat t.site 1 65536 65536))
 first_table g number place t = record {
   stewards = record { id = refl; share = refl; taken = refl };
   callers = record { id = omega arith; share = omega arith; apart = tt };
@@ -54,15 +54,15 @@ first_next names None (Some k) x m in_place is = absurd is
 first_next names (Some b) (Some k) x m in_place is = ((is.2, λ begun memory. absurd (clash_bool false begun refl)), first_durable names k m x in_place is.3)
 
 first_known : (number : ℕ) (names : List (List ℕ)) (base : Option NamedStates) (known : Option Known) (x : Seated) (m : Meaning)
-    → AreInPlace names x → AreGrounded known x → AtEach (λ place t v. v ≡ unused_seat t.site 0 1 1024) x → IfSome base (StandsFirst x m) → IsKnown base m known
+    → AreInPlace names x → HaveKnownBase known x → AtEach (λ place t v. v ≡ unused_seat t.site 0 1 1024) x → IfSome base (StandsFirst x m) → IsKnown base m known
     → IfSome known (KnownLeaf number names m (first_life known names) [] (IsDown x) m)
-first_known number names base None x m in_place grounded unused first is = tt
-first_known number names None (Some k) x m in_place grounded unused first is = absurd is
-first_known number names (Some b) (Some k) x m in_place grounded unused first is =
+first_known number names base None x m in_place known_base unused first is = tt
+first_known number names None (Some k) x m in_place known_base unused first is = absurd is
+first_known number names (Some b) (Some k) x m in_place known_base unused first is =
     let stands : StandsFirst x m k.base = subst (λ (n : NamedStates). StandsFirst x m n) (sym is.0) first in
     record {
       now = record { tells = stands.begins.0; sound = stands.begins.1.2.sound; stands = stands.stands };
-      told = told_first names k.base x m in_place grounded unused stands.stands;
+      told = told_first names k.base x m in_place known_base unused stands.stands;
       named = named_first number names k m is.1;
       own = λ begun. absurd (clash_bool false begun refl);
     }
@@ -80,20 +80,20 @@ module _ {B : Type 0} (meaning : B → Meaning) (number : ℕ) (names : List (Li
   held_first : LeafHeld number names known (meaning new.berth) [] (IsDown new.seated) (meaning new.berth)
   held_first = record {
     life = first_life known names;
-    lives = λ grounds histories told. refl;
-    moments = λ grounds histories told. omega arith;
+    lives = λ base_states histories told. refl;
+    moments = λ base_states histories told. omega arith;
     noted = λ place t v at sat. noted_unused place t v (same_some v _ (sym sat ∙ (new.unused place t (there place t at)).0));
     in_place = new.in_place;
-    grounded = new.grounded;
+    known_base = new.known_base;
     mode = first_mode known names;
     next = first_next names base known new.seated (meaning new.berth) new.in_place new.is_known;
-    of_known = first_known number names base known new.seated (meaning new.berth) new.in_place new.grounded
+    of_known = first_known number names base known new.seated (meaning new.berth) new.in_place new.known_base
         (λ place t v at sat. same_some v _ (sym sat ∙ (new.unused place t (there place t at)).0)) new.first new.is_known;
   }
 
-  tables_first : (place : ℕ) (t : Shared) → slice_get x.tables place ≡ Some t → TableSession (ground_of known (name_of t)) [] number place [] (steward_in x.held place) (caller_in x.callers place)
+  tables_first : (place : ℕ) (t : Shared) → slice_get x.tables place ≡ Some t → TableSession (base_state_of known (name_of t)) [] number place [] (steward_in x.held place) (caller_in x.callers place)
   tables_first place t at =
-      let g : Ground = ground_of known (name_of t) in
+      let g : BaseState = base_state_of known (name_of t) in
       let unused = new.unused place t at in
       subst (λ (s : Option SeatView). TableSession g [] number place [] s (caller_in x.callers place)) (sym (ap (λ (h : Option (Leaf × B)). steward_in h place) new.down ∙ unused.0))
       (subst (λ (c : Option SeatView). TableSession g [] number place [] (Some (unused_seat t.site 0 1 1024)) c) (sym (caller_is x.callers place (Some (unused_seat t.site 1 65536 65536)) unused.1))
@@ -104,7 +104,7 @@ module _ {B : Type 0} (meaning : B → Meaning) (number : ℕ) (names : List (Li
     named = named_so;
     callers_are = new.callers_are;
     tables = tables_first;
-    grounded = λ place t at. new.grounded place t (unused_seat t.site 0 1 1024) (here place t at) (new.unused place t at).0;
+    known_base = λ place t at. new.known_base place t (unused_seat t.site 0 1 1024) (here place t at) (new.unused place t at).0;
     held = λ l b e.
         same_pair (λ (h : Leaf × B). (map name_of (seated_of h.0).tables ≡ map name_of x.tables) × LeafHeld number names known (meaning new.berth) [] h.0 (meaning h.1))
         (IsDown new.seated, new.berth) (l, b) (sym new.down ∙ e) (ap (λ (ts : List Shared). map name_of ts) new.tables, held_first);

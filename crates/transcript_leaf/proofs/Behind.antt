@@ -13,7 +13,7 @@ use Rattle.leaf_moves.specs.Stage.{Leaf, seated_of, seated_with}
 use Rattle.leaf_moves.specs.Modes.{mode_of}
 use Rattle.transcript.specs.Moments.{MomentsRise, notes_told}
 use Rattle.transcript_leaf.proofs.Rising.{notes_between}
-use Rattle.transcript_leaf.specs.Session.{AreGrounded, AreInPlace, FitsNext, HasNoDeed, IsDurable, IsNoted, KnownLeaf, LeafHeld}
+use Rattle.transcript_leaf.specs.Session.{HaveKnownBase, AreInPlace, FitsNext, HasNoDeed, IsDurable, IsNoted, KnownLeaf, LeafHeld}
 use Rattle.transcript_leaf.proofs.Latest.{noted_met}
 use Rattle.transcript_leaf.proofs.Lives.{deeds_between}
 use Rattle.transcript_leaf.proofs.Modes.{mode_with}
@@ -41,12 +41,12 @@ place_met names known leaf leaf' m in_place met = subst (λ (x : Seated). AreInP
   distinct = in_place.distinct;
 })
 
-grounded_met : (names : List (List ℕ)) (known : Option Known) (leaf leaf' : Leaf) (m : Meaning) → AreInPlace names (seated_of leaf) → LeafMeets known leaf leaf' m
-    → AreGrounded known (seated_of leaf) → AreGrounded known (seated_of leaf')
-grounded_met names known leaf leaf' m in_place met grounded =
-    subst (λ (x : Seated). AreGrounded known x) (sym (met_seated known leaf leaf' m met)) (λ place t v at sat.
+known_base_met : (names : List (List ℕ)) (known : Option Known) (leaf leaf' : Leaf) (m : Meaning) → AreInPlace names (seated_of leaf) → LeafMeets known leaf leaf' m
+    → HaveKnownBase known (seated_of leaf) → HaveKnownBase known (seated_of leaf')
+known_base_met names known leaf leaf' m in_place met known_base =
+    subst (λ (x : Seated). HaveKnownBase known x) (sym (met_seated known leaf leaf' m met)) (λ place t v at sat.
     let before = seat_there names (seated_of leaf) in_place place t at in
-    grounded place t before.0 at before.1)
+    known_base place t before.0 at before.1)
 
 -- the next start will be as it would have been
 next_met : (known : Option Known) (life : Life) (leaf leaf' : Leaf) (m : Meaning) → LeafMeets known leaf leaf' m → FitsNext known life leaf m → FitsNext known life leaf' m
@@ -58,11 +58,11 @@ next_met (Some k) life leaf leaf' m met next = (
 
 -- what stands of the berth stands
 known_met : (number : ℕ) (names : List (List ℕ)) (known : Option Known) (old : Meaning) (life : Life) (pieces : List Piece) (leaf leaf' : Leaf) (m : Meaning)
-    → AreInPlace names (seated_of leaf) → AreGrounded known (seated_of leaf) → LeafMeets known leaf leaf' m
+    → AreInPlace names (seated_of leaf) → HaveKnownBase known (seated_of leaf) → LeafMeets known leaf leaf' m
     → IfSome known (KnownLeaf number names old life pieces leaf m) → IfSome known (KnownLeaf number names old life pieces leaf' m)
-known_met number names None old life pieces leaf leaf' m in_place grounded met s = tt
-known_met number names (Some k) old life pieces leaf leaf' m in_place grounded met s =
-    let on = stands_met names k.base (Some k) leaf leaf' m s.now.tells in_place grounded s.now.stands met in
+known_met number names None old life pieces leaf leaf' m in_place known_base met s = tt
+known_met number names (Some k) old life pieces leaf leaf' m in_place known_base met s =
+    let on = stands_met names k.base (Some k) leaf leaf' m s.now.tells in_place known_base s.now.stands met in
     record {
       now = record { tells = s.now.tells; sound = s.now.sound; stands = on.stands };
       told = told_on k.base names leaf leaf' old m m s.told on;
@@ -75,14 +75,14 @@ pub held_meets : (number : ℕ) (names : List (List ℕ)) (known : Option Known)
     → LeafHeld number names known old pieces leaf m → LeafMeets known leaf leaf' m → LeafHeld number names known old pieces leaf' m
 held_meets number names known old pieces leaf leaf' m now met = record {
   life = now.life;
-  lives = λ grounds histories told. now.lives grounds histories (told_met grounds histories names known leaf leaf' m now.in_place met told);
-  moments = λ grounds histories told. now.moments grounds histories (told_met grounds histories names known leaf leaf' m now.in_place met told);
-  noted = noted_met (notes_told number pieces) known leaf leaf' m now.grounded met now.noted;
+  lives = λ base_states histories told. now.lives base_states histories (told_met base_states histories names known leaf leaf' m now.in_place met told);
+  moments = λ base_states histories told. now.moments base_states histories (told_met base_states histories names known leaf leaf' m now.in_place met told);
+  noted = noted_met (notes_told number pieces) known leaf leaf' m now.known_base met now.noted;
   in_place = place_met names known leaf leaf' m now.in_place met;
-  grounded = grounded_met names known leaf leaf' m now.in_place met now.grounded;
+  known_base = known_base_met names known leaf leaf' m now.in_place met now.known_base;
   mode = now.mode ∙ sym (ap mode_of met.leaf_is ∙ mode_with leaf met.seats);
   next = next_met known now.life leaf leaf' m met now.next;
-  of_known = known_met number names known old now.life pieces leaf leaf' m now.in_place now.grounded met now.of_known;
+  of_known = known_met number names known old now.life pieces leaf leaf' m now.in_place now.known_base met now.of_known;
 }
 
 -- ---- past what is no deed of its steward
@@ -106,14 +106,14 @@ pub held_between : (number : ℕ) (names : List (List ℕ)) (known : Option Know
     → LeafHeld number names known old (before ++ more) leaf m → LeafHeld number names known old (before ++ (none ++ more)) leaf m
 held_between number names known old before none more leaf m apart s = record {
   life = s.life;
-  lives = λ grounds histories told.
-      subst (λ (ds : List Did). Lives (is_some known) (length names) (columns_of grounds histories (length names)) [] (first_life known names) ds s.life) (sym (deeds_between number before none more apart))
-      (s.lives grounds histories told);
-  moments = λ grounds histories told.
-      subst (λ (ns : List Noted). MomentsRise histories old.clock ns m.clock) (sym (notes_between number before none more apart)) (s.moments grounds histories told);
+  lives = λ base_states histories told.
+      subst (λ (ds : List Did). Lives (is_some known) (length names) (columns_of base_states histories (length names)) [] (first_life known names) ds s.life) (sym (deeds_between number before none more apart))
+      (s.lives base_states histories told);
+  moments = λ base_states histories told.
+      subst (λ (ns : List Noted). MomentsRise histories old.clock ns m.clock) (sym (notes_between number before none more apart)) (s.moments base_states histories told);
   noted = subst (λ (ns : List Noted). AtEach (IsNoted ns) (seated_of leaf)) (sym (notes_between number before none more apart)) s.noted;
   in_place = s.in_place;
-  grounded = s.grounded;
+  known_base = s.known_base;
   mode = s.mode;
   next = s.next;
   of_known = known_between number names known old s.life before none more leaf m apart s.of_known;

@@ -3,7 +3,7 @@
 use Rattle.std.proofs.Common.{◌≡◌, ℕ, ◌≤◌, Bool, true, List, [], ◌∷◌, ◌++◌, refl, sym, ap, subst, ◌∙◌, arith}
 use Rattle.leaf_history.specs.Calls.{Call}
 use Rattle.leaf_history.specs.Calls as call
-use Rattle.leaf_history.specs.Replies.{Reply}
+use Rattle.leaf_history.specs.Replies.{EntryReply}
 use Rattle.leaf_history.specs.Replies as reply
 use Rattle.leaf_history.specs.History.{Entry, HistoryState, LegalFrom, Allowed, after, after_entry}
 use Rattle.leaf_history.specs.Laws.{AreCallers, HasSoundCounts, CallersKeep}
@@ -59,7 +59,7 @@ closed_kept s now keeps closed = subst IsShutAndTaken (sym (keeps.shut closed.sh
 -- ---- an entry of the steward's seat
 
 -- what it is made on: the state behind callers' entries
-pub record MadeOn (base : NamedStates) (t : Shared) (clock : ℕ) (v : SeatView) (c : Call) (r : Reply) (w : SeatView) : Type 0 where
+pub record MadeOn (base : NamedStates) (t : Shared) (clock : ℕ) (v : SeatView) (c : Call) (r : EntryReply) (w : SeatView) : Type 0 where
   pub on : HistoryState
   pub keeps : CallersKeep (state_with base t v) on
   pub counted : HasSoundCounts on
@@ -71,7 +71,7 @@ legal_with : (base : NamedStates) (t : Shared) (es : List Entry) → IsFoundedWi
 legal_with base t es founded legal =
     subst (λ (b : HistoryState). LegalFrom true b es) founded.1 (subst (λ (f : Bool). LegalFrom f (start_of (base_seen t)) es) founded.0 legal)
 
-pub made_on : (base : NamedStates) (t : Shared) (clock : ℕ) (v : SeatView) (c : Call) (r : Reply) (w : SeatView)
+pub made_on : (base : NamedStates) (t : Shared) (clock : ℕ) (v : SeatView) (c : Call) (r : EntryReply) (w : SeatView)
     → IsOf base t → IsStewards v → Made (base_seen t) clock v c r w → MadeOn base t clock v c r w
 made_on base t clock v c r w of sits m =
     let s = base (name_of t) in

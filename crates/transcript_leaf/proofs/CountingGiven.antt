@@ -11,15 +11,15 @@ use Rattle.leaf_steward.proofs.Keeping.{makes_tables}
 use Rattle.transcript.specs.Base.{LogHas}
 use Rattle.transcript.specs.Life.{durable_after}
 use Rattle.transcript.specs.Transcript.{Known}
-use Rattle.leaf_moves.specs.Stage.{Leaf, IsDown, IsUp, IsPreparing, Carries, Stands, seated_of}
+use Rattle.leaf_moves.specs.Stage.{Leaf, IsDown, IsUp, IsPreparing, Carries, LeafStands, seated_of}
 use Rattle.leaf_moves.specs.Steps.{noted_all}
-use Rattle.transcript_leaf.specs.Session.{AreGrounded, AreInPlace, AtCounts, IsDurable, StandsKnown}
+use Rattle.transcript_leaf.specs.Session.{HaveKnownBase, AreInPlace, AtCounts, IsDurable, StandsKnown}
 use Rattle.transcript_leaf.proofs.CountingNotes.{AreReady, AreStewards, founded_all, length_durable, tables_founded}
 
 -- the leaf before and behind the command, and what stands of it
 pub record Given (names : List (List ℕ)) (k : Known) (counts : List ℕ) (m m' : Meaning) (notes : List Note) (leaf leaf' : Leaf) : Type 0 where
   pub in_place : AreInPlace names (seated_of leaf)
-  pub grounded : AreGrounded (Some k) (seated_of leaf)
+  pub known_base : HaveKnownBase (Some k) (seated_of leaf)
   pub stewards : AreStewards (seated_of leaf)
   pub known : StandsKnown k leaf m
   pub carries : Carries leaf leaf' notes m m'
@@ -58,13 +58,13 @@ module _ (names : List (List ℕ)) (k : Known) (counts : List ℕ) (m m' : Meani
 
   module _ (leaf leaf' : Leaf) (g : GivenOf leaf leaf') where
     pub ready_of : AreReady k.base (seated_of leaf)
-    ready_of = record { founded = tables_founded names k (seated_of leaf) g.in_place g.grounded; stewards = g.stewards }
+    ready_of = record { founded = tables_founded names k (seated_of leaf) g.in_place g.known_base; stewards = g.stewards }
 
     pub founded_of : AreFounded (seated_of leaf)
-    founded_of = founded_all k.base (seated_of leaf) (tables_founded names k (seated_of leaf) g.in_place g.grounded)
+    founded_of = founded_all k.base (seated_of leaf) (tables_founded names k (seated_of leaf) g.in_place g.known_base)
 
     -- what stands behind it
-    pub stands_behind : Stands k.base leaf' m'
+    pub stands_behind : LeafStands k.base leaf' m'
     stands_behind = (g.carries.stands k.base g.known.tells founded_of g.known.sound g.known.stands).stands
 
     -- a count for each table still

@@ -11,12 +11,12 @@ use Rattle.disk_backup.specs.Logs.{IsLog, is_short, is_closed, writes_of}
 use Rattle.disk_backup.specs.State.{LogState}
 use Rattle.disk_backup.specs.Settling.{HoldsOwing, with_writes}
 use Rattle.disk_backup.specs.SoundLogs.{HasSoundLog}
-use Rattle.disk_backup.specs.Scanning.{BeginsScan, begun}
+use Rattle.disk_backup.specs.Scanning.{BeginsScan, scanned_disk}
 use Rattle.disk_backup.proofs.Beginning.{begun_short, begun_long}
 use Rattle.disk_backup.proofs.Logs.{one_log, closed_is_log}
 use Rattle.crash_moments.specs.Left.{NamedStates}
 use Rattle.crash_moments.specs.Watched.{Watched, IsFoundation, now_of, others_then, was_opened}
-use Rattle.crash_states.specs.Standing.{IsKept, IsLogged, Rests, Runs, tables_of}
+use Rattle.crash_states.specs.Standing.{IsKept, IsLogged, Rests, Runs, states_of_tables}
 use Rattle.crash_states.proofs.Names.{each_at, named_at}
 use Rattle.crash_states.proofs.States.{now_sound, taken_count, with_more}
 use Rattle.leaf_table.specs.Turns.{Shared}
@@ -25,7 +25,7 @@ use Rattle.leaf_steward.specs.Seated.{Seated, AtEach, watched, watched_by}
 use Rattle.leaf_steward.proofs.Watching.{watch_get}
 use Rattle.leaf_machine.specs.States.{Serving, IsShutAndTaken}
 use Rattle.transcript.specs.Base.{LogHas}
-use Rattle.leaf_moves.specs.Stage.{IsDown, ServingStands, Stands}
+use Rattle.leaf_moves.specs.Stage.{IsDown, ServingStands, LeafStands}
 use Rattle.transcript_leaf.specs.Session.{AtCounts, IsSettled}
 use Rattle.transcript_leaf.proofs.Lists.{element_at, within}
 use Rattle.transcript_leaf.proofs.Counting.{IsFoundedWith, state_with}
@@ -57,7 +57,7 @@ pub has_begins : (disk now name : List ℕ) (a : ℕ) → BeginsScan (length dis
 has_begins disk now name a (inl same) has = subst (λ (d : List ℕ). LogHas d name a) (sym same) has
 has_begins disk now name a (inr first) has = has_none now name a (omega (arith, first.short, first.torn.no_longer)) (no_count disk name a first.short has)
 
-pub has_begun : (disk name : List ℕ) (a : ℕ) → LogHas disk name a → LogHas (begun disk) name a
+pub has_begun : (disk name : List ℕ) (a : ℕ) → LogHas disk name a → LogHas (scanned_disk disk) name a
 has_begun disk name a has = elim (cases_lt 1 (length disk)) [
   | inl long ↦ subst (λ (d : List ℕ). LogHas d name a) (sym (begun_long disk long)) has
   | inr short ↦ subst (λ (d : List ℕ). LogHas d name a) (sym (begun_short disk short)) (has_none (0 ∷ []) name a (omega arith) (no_count disk name a short has))
@@ -146,7 +146,7 @@ rests_has base x least next m founded rests whole = λ place t v at was.
         let s = state_with base t v in
         let most = with_writes next least name in
         let others = others_then (was_opened m.clock (watched_by x)) base in
-        let stands : tables_of base (watched_by x) m name ≡ s = named_at now_of others (watched_by x) place w rests.watched.apart watch ∙ now in
+        let stands : states_of_tables base (watched_by x) m name ≡ s = named_at now_of others (watched_by x) place w rests.watched.apart watch ∙ now in
         let kept : IsKept (least name) most s = subst (IsKept (least name) most) stands (rests.each name) in
         let sound : IsFoundation s = subst IsFoundation now (now_sound m.clock w (each_at _ (watched_by x) rests.watched.each place w watch)) in
         let all : s.flushed ≡ length s.writes = omega (arith, whole.flushed, whole.taken, sound.handed_in) in
@@ -154,7 +154,7 @@ rests_has base x least next m founded rests whole = λ place t v at was.
         either name s.taken (both.0 ∙ whole.flushed) (both.1 ∙ whole.flushed) (rests.logs m.held rests.stands.reads)
 
 -- and the counts say it, where all that was taken is flushed and each table is shut
-pub rests_logged : (base : NamedStates) (counts : List ℕ) (x : Seated) (m : Meaning) → TablesFounded base x → length counts ≡ length x.tables → Stands base (IsDown x) m
+pub rests_logged : (base : NamedStates) (counts : List ℕ) (x : Seated) (m : Meaning) → TablesFounded base x → length counts ≡ length x.tables → LeafStands base (IsDown x) m
     → AtCounts (IsSettled base) x counts → AtEach (λ place t v. IsShutAndTaken (state_with base t v)) x
     → AreLogged m.held.disk counts x
 rests_logged base counts x m founded count stands settled shut = λ place t v at was n e.

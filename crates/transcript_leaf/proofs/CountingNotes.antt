@@ -25,7 +25,7 @@ use Rattle.transcript.specs.Life.{durable_after, durable_by}
 use Rattle.transcript.specs.Transcript.{Known}
 use Rattle.leaf_moves.specs.Stage.{AreHandedNothing}
 use Rattle.leaf_moves.specs.Steps.{noted_all, said_of_note}
-use Rattle.transcript_leaf.specs.Session.{AreGrounded, AreInPlace, IsSettled, IsStewards}
+use Rattle.transcript_leaf.specs.Session.{HaveKnownBase, AreInPlace, IsSettled, IsStewards}
 use Rattle.transcript_leaf.proofs.Lists.{element_at, get_set_other, length_mapped, length_set, same_some, within}
 use Rattle.transcript_leaf.proofs.Counting.{IsFoundedWith, IsHalf, IsOf, half_closed, half_took, settled_flushed, shut_closed, shut_flushed, state_with}
 
@@ -52,8 +52,8 @@ pub seat_at : (names : List (List ℕ)) (x : Seated) (place : ℕ) (t : Shared) 
 seat_at names x place t in_place at =
     element_at x.seats place (omega (arith, within x.tables place t at, tables_count names x in_place, in_place.seats))
 
-pub tables_founded : (names : List (List ℕ)) (k : Known) (x : Seated) → AreInPlace names x → AreGrounded (Some k) x → TablesFounded k.base x
-tables_founded names k x in_place grounded = λ place t at. let seat = seat_at names x place t in_place at in grounded place t seat.0 at seat.1
+pub tables_founded : (names : List (List ℕ)) (k : Known) (x : Seated) → AreInPlace names x → HaveKnownBase (Some k) x → TablesFounded k.base x
+tables_founded names k x in_place known_base = λ place t at. let seat = seat_at names x place t in_place at in known_base place t seat.0 at seat.1
 
 all_of : {X : Type 0} (P : X → Type 0) (xs : List X) → ((i : ℕ) (x : X) → slice_get xs i ≡ Some x → P x) → AllByRecursion P xs
 all_of P [] each = tt

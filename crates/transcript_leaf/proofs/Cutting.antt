@@ -7,7 +7,7 @@ use Rattle.leaf_table.specs.Turns.{Shared}
 use Rattle.leaf_table.specs.Calls.{SeatView, name_of}
 use Rattle.transcript.specs.Pieces.{Piece, PlayedItem, Burst, all_pieces}
 use Rattle.transcript.specs.Histories.{InOrder, shown}
-use Rattle.transcript.specs.Transcript.{Known, ground_of}
+use Rattle.transcript.specs.Transcript.{Known, base_state_of}
 use Rattle.leaf_moves.specs.Stage.{Leaf, seated_of}
 use Rattle.leaf_moves.specs.Holds.{Hold, caller_in, steward_in}
 use Rattle.leaf_moves.specs.Lanes.{CutsOffAt}
@@ -62,10 +62,10 @@ module _ {B : Type 0} where
     named = ap (λ (ts : List Shared). map name_of ts) tables ∙ now.named;
     callers_are = count ∙ now.callers_are;
     tables = λ place t at.
-        table_part (ground_of known (name_of t)) (start place) number place items items' (steward_in x.held place) (caller_in x.callers place) (now.tables place t (was place t at))
+        table_part (base_state_of known (name_of t)) (start place) number place items items' (steward_in x.held place) (caller_in x.callers place) (now.tables place t (was place t at))
         (ap (λ (ps : List Piece). shown number place ps) none) (ap (λ (ps : List Piece). shown number place ps) none_then) (λ high l. order place (length (start place)) high l)
         (steward_in y.held place) (caller_in y.callers place) (steward_part x y place held) (parts place);
-    grounded = λ place t at. now.grounded place t (was place t at);
+    known_base = λ place t at. now.known_base place t (was place t at);
     held = λ l b e. by held l b e;
   }
     where

@@ -25,15 +25,15 @@ use Rattle.leaf_machine.specs.Flushes.{OwedNotes}
 use Rattle.leaf_machine.specs.Flushes as flushing
 use Rattle.printed_lines.specs.declared.line.Deed.{Deed}
 use Rattle.printed_lines.specs.declared.line.Deed.TheVariants.{Start, Flush, Drain, Kill}
-use Rattle.transcript.specs.Life.{Life, Mode, Down, Up, MayCome, Notes, Owed, Progress, BeginsAt, IsStartRefusal, OfFlush, OfKill, claimed, durable_with, failed, first_open, on, way_refused}
+use Rattle.transcript.specs.Life.{Life, LifeMode, Down, Up, MayCome, NotesFrom, Owed, Progress, BeginsAt, IsStartRefusal, OfFlush, OfKill, claimed, durable_with, failed, first_open, on, way_refused}
 use Rattle.transcript.specs.Counts.{is_disk_fault}
 use Rattle.transcript.specs.Transcript.{Known}
-use Rattle.leaf_moves.specs.Stage.{Leaf, IsDown, IsUp, Stands, seated_of}
+use Rattle.leaf_moves.specs.Stage.{Leaf, IsDown, IsUp, LeafStands, seated_of}
 use Rattle.leaf_moves.specs.Steps.{FlushMoves, IsTrueOf, KillMoves, Moves, RefusalTold, RegionRefused, StartMoves, StartsTold, ending_of, ending_of_flush, noted_all}
 use Rattle.leaf_moves.specs.Steps as steps
 use Rattle.leaf_moves.specs.Modes.{mode_of, owed_of, progress_of}
 use Rattle.leaf_moves.proofs.Modes.{owed_none, owed_some}
-use Rattle.transcript_leaf.specs.Session.{AreGrounded, AreInPlace, FitsNext, IsOwn, StandsKnown}
+use Rattle.transcript_leaf.specs.Session.{HaveKnownBase, AreInPlace, FitsNext, IsOwn, StandsKnown}
 use Rattle.transcript_leaf.specs.Acting.{FitsWay, Lived}
 use Rattle.transcript_leaf.specs.Acting as acting
 use Rattle.transcript_leaf.proofs.Lists.{clash_bool, within}
@@ -50,7 +50,7 @@ use Rattle.transcript_leaf.proofs.Drains.{drain_lives}
 abbrev pub OpensCounts : Option Known → Life → Meaning → Meaning → Leaf → List Note → Type 0
 OpensCounts None life m m' leaf notes = ⊤
 OpensCounts (Some k) life m m' leaf notes = IfSome life.durable (λ (counts : List ℕ). (x : Seated) (s : Serving) (way : Way) → leaf ≡ IsDown x → StartsTold x m m' s notes way
-    → (length counts ≡ length x.tables) × Notes 0 (map said.Opened counts) (noted_all notes))
+    → (length counts ≡ length x.tables) × NotesFrom 0 (map said.Opened counts) (noted_all notes))
 
 -- ---- a start that opens
 
@@ -62,9 +62,9 @@ record Opening (known : Option (List ℕ)) (tables : ℕ) (notes : List Note) : 
   counts : List ℕ
   claimed_are : IfSome known (λ (cs : List ℕ). counts ≡ cs)
   size : length counts ≡ tables
-  told : Notes 0 (map said.Opened counts) (noted_all notes)
+  told : NotesFrom 0 (map said.Opened counts) (noted_all notes)
 
-opening : (known : Option (List ℕ)) (tables : ℕ) (notes : List Note) → IfSome known (λ (cs : List ℕ). (length cs ≡ tables) × Notes 0 (map said.Opened cs) (noted_all notes))
+opening : (known : Option (List ℕ)) (tables : ℕ) (notes : List Note) → IfSome known (λ (cs : List ℕ). (length cs ≡ tables) × NotesFrom 0 (map said.Opened cs) (noted_all notes))
     → EachNoted IsOpenedNote 0 tables notes → Opening known tables notes
 opening None tables notes is each =
     let c = opened_noted 0 tables notes each in
@@ -73,14 +73,14 @@ opening (Some cs) tables notes is each = record { counts = cs; claimed_are = ref
 
 counts_opened : (known : Option Known) (life : Life) (m m' : Meaning) (leaf : Leaf) (x : Seated) (s : Serving) (notes : List Note) (way : Way)
     → FitsNext known life leaf m → OpensCounts known life m m' leaf notes → leaf ≡ IsDown x → IfSome known (λ (k : Known). StartsTold x m m' s notes way)
-    → IfSome life.durable (λ (cs : List ℕ). (length cs ≡ length x.tables) × Notes 0 (map said.Opened cs) (noted_all notes))
+    → IfSome life.durable (λ (cs : List ℕ). (length cs ≡ length x.tables) × NotesFrom 0 (map said.Opened cs) (noted_all notes))
 counts_opened None life m m' leaf x s notes way fits opens is told =
-    subst (λ (d : Option (List ℕ)). IfSome d (λ (cs : List ℕ). (length cs ≡ length x.tables) × Notes 0 (map said.Opened cs) (noted_all notes))) (sym fits.1) tt
+    subst (λ (d : Option (List ℕ)). IfSome d (λ (cs : List ℕ). (length cs ≡ length x.tables) × NotesFrom 0 (map said.Opened cs) (noted_all notes))) (sym fits.1) tt
 counts_opened (Some k) life m m' leaf x s notes way fits opens is told = by life.durable opens
   where
     by : (d : Option (List ℕ)) → IfSome d (λ (counts : List ℕ). (y : Seated) (t : Serving) (v : Way) → leaf ≡ IsDown y → StartsTold y m m' t notes v
-        → (length counts ≡ length y.tables) × Notes 0 (map said.Opened counts) (noted_all notes))
-        → IfSome d (λ (cs : List ℕ). (length cs ≡ length x.tables) × Notes 0 (map said.Opened cs) (noted_all notes))
+        → (length counts ≡ length y.tables) × NotesFrom 0 (map said.Opened counts) (noted_all notes))
+        → IfSome d (λ (cs : List ℕ). (length cs ≡ length x.tables) × NotesFrom 0 (map said.Opened cs) (noted_all notes))
     by None h = tt
     by (Some cs) h = h x s way is told
 
@@ -103,7 +103,7 @@ way_opened (Some k) m m' x s notes way counts told = left_as true m'.held.region
 way_may : (known : Option Known) (m m' : Meaning) (leaf : Leaf) (x : Seated) (s : Serving) (notes : List Note) (way : Way) → IfSome known (λ (k : Known). StandsKnown k leaf m) → leaf ≡ IsDown x
     → IfSome known (λ (k : Known). StartsTold x m m' s notes way) → MayCome (is_some known) way
 way_may None m m' leaf x s notes way stands is told = may_come way
-way_may (Some k) m m' leaf x s notes way stands is told = comes_known k.base x m way (subst (λ (l : Leaf). Stands k.base l m) is stands.stands) told.way_is
+way_may (Some k) m m' leaf x s notes way stands is told = comes_known k.base x m way (subst (λ (l : Leaf). LeafStands k.base l m) is stands.stands) told.way_is
 
 start_opened : (known : Option Known) (tables : ℕ) (life : Life) (m m' : Meaning) (leaf : Leaf) (x : Seated) (s : Serving) (notes : List Note) (way : Way) (ends : Ending) (leaf' : Leaf)
     → length x.tables ≡ tables → life.mode ≡ Down → MayCome (is_some known) way → FitsNext known life leaf m → OpensCounts known life m m' leaf notes → leaf ≡ IsDown x
@@ -142,12 +142,12 @@ refusal told tables life fault.NoMemory goes not own among named = tt
 refusal told tables life (fault.Worn table) goes not own among named = among table refl
 
 undamaged : (names : List (List ℕ)) (known : Option Known) (m : Meaning) (leaf : Leaf) (x : Seated) (f : StartFault)
-    → AreInPlace names (seated_of leaf) → AreGrounded known (seated_of leaf) → IfSome known (λ (k : Known). StandsKnown k leaf m) → leaf ≡ IsDown x
-    → ((base : NamedStates) → IsTrue m.tells → AreFounded x → Stands base leaf m → f ≢ fault.DiskDamaged)
+    → AreInPlace names (seated_of leaf) → HaveKnownBase known (seated_of leaf) → IfSome known (λ (k : Known). StandsKnown k leaf m) → leaf ≡ IsDown x
+    → ((base : NamedStates) → IsTrue m.tells → AreFounded x → LeafStands base leaf m → f ≢ fault.DiskDamaged)
     → is_some known ≡ true → f ≢ fault.DiskDamaged
-undamaged names None m leaf x f in_place grounded stands is sound e = absurd (clash_bool false e refl)
-undamaged names (Some k) m leaf x f in_place grounded stands is sound e =
-    sound k.base stands.tells (subst (λ (l : Leaf). AreFounded (seated_of l)) is (founded_known names k (seated_of leaf) in_place grounded)) stands.stands
+undamaged names None m leaf x f in_place known_base stands is sound e = absurd (clash_bool false e refl)
+undamaged names (Some k) m leaf x f in_place known_base stands is sound e =
+    sound k.base stands.tells (subst (λ (l : Leaf). AreFounded (seated_of l)) is (founded_known names k (seated_of leaf) in_place known_base)) stands.stands
 
 -- the disk is told to fail only where no image was claimed
 logged : (known : Option Known) (life : Life) (m m' : Meaning) (leaf : Leaf) (x : Seated) (f : StartFault) → FitsNext known life leaf m → IfSome known (λ (k : Known). RefusalTold x m m' f)
@@ -165,7 +165,7 @@ strangers_none : (names : List (List ℕ)) (known : Option Known) (begun : Bool)
     → is_some known ≡ true → begun ≡ true → (name : List ℕ) → f ≢ fault.Stranger name
 strangers_none names None begun m m' leaf x f in_place stands own is told e up name = absurd (clash_bool false e refl)
 strangers_none names (Some k) begun m m' leaf x f in_place stands own is told e up name =
-    never_stranger names k.base x m m' f name (subst (λ (l : Leaf). AreInPlace names (seated_of l)) is in_place) (subst (λ (l : Leaf). Stands k.base l m) is stands.stands)
+    never_stranger names k.base x m m' f name (subst (λ (l : Leaf). AreInPlace names (seated_of l)) is in_place) (subst (λ (l : Leaf). LeafStands k.base l m) is stands.stands)
     (subst (λ (l : Leaf). IsOwn names (seated_of l) m) is (own up)) told
 
 left_way : (begun : Bool) (way : Option Way) (m m' : Meaning) → IsLeftBehind m.held.region m'.held.region → IfSome way (IsWayLeft begun m.held.region)
@@ -225,21 +225,21 @@ name_told x fault.NoMemory is name e = absurd cc
 name_told x (fault.Worn table) is name e = absurd cc
 
 pub start_lives : (names : List (List ℕ)) (known : Option Known) (life : Life) (m m' : Meaning) (leaf : Leaf) (notes : List Note) (ends : Ending) (leaf' : Leaf)
-    → AreInPlace names (seated_of leaf) → AreGrounded known (seated_of leaf) → IfSome known (λ (k : Known). StandsKnown k leaf m)
+    → AreInPlace names (seated_of leaf) → HaveKnownBase known (seated_of leaf) → IfSome known (λ (k : Known). StandsKnown k leaf m)
     → IfSome known (λ (k : Known). life.begun ≡ true → IsOwn names (seated_of leaf) m)
     → life.mode ≡ mode_of leaf → FitsNext known life leaf m → OpensCounts known life m m' leaf notes
     → StartMoves m m' leaf notes ends leaf' → Lived known (length names) Start life (noted_all notes) ends leaf' m'
-start_lives names known life m m' leaf notes ends leaf' in_place grounded stands own mode fits opens (steps.opened x s way is none each told ends_are now) =
+start_lives names known life m m' leaf notes ends leaf' in_place known_base stands own mode fits opens (steps.opened x s way is none each told ends_are now) =
     start_opened known (length names) life m m' leaf x s notes way ends leaf'
     (ap (λ (l : Leaf). length (seated_of l).tables) (sym is) ∙ as_many names (seated_of leaf) in_place)
     (mode ∙ ap mode_of is) (way_may known m m' leaf x s notes way stands is (where_known known leaf m (StartsTold x m m' s notes way) stands told)) fits opens is none each
     (where_known known leaf m (StartsTold x m m' s notes way) stands told) ends_are now
-start_lives names known life m m' leaf notes ends leaf' in_place grounded stands own mode fits opens (steps.refused x f is worn sound told notes_are ends_are same) = record {
+start_lives names known life m m' leaf notes ends leaf' in_place known_base stands own mode fits opens (steps.refused x f is worn sound told notes_are ends_are same) = record {
   next = refused_life life f;
   hands = hands_nothing leaf';
   does = λ columns few more. as_told (is_some known) (length names) life (noted_all notes) ends (refused_life life f) (Starts.refuses (mode ∙ ap mode_of is)
       (subst (λ (e : Ending). IsStartRefusal (is_some known) (length names) life e) (sym ends_are)
-      (refusal (is_some known) (length names) life f (logged known life m m' leaf x f fits (where_known known leaf m (RefusalTold x m m' f) stands told)) (undamaged names known m leaf x f in_place grounded stands is sound)
+      (refusal (is_some known) (length names) life f (logged known life m m' leaf x f fits (where_known known leaf m (RefusalTold x m m' f) stands told)) (undamaged names known m leaf x f in_place known_base stands is sound)
       (strangers_none names known life.begun m m' leaf x f in_place stands own is (where_known known leaf m (RefusalTold x m m' f) stands told))
       (worn_among names leaf x f in_place is worn) (name_told x f worn)))
       (noted_none notes notes_are)
@@ -248,7 +248,7 @@ start_lives names known life m m' leaf notes ends leaf' in_place grounded stands
   mode = sym (ap mode_of (same ∙ is));
   way = way_refuses known life m m' leaf x f fits (where_known known leaf m (RefusalTold x m m' f) stands told);
 }
-start_lives names known life m m' leaf notes ends leaf' in_place grounded stands own mode fits opens (steps.not_down not notes_are same ends_are now) = record {
+start_lives names known life m m' leaf notes ends leaf' in_place known_base stands own mode fits opens (steps.not_down not notes_are same ends_are now) = record {
   next = life;
   hands = hands_nothing leaf';
   does = λ columns few more. as_told (is_some known) (length names) life (noted_all notes) ends life (Starts.not_down (λ down. not (down_leaf leaf (sym mode ∙ down))) (noted_none notes notes_are) ends_are refl);
@@ -281,7 +281,7 @@ up_flushed known tables table life m m' leaf s s' notes r ends leaf' mode fits s
       way = way_stays known life (on life (Up None) life.way (noted_all notes)) leaf m m' refl fits same;
     }
 up_flushed known tables table life m m' leaf s s' notes r ends leaf' mode fits same ends_are now (flushing.half first taking n noted fresh notes_are reply_is some owner_is count_is) =
-    let left : Mode = Up (Some (record { table = table; count = n })) in record {
+    let left : LifeMode = Up (Some (record { table = table; count = n })) in record {
       next = failed life left;
       hands = hands_nothing leaf';
       does = λ columns few more. subst (λ (e : Ending). OfFlush table life (noted_all notes) e (failed life left)) (sym (ends_are ∙ ap (λ (q : FlushReply). ending_of_flush q) reply_is))
@@ -344,7 +344,7 @@ killed known tables life m m' leaf p place count notes ends leaf' y begins from 
       next = on life Down life.way [];
       hands = hands_nothing leaf';
       does = λ columns few more. subst (λ (e : Ending). OfKill tables life (noted_all notes) e (on life Down life.way [])) (sym ends_are)
-          (p, begins, (c.0, ap (λ (n : ℕ). n + length c.0) from ∙ (ap (λ (n : ℕ). place + n) c.1 ∙ size), subst (λ (n : ℕ). Notes n (map said.Closed c.0) (noted_all notes)) (sym from) c.2), refl);
+          (p, begins, (c.0, ap (λ (n : ℕ). n + length c.0) from ∙ (ap (λ (n : ℕ). place + n) c.1 ∙ size), subst (λ (n : ℕ). NotesFrom n (map said.Closed c.0) (noted_all notes)) (sym from) c.2), refl);
       counts = acting.keeps (ap (λ (e : Ending). is_disk_fault e) ends_are) (counts_closed life.durable place count notes each);
       mode = sym (ap mode_of now);
       way = way_stays known life (on life Down life.way []) leaf m m' refl fits same;
@@ -356,11 +356,11 @@ pub kill_lives : (names : List (List ℕ)) (known : Option Known) (life : Life) 
 kill_lives names known life m m' leaf notes ends leaf' in_place stands mode fits (steps.up s y is each same ends_are now) =
     let p : Progress = record { owed = owed_of s.owing; treated = 0; waits = false } in
     let size : length s.seated.tables ≡ length names = ap (λ (l : Leaf). length (seated_of l).tables) (sym is) ∙ as_many names (seated_of leaf) in_place in
-    killed known (length names) life m m' leaf p 0 (length s.seated.tables) notes ends leaf' y (subst (λ (k : Mode). BeginsAt k p) (sym (mode ∙ ap mode_of is)) refl) refl (omega (arith, size)) each
+    killed known (length names) life m m' leaf p 0 (length s.seated.tables) notes ends leaf' y (subst (λ (k : LifeMode). BeginsAt k p) (sym (mode ∙ ap mode_of is)) refl) refl (omega (arith, size)) each
     fits (same_held known leaf m m' stands same) ends_are now
 kill_lives names known life m m' leaf notes ends leaf' in_place stands mode fits (steps.preparing x y count is left each same ends_are now) =
     let size : length x.serving.seated.tables ≡ length names = ap (λ (l : Leaf). length (seated_of l).tables) (sym is) ∙ as_many names (seated_of leaf) in_place in
-    killed known (length names) life m m' leaf (progress_of x) (first_open (progress_of x)) count notes ends leaf' y (subst (λ (k : Mode). BeginsAt k (progress_of x)) (sym (mode ∙ ap mode_of is)) refl) refl (left ∙ size) each
+    killed known (length names) life m m' leaf (progress_of x) (first_open (progress_of x)) count notes ends leaf' y (subst (λ (k : LifeMode). BeginsAt k (progress_of x)) (sym (mode ∙ ap mode_of is)) refl) refl (left ∙ size) each
     fits (same_held known leaf m m' stands same) ends_are now
 kill_lives names known life m m' leaf notes ends leaf' in_place stands mode fits (steps.not_up down notes_are same ends_are now) = record {
   next = life;
@@ -374,15 +374,15 @@ kill_lives names known life m m' leaf notes ends leaf' in_place stands mode fits
 -- ---- any deed
 
 pub deed_lives : (names : List (List ℕ)) (known : Option Known) (deed : Deed) (life : Life) (m m' : Meaning) (leaf : Leaf) (notes : List Note) (ends : Ending) (leaf' : Leaf)
-    → AreInPlace names (seated_of leaf) → AreGrounded known (seated_of leaf) → AreStewards (seated_of leaf) → IfSome known (λ (k : Known). StandsKnown k leaf m)
+    → AreInPlace names (seated_of leaf) → HaveKnownBase known (seated_of leaf) → AreStewards (seated_of leaf) → IfSome known (λ (k : Known). StandsKnown k leaf m)
     → IfSome known (λ (k : Known). life.begun ≡ true → IsOwn names (seated_of leaf) m)
     → life.mode ≡ mode_of leaf → FitsNext known life leaf m → OpensCounts known life m m' leaf notes
     → Moves deed m m' leaf notes ends leaf' → Lived known (length names) deed life (noted_all notes) ends leaf' m'
-deed_lives names known Start life m m' leaf notes ends leaf' in_place grounded stewards stands own mode fits opens moves =
-    start_lives names known life m m' leaf notes ends leaf' in_place grounded stands own mode fits opens moves
-deed_lives names known (Flush table) life m m' leaf notes ends leaf' in_place grounded stewards stands own mode fits opens moves =
+deed_lives names known Start life m m' leaf notes ends leaf' in_place known_base stewards stands own mode fits opens moves =
+    start_lives names known life m m' leaf notes ends leaf' in_place known_base stands own mode fits opens moves
+deed_lives names known (Flush table) life m m' leaf notes ends leaf' in_place known_base stewards stands own mode fits opens moves =
     flush_lives known (length names) table life m m' leaf notes ends leaf' stands mode fits moves
-deed_lives names known (Drain stop) life m m' leaf notes ends leaf' in_place grounded stewards stands own mode fits opens moves =
-    drain_lives names known stop life m m' leaf notes leaf' in_place grounded stewards stands mode fits ends moves
-deed_lives names known Kill life m m' leaf notes ends leaf' in_place grounded stewards stands own mode fits opens moves =
+deed_lives names known (Drain stop) life m m' leaf notes ends leaf' in_place known_base stewards stands own mode fits opens moves =
+    drain_lives names known stop life m m' leaf notes leaf' in_place known_base stewards stands mode fits ends moves
+deed_lives names known Kill life m m' leaf notes ends leaf' in_place known_base stewards stands own mode fits opens moves =
     kill_lives names known life m m' leaf notes ends leaf' in_place stands mode fits moves

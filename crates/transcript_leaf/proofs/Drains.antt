@@ -19,13 +19,13 @@ use Rattle.leaf_steward.proofs.WatchMakes.{makes_tables}
 use Rattle.leaf_machine.specs.States.{bulk_added, columns_added, columns_seen}
 use Rattle.printed_lines.specs.declared.line.Deed.TheVariants.{Drain}
 use Rattle.transcript.specs.Transcript.{Known}
-use Rattle.transcript.specs.Life.{Columns, Life, Mode, Down, Preparing, OfDrain, ClosesRest, Comes, IsCopyWithin, Stage, Starves, claimed, durable_after, durable_with, failed, on, way_stopped}
+use Rattle.transcript.specs.Life.{Columns, Life, LifeMode, Down, Preparing, OfDrain, ClosesRest, DrainComes, IsCopyWithin, StageOfDrain, Starves, claimed, durable_after, durable_with, failed, on, way_stopped}
 use Rattle.transcript.specs.Life as life
 use Rattle.leaf_moves.specs.Stage.{Leaf, seated_of}
 use Rattle.leaf_moves.specs.Modes.{mode_of}
-use Rattle.leaf_moves.specs.Steps.{DrainMoves, HasCopyLength, Part, Reaches, RegionStopped, Stops, WhereStands, noted_all}
+use Rattle.leaf_moves.specs.Steps.{DrainMoves, HasCopyLength, MakesNoted, Reaches, RegionStopped, Stops, WhereStands, noted_all}
 use Rattle.leaf_moves.proofs.NoteLines.{closed_noted, handed_noted, noted_none, noted_split}
-use Rattle.transcript_leaf.specs.Session.{AreGrounded, AreInPlace, FitsNext, StandsKnown}
+use Rattle.transcript_leaf.specs.Session.{HaveKnownBase, AreInPlace, FitsNext, StandsKnown}
 use Rattle.transcript_leaf.specs.Acting.{FitsWay, Hands, Lived}
 use Rattle.transcript_leaf.specs.Acting as acting
 use Rattle.transcript_leaf.proofs.Modes.{as_many, counts_stay, founded_known, founded_where, resting_mode, same_held, way_claim, way_stays, where_known}
@@ -51,17 +51,17 @@ closed_way begun None region is = tt
 closed_way begun (Some w) region is = left_as begun region (Disk (why.Closed 0)) is (λ e. cc)
 
 -- the way behind a drain that was stopped, where that before is claimed
-claim_stopped : (old : Life) (m m' : Meaning) (s : Stage) → IfSome old.way (IsWayLeft old.begun m.held.region) → RegionStopped s m m' → IfSome (way_stopped s old.way) (IsWayLeft old.begun m'.held.region)
+claim_stopped : (old : Life) (m m' : Meaning) (s : StageOfDrain) → IfSome old.way (IsWayLeft old.begun m.held.region) → RegionStopped s m m' → IfSome (way_stopped s old.way) (IsWayLeft old.begun m'.held.region)
 claim_stopped old m m' (life.Shutting p) was now = subst (λ (region : List ℕ). IfSome old.way (IsWayLeft old.begun region)) (sym now) was
 claim_stopped old m m' (life.Copying zero) was now = subst (λ (region : List ℕ). IfSome old.way (IsWayLeft old.begun region)) (sym now) was
 claim_stopped old m m' (life.Copying (suc made)) was now = closed_way old.begun old.way m'.held.region now
 
-stopped_none : (s : Stage) → way_stopped s None ≡ None
+stopped_none : (s : StageOfDrain) → way_stopped s None ≡ None
 stopped_none (life.Shutting p) = refl
 stopped_none (life.Copying zero) = refl
 stopped_none (life.Copying (suc made)) = refl
 
-stopped_way : (known : Option Known) (old : Life) (leaf : Leaf) (m m' : Meaning) (s : Stage) → FitsNext known old leaf m
+stopped_way : (known : Option Known) (old : Life) (leaf : Leaf) (m m' : Meaning) (s : StageOfDrain) → FitsNext known old leaf m
     → IfSome known (λ (k : Known). RegionStopped s m m') → (next : Life) → way_claim next ≡ (way_stopped s old.way, old.begun) → FitsWay known next m'
 stopped_way None old leaf m m' s fits holds next is = ap (λ (c : Option Way × Bool). c.0) is ∙ (ap (λ (way : Option Way). way_stopped s way) fits.0 ∙ stopped_none s)
 stopped_way (Some k) old leaf m m' s fits holds next is =
@@ -73,14 +73,14 @@ still_with None xs ys still = refl
 still_with (Some counts) xs ys still = ap (λ (c : List ℕ). Some c) (sym (durable_append counts xs ys ∙ durable_still (durable_after counts (noted_all xs)) ys still))
 
 -- tables are founded still
-part_founded : (x : Seated) (notes : List Note) (y : Seated) → Part x notes y → AreFounded x → AreFounded y
+part_founded : (x : Seated) (notes : List Note) (y : Seated) → MakesNoted x notes y → AreFounded x → AreFounded y
 part_founded x notes y part founded =
     subst (λ (ts : List Shared). AllByRecursion (λ (t : Shared). is_founded (base_seen t) ≡ true) ts) (sym (makes_tables part.from part.to x notes y part.made)) founded
 
 -- ---- each way that a drain may end
 
 module _ (names : List (List ℕ)) (known : Option Known) (stop : Option ℕ) (old : Life) (m m' : Meaning) (leaf : Leaf) (notes : List Note) (leaf' : Leaf)
-    (place : AreInPlace names (seated_of leaf)) (grounded : AreGrounded known (seated_of leaf)) (stewards : AreStewards (seated_of leaf))
+    (place : AreInPlace names (seated_of leaf)) (known_base : HaveKnownBase known (seated_of leaf)) (stewards : AreStewards (seated_of leaf))
     (stands : IfSome known (λ (k : Known). StandsKnown k leaf m)) (mode : old.mode ≡ mode_of leaf) (fits : FitsNext known old leaf m) where
   abbrev based : Bool
   based = is_some known
@@ -96,30 +96,30 @@ module _ (names : List (List ℕ)) (known : Option Known) (stop : Option ℕ) (o
 
   -- what holds of a leaf with a base holds where the base is known
   promised : (P : Type 0) → WhereStands leaf m P → IfSome known (λ (k : Known). P)
-  promised P holds = by known grounded stands
+  promised P holds = by known known_base stands
     where
-      by : (o : Option Known) → AreGrounded o (seated_of leaf) → IfSome o (λ (k : Known). StandsKnown k leaf m) → IfSome o (λ (k : Known). P)
+      by : (o : Option Known) → HaveKnownBase o (seated_of leaf) → IfSome o (λ (k : Known). StandsKnown k leaf m) → IfSome o (λ (k : Known). P)
       by None on stood = tt
       by (Some k) on stood = holds k.base stood.tells (founded_known names k (seated_of leaf) place on) stood.stands
 
   -- how far its life came
-  module _ (copy : ℕ) (s : Stage) (r : Reaches leaf leaf' notes copy s) where
-    comes : Comes tables copy r.made old.mode (noted_all r.treating) s
-    comes = subst (λ (a : Mode). Comes tables copy r.made a (noted_all r.treating) s) (sym mode) (subst (λ (n : ℕ). Comes n copy r.made (mode_of leaf) (noted_all r.treating) s) size r.comes)
+  module _ (copy : ℕ) (s : StageOfDrain) (r : Reaches leaf leaf' notes copy s) where
+    comes : DrainComes tables copy r.made old.mode (noted_all r.treating) s
+    comes = subst (λ (a : LifeMode). DrainComes tables copy r.made a (noted_all r.treating) s) (sym mode) (subst (λ (n : ℕ). DrainComes n copy r.made (mode_of leaf) (noted_all r.treating) s) size r.comes)
 
     split : noted_all notes ≡ noted_all r.treating ++ noted_all r.last
     split = noted_split notes r.treating r.last r.notes_are
 
-    comes_all : r.last ≡ [] → Comes tables copy r.made old.mode (noted_all notes) s
+    comes_all : r.last ≡ [] → DrainComes tables copy r.made old.mode (noted_all notes) s
     comes_all none =
         let just : r.treating ≡ notes = sym (r.notes_are ∙ (ap (λ (ns : List Note). r.treating ++ ns) none ∙ append-nil r.treating)) in
-        subst (λ (ns : List Note). Comes tables copy r.made old.mode (noted_all ns) s) just comes
+        subst (λ (ns : List Note). DrainComes tables copy r.made old.mode (noted_all ns) s) just comes
 
     still : AllNotes IsStill r.last → durable_with old.durable (noted_all r.treating) ≡ durable_with old.durable (noted_all notes)
     still all = still_with old.durable r.treating r.last all ∙ ap (λ (ns : List Note). durable_with old.durable (noted_all ns)) (sym r.notes_are)
 
     founded : based ≡ true → AreFounded (seated_of leaf')
-    founded is = part_founded r.between r.last (seated_of leaf') r.ends (part_founded (seated_of leaf) r.treating r.between r.treats (founded_where names known (seated_of leaf) place grounded is))
+    founded is = part_founded r.between r.last (seated_of leaf') r.ends (part_founded (seated_of leaf) r.treating r.between r.treats (founded_where names known (seated_of leaf) place known_base is))
 
     within : HasCopyLength (seated_of leaf') copy → (most : ℕ) → (based ≡ true → columns_added (seated_of leaf').tables (seated_of leaf').seats ≤ most) → IsCopyWithin based most copy
     within long most few = λ is.
@@ -132,17 +132,17 @@ module _ (names : List (List ℕ)) (known : Option Known) (stop : Option ℕ) (o
   done h =
       let r = h.1 in
       let at = life.Copying h.0 in
-      let hand : life.Notes 0 (replicate tables said.Handed) (noted_all r.last) =
-      subst (λ (n : ℕ). life.Notes 0 (replicate n said.Handed) (noted_all r.last)) size (handed_noted 0 (length (seated_of leaf).tables) r.last h.4) in
+      let hand : life.NotesFrom 0 (replicate tables said.Handed) (noted_all r.last) =
+      subst (λ (n : ℕ). life.NotesFrom 0 (replicate n said.Handed) (noted_all r.last)) size (handed_noted 0 (length (seated_of leaf).tables) r.last h.4) in
       let next : Life = on old Down (claimed based Memory) (noted_all r.treating) in
       let hands : Hands leaf' = record {
         handed = noted_all r.last;
         columns = columns_seen r.between.tables r.between.seats;
         most = 0;
         bulk = 0;
-        told = λ grounds histories on. handed_columns grounds histories (seated_of leaf') on r.ends.from r.ends.to r.between r.last (length (seated_of leaf).tables) r.ends.made h.4
+        told = λ base_states histories on. handed_columns base_states histories (seated_of leaf') on r.ends.from r.ends.to r.between r.last (length (seated_of leaf).tables) r.ends.made h.4
             (part_stewards (seated_of leaf) r.treating r.between r.treats stewards);
-        few = λ grounds histories notes on noted. (omega arith, omega arith);
+        few = λ base_states histories notes on noted. (omega arith, omega arith);
       } in
       let does : (columns : Columns) → columns.least hands.handed ≤ hands.columns → OfDrain based tables columns stop old (noted_all notes) ending.Done next =
       λ columns few. (
@@ -240,7 +240,7 @@ module _ (names : List (List ℕ)) (known : Option Known) (stop : Option ℕ) (o
       }
 
   -- it is stopped at a stage, and the leaf is killed
-  stopped_at : (copy : ℕ) (s : Stage) (r : Reaches leaf leaf' notes copy s) (hands : Hands leaf') → stop ≡ Some r.made → mode_of leaf' ≡ Down
+  stopped_at : (copy : ℕ) (s : StageOfDrain) (r : Reaches leaf leaf' notes copy s) (hands : Hands leaf') → stop ≡ Some r.made → mode_of leaf' ≡ Down
       → ((columns : Columns) → (based ≡ true → hands.most ≤ columns.most) → IsCopyWithin based columns.most copy)
       → ClosesRest tables s (noted_all r.last) → AllNotes IsStill r.last → IfSome known (λ (k : Known). RegionStopped s m m') → LivedSo ending.Stopped
   stopped_at copy s r hands stops down long closes all region =
@@ -256,7 +256,7 @@ module _ (names : List (List ℕ)) (known : Option Known) (stop : Option ℕ) (o
       }
 
   -- while there were tables to treat, or at their end, each that is still open is closed; behind steps of the copy none is open
-  stopped : (copy : ℕ) (s : Stage) (r : Reaches leaf leaf' notes copy s) → stop ≡ Some r.made → Stops m m' leaf leaf' notes copy s r → mode_of leaf' ≡ Down → LivedSo ending.Stopped
+  stopped : (copy : ℕ) (s : StageOfDrain) (r : Reaches leaf leaf' notes copy s) → stop ≡ Some r.made → Stops m m' leaf leaf' notes copy s r → mode_of leaf' ≡ Down → LivedSo ending.Stopped
   stopped copy (life.Shutting p) r stops h down =
       let shut = closed_noted (life.first_open p) h.0 r.last h.3 in
       let none = h.1 in

@@ -17,7 +17,7 @@ use Rattle.transcript.specs.Life.{durable_after}
 use Rattle.transcript.specs.Transcript.{Known}
 use Rattle.leaf_moves.specs.Stage.{Leaf, IsDown, IsUp, IsPreparing, Carries, seated_of, with_seats}
 use Rattle.leaf_moves.specs.Steps.{Moves, noted_all}
-use Rattle.transcript_leaf.specs.Session.{AreGrounded, AreInPlace, IsDurable, StandsKnown}
+use Rattle.transcript_leaf.specs.Session.{HaveKnownBase, AreInPlace, IsDurable, StandsKnown}
 use Rattle.transcript_leaf.specs.Acting.{loses_counts}
 use Rattle.transcript_leaf.proofs.Lists.{element_at, get_map, length_mapped, same_some, within}
 use Rattle.transcript_leaf.proofs.Counting.{closed_kept, learned_keep, settled_kept, state_with}
@@ -96,13 +96,13 @@ moves_by : (names : List (List ℕ)) (k : Known) (counts : List ℕ) (deed : Dee
 moves_by names k counts Start m m' leaf notes ends leaf' moves calm g = start_moves names k counts m m' notes leaf ends leaf' moves g
 moves_by names k counts (Flush table) m m' leaf notes ends leaf' moves calm g = flush_moves names k counts m m' notes table leaf ends leaf' moves calm g
 moves_by names k counts (Drain stop) m m' leaf notes ends leaf' moves calm g =
-    drain_durable names k counts stop m m' leaf notes ends leaf' g.in_place g.grounded g.stewards g.known g.carries moves calm g.durable
+    drain_durable names k counts stop m m' leaf notes ends leaf' g.in_place g.known_base g.stewards g.known g.carries moves calm g.durable
 moves_by names k counts Kill m m' leaf notes ends leaf' moves calm g = kill_moves names k counts m m' notes leaf ends leaf' moves g
 
 pub durable_moves : (names : List (List ℕ)) (k : Known) (counts : List ℕ) (deed : Deed) (m m' : Meaning) (leaf : Leaf) (notes : List Note) (ends : Ending) (leaf' : Leaf)
-    → AreInPlace names (seated_of leaf) → AreGrounded (Some k) (seated_of leaf) → AreStewards (seated_of leaf) → StandsKnown k leaf m → Carries leaf leaf' notes m m'
+    → AreInPlace names (seated_of leaf) → HaveKnownBase (Some k) (seated_of leaf) → AreStewards (seated_of leaf) → StandsKnown k leaf m → Carries leaf leaf' notes m m'
     → Moves deed m m' leaf notes ends leaf' → loses_counts deed ends ≡ false
     → IsDurable k.base counts leaf m → IsDurable k.base (durable_after counts (noted_all notes)) leaf' m'
-durable_moves names k counts deed m m' leaf notes ends leaf' in_place grounded stewards known carries moves calm durable =
+durable_moves names k counts deed m m' leaf notes ends leaf' in_place known_base stewards known carries moves calm durable =
     moves_by names k counts deed m m' leaf notes ends leaf' moves calm
-    (record { in_place = in_place; grounded = grounded; stewards = stewards; known = known; carries = carries; durable = durable })
+    (record { in_place = in_place; known_base = known_base; stewards = stewards; known = known; carries = carries; durable = durable })

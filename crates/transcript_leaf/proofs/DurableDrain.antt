@@ -21,14 +21,14 @@ use Rattle.leaf_steward.proofs.WatchMakes.{makes_tables}
 use Rattle.transcript.specs.Base.{LogHas}
 use Rattle.transcript.specs.Counts.{is_disk_fault}
 use Rattle.transcript.specs.Pieces.{Noted}
-use Rattle.transcript.specs.Life.{BeginsAt, Copying, Down, NotesOf, Owed, Preparing, Progress, Shutting, Stage, Starves, Step, Steps, Treats, durable_after, first_open}
+use Rattle.transcript.specs.Life.{BeginsAt, Copying, Down, NotesOf, Owed, Preparing, Progress, Shutting, StageOfDrain, Starves, StepOfDrain, StepsOfDrain, Treats, durable_after, first_open}
 use Rattle.transcript.specs.Transcript.{Known}
-use Rattle.leaf_moves.specs.Stage.{Leaf, IsDown, IsUp, IsPreparing, AreHandedNothing, Carries, Stands, seated_of}
+use Rattle.leaf_moves.specs.Stage.{Leaf, IsDown, IsUp, IsPreparing, AreHandedNothing, Carries, LeafStands, seated_of}
 use Rattle.leaf_moves.specs.Modes.{mode_of, progress_of}
-use Rattle.leaf_moves.specs.Steps.{DrainMoves, Part, Reaches, Stops, noted_all, said_of_note}
+use Rattle.leaf_moves.specs.Steps.{DrainMoves, MakesNoted, Reaches, Stops, noted_all, said_of_note}
 use Rattle.leaf_moves.proofs.Modes.{none_owed, owed_none}
 use Rattle.leaf_moves.proofs.NoteLines.{words_in}
-use Rattle.transcript_leaf.specs.Session.{AtCounts, AreGrounded, AreInPlace, IsDurable, IsSettled, StandsKnown}
+use Rattle.transcript_leaf.specs.Session.{AtCounts, HaveKnownBase, AreInPlace, IsDurable, IsSettled, StandsKnown}
 use Rattle.transcript_leaf.proofs.Lists.{clash_bool}
 use Rattle.transcript_leaf.proofs.Counting.{settled_handed, shut_handed, state_with}
 use Rattle.transcript_leaf.proofs.CountingNotes.{AllNotes, AreReady, AreStewards, Counted, IsStill, SettledAt, ShutBelow, TablesFounded, all_closed, all_handed, closed_flushed, closed_shut, durable_append, durable_still, each_all, makes_leave, makes_nothing, makes_ready, makes_two}
@@ -110,17 +110,17 @@ makes_parts from to x (n ∷ a) b y (Makes.more f u i ns o clock note rest betwe
       second = later.second;
     }
 
-part_ready : (base : NamedStates) (x : Seated) (notes : List Note) (y : Seated) → Part x notes y → AreReady base x → AreReady base y
+part_ready : (base : NamedStates) (x : Seated) (notes : List Note) (y : Seated) → MakesNoted x notes y → AreReady base x → AreReady base y
 part_ready base x notes y part ready = makes_ready base part.from part.to x notes y part.made ready
 
-part_tables : (x : Seated) (notes : List Note) (y : Seated) → Part x notes y → length y.tables ≡ length x.tables
+part_tables : (x : Seated) (notes : List Note) (y : Seated) → MakesNoted x notes y → length y.tables ≡ length x.tables
 part_tables x notes y part = ap (λ (ts : List Shared). length ts) (makes_tables part.from part.to x notes y part.made)
 
-part_nothing : (x : Seated) (notes : List Note) (y : Seated) → Part x notes y → notes ≡ [] → y ≡ x
+part_nothing : (x : Seated) (notes : List Note) (y : Seated) → MakesNoted x notes y → notes ≡ [] → y ≡ x
 part_nothing x notes y part none = makes_nothing part.from part.to x notes y part.made none
 
 -- where nothing is noted, what holds of counts and seats stays
-stays : (P : List ℕ → Seated → Type 0) (counts : List ℕ) (x : Seated) (notes : List Note) (y : Seated) → notes ≡ [] → Part x notes y → P counts x → P (durable_after counts (noted_all notes)) y
+stays : (P : List ℕ → Seated → Type 0) (counts : List ℕ) (x : Seated) (notes : List Note) (y : Seated) → notes ≡ [] → MakesNoted x notes y → P counts x → P (durable_after counts (noted_all notes)) y
 stays P counts x notes y none part holds =
     subst (λ (ns : List Note). P (durable_after counts (noted_all ns)) y) (sym none) (subst (λ (s : Seated). P counts s) (sym (part_nothing x notes y part none)) holds)
 
@@ -136,7 +136,7 @@ abbrev pub AreDone : NamedStates → List ℕ → Seated → Type 0
 AreDone base counts x = AtCounts (IsSettled base) x counts × AtEach (λ place t v. IsShutAndTaken (state_with base t v)) x
 
 -- where a drain has come to
-abbrev ComesTo : NamedStates → List ℕ → Stage → Seated → Type 0
+abbrev ComesTo : NamedStates → List ℕ → StageOfDrain → Seated → Type 0
 ComesTo base counts (Shutting p) x = IsClean base counts p x
 ComesTo base counts (Copying made) x = AreDone base counts x
 
@@ -152,7 +152,7 @@ clean_first base counts (IsPreparing l) p m begins durable =
 clean_as : (base : NamedStates) (counts : List ℕ) (p q : Progress) (x : Seated) → q.owed ≡ None → first_open q ≡ first_open p → IsClean base counts p x → IsClean base counts q x
 clean_as base counts p q x none same clean = (none, clean.1, λ place t v at was below. clean.2 place t v at was (omega (arith, below, same)))
 
-module _ (base : NamedStates) (counts : List ℕ) (x : Seated) (notes : List Note) (y : Seated) (sound : AreHandedNothing base) (ready : AreReady base x) (part : Part x notes y) where
+module _ (base : NamedStates) (counts : List ℕ) (x : Seated) (notes : List Note) (y : Seated) (sound : AreHandedNothing base) (ready : AreReady base x) (part : MakesNoted x notes y) where
   -- nothing was owed, and no table more is shut
   clean_same : (p q : Progress) → NotesOf p.owed p.treated [] (noted_all notes) → q.owed ≡ None → first_open q ≡ first_open p → IsClean base counts p x
       → IsClean base (durable_after counts (noted_all notes)) q y
@@ -205,7 +205,7 @@ module _ (base : NamedStates) (counts : List ℕ) (x : Seated) (notes : List Not
       no_more false = omega arith
 
   -- by one step
-  clean_step : (copy : ℕ) (s t : Stage) → Step (length x.tables) copy s (noted_all notes) t → ComesTo base counts s x → ComesTo base (durable_after counts (noted_all notes)) t y
+  clean_step : (copy : ℕ) (s t : StageOfDrain) → StepOfDrain (length x.tables) copy s (noted_all notes) t → ComesTo base counts s x → ComesTo base (durable_after counts (noted_all notes)) t y
   clean_step copy (Shutting p) (Shutting q) step come = clean_treats p q step.1 come
   clean_step copy (Shutting p) (Copying made) step come =
       stays (λ (c : List ℕ) (s : Seated). AreDone base c s) counts x notes y (no_notes notes step.1) part (all_done p step.0 come)
@@ -213,26 +213,26 @@ module _ (base : NamedStates) (counts : List ℕ) (x : Seated) (notes : List Not
   clean_step copy (Copying made) (Copying now) step come = stays (λ (c : List ℕ) (s : Seated). AreDone base c s) counts x notes y (no_notes notes step.1) part come
 
 -- by all of them
-clean_steps : (base : NamedStates) (copy n : ℕ) (s : Stage) (notes : List Note) (t : Stage) (x y : Seated) (counts : List ℕ)
-    → AreHandedNothing base → AreReady base x → Steps (length x.tables) copy n s (noted_all notes) t → Part x notes y → ComesTo base counts s x → ComesTo base (durable_after counts (noted_all notes)) t y
+clean_steps : (base : NamedStates) (copy n : ℕ) (s : StageOfDrain) (notes : List Note) (t : StageOfDrain) (x y : Seated) (counts : List ℕ)
+    → AreHandedNothing base → AreReady base x → StepsOfDrain (length x.tables) copy n s (noted_all notes) t → MakesNoted x notes y → ComesTo base counts s x → ComesTo base (durable_after counts (noted_all notes)) t y
 clean_steps base copy zero s notes t x y counts sound ready steps part come =
-    stays (λ (c : List ℕ) (z : Seated). ComesTo base c t z) counts x notes y (no_notes notes steps.0) part (subst (λ (a : Stage). ComesTo base counts a x) (sym steps.1) come)
+    stays (λ (c : List ℕ) (z : Seated). ComesTo base c t z) counts x notes y (no_notes notes steps.0) part (subst (λ (a : StageOfDrain). ComesTo base counts a x) (sym steps.1) come)
 clean_steps base copy (suc n) s notes t x y counts sound ready steps part come =
     let told = noted_parts notes steps.0 steps.1 steps.5 in
     let made = makes_parts part.from part.to x told.0 told.1 y (subst (λ (l : List Note). Makes part.from part.to x l y) told.2 part.made) in
-    let first : Part x told.0 made.between = record { from = part.from; to = made.clock; made = made.first } in
-    let second : Part made.between told.1 y = record { from = made.clock; to = part.to; made = made.second } in
-    let one = clean_step base counts x told.0 made.between sound ready first copy s steps.2 (subst (λ (ns : List Noted). Step (length x.tables) copy s ns steps.2) (sym told.3) steps.3) come in
-    let rest : Steps (length made.between.tables) copy n steps.2 (noted_all told.1) t =
-    subst (λ (k : ℕ). Steps k copy n steps.2 (noted_all told.1) t) (sym (part_tables x told.0 made.between first))
-    (subst (λ (ns : List Noted). Steps (length x.tables) copy n steps.2 ns t) (sym told.4) steps.4) in
+    let first : MakesNoted x told.0 made.between = record { from = part.from; to = made.clock; made = made.first } in
+    let second : MakesNoted made.between told.1 y = record { from = made.clock; to = part.to; made = made.second } in
+    let one = clean_step base counts x told.0 made.between sound ready first copy s steps.2 (subst (λ (ns : List Noted). StepOfDrain (length x.tables) copy s ns steps.2) (sym told.3) steps.3) come in
+    let rest : StepsOfDrain (length made.between.tables) copy n steps.2 (noted_all told.1) t =
+    subst (λ (k : ℕ). StepsOfDrain k copy n steps.2 (noted_all told.1) t) (sym (part_tables x told.0 made.between first))
+    (subst (λ (ns : List Noted). StepsOfDrain (length x.tables) copy n steps.2 ns t) (sym told.4) steps.4) in
     subst (λ (l : List Note). ComesTo base (durable_after counts (noted_all l)) t y) (sym told.2)
     (subst (λ (c : List ℕ). ComesTo base c t y) (sym (durable_append counts told.0 told.1))
     (clean_steps base copy n steps.2 told.1 t made.between y (durable_after counts (noted_all told.0)) sound (part_ready base x told.0 made.between first ready) rest second one))
 
 -- handed over, they are as they were
 handed_done : (base : NamedStates) (counts : List ℕ) (x : Seated) (count : ℕ) (notes : List Note) (y : Seated) → AreHandedNothing base → AreReady base x
-    → Part x notes y → EachNoted IsHandedNote 0 count notes → AreDone base counts x → AreDone base counts y
+    → MakesNoted x notes y → EachNoted IsHandedNote 0 count notes → AreDone base counts x → AreDone base counts y
 handed_done base counts x count notes y sound ready part each done =
     let all : AllNotes IsHandedNote notes = each_all IsHandedNote 0 count notes each in (
       makes_leave base IsHandedNote (Counted (SettledAt base) counts) part.from part.to x notes y sound
@@ -250,7 +250,7 @@ module _ (base : NamedStates) (counts : List ℕ) (m : Meaning) where
   down_durable (IsPreparing y) down long logged = absurd cc
 
   -- at rest with all tables treated, each log has all of them
-  done_durable : (leaf : Leaf) → mode_of leaf ≡ Down → length counts ≡ length (seated_of leaf).tables → Stands base leaf m → AreReady base (seated_of leaf) → AreDone base counts (seated_of leaf)
+  done_durable : (leaf : Leaf) → mode_of leaf ≡ Down → length counts ≡ length (seated_of leaf).tables → LeafStands base leaf m → AreReady base (seated_of leaf) → AreDone base counts (seated_of leaf)
       → IsDurable base counts leaf m
   done_durable (IsDown z) down long stands ready done = (long, rests_logged base counts z m ready.founded long stands done.0 done.1)
   done_durable (IsUp s) down long stands ready done = absurd cc
@@ -279,7 +279,7 @@ module _ (names : List (List ℕ)) (k : Known) (counts : List ℕ) (m m' : Meani
   long : length (By notes) ≡ length (seated_of leaf').tables
   long = count_behind names k counts m m' notes leaf leaf' g
 
-  stands : Stands k.base leaf' m'
+  stands : LeafStands k.base leaf' m'
   stands = stands_behind names k counts m m' notes leaf leaf' g
 
   ready : AreReady k.base (seated_of leaf)
@@ -288,7 +288,7 @@ module _ (names : List (List ℕ)) (k : Known) (counts : List ℕ) (m m' : Meani
   ready_behind : AreReady k.base (seated_of leaf')
   ready_behind = makes_ready k.base m.clock m'.clock (seated_of leaf) notes (seated_of leaf') g.carries.made ready
 
-  module _ (copy : ℕ) (s : Stage) (r : Reaches leaf leaf' notes copy s) where
+  module _ (copy : ℕ) (s : StageOfDrain) (r : Reaches leaf leaf' notes copy s) where
     comes_to : ComesTo k.base (By r.treating) s r.between
     comes_to = clean_steps k.base copy r.made (Shutting r.comes.0) r.treating s (seated_of leaf) r.between counts g.known.sound ready r.comes.2 r.treats
         (clean_first k.base counts leaf r.comes.0 m r.comes.1 g.durable)
@@ -326,7 +326,7 @@ module _ (names : List (List ℕ)) (k : Known) (counts : List ℕ) (m m' : Meani
       LoggedAt : ℕ → Shared → SeatView → Type 0
       LoggedAt place t v = (n : ℕ) → slice_get (By r.treating) place ≡ Some n → LogHas m'.held.disk (name_of t) n
 
-  stopped : (copy : ℕ) (s : Stage) (r : Reaches leaf leaf' notes copy s) → Stops m m' leaf leaf' notes copy s r → mode_of leaf' ≡ Down → Later
+  stopped : (copy : ℕ) (s : StageOfDrain) (r : Reaches leaf leaf' notes copy s) → Stops m m' leaf leaf' notes copy s r → mode_of leaf' ≡ Down → Later
   stopped copy (Shutting p) r stops down = killed copy p r down stops
   stopped copy (Copying made) r stops down = done_durable k.base (By notes) m' leaf' down long stands ready_behind (comes_behind copy (Copying made) r stops.1)
 
@@ -356,9 +356,9 @@ module _ (names : List (List ℕ)) (k : Known) (counts : List ℕ) (m m' : Meani
 -- A drain that tells of no fault of the disk leaves just as many writes of each table as its notes say.
 pub drain_durable : (names : List (List ℕ)) (k : Known) (counts : List ℕ) (stop : Option ℕ) (m m' : Meaning) (leaf : Leaf) (notes : List Note)
     (ends : Ending) (leaf' : Leaf)
-    → AreInPlace names (seated_of leaf) → AreGrounded (Some k) (seated_of leaf) → AreStewards (seated_of leaf) → StandsKnown k leaf m → Carries leaf leaf' notes m m'
+    → AreInPlace names (seated_of leaf) → HaveKnownBase (Some k) (seated_of leaf) → AreStewards (seated_of leaf) → StandsKnown k leaf m → Carries leaf leaf' notes m m'
     → DrainMoves m m' leaf stop notes ends leaf' → is_disk_fault ends ≡ false → IsDurable k.base counts leaf m
     → IsDurable k.base (durable_after counts (noted_all notes)) leaf' m'
-drain_durable names k counts stop m m' leaf notes ends leaf' in_place grounded stewards known carries moves calm durable =
+drain_durable names k counts stop m m' leaf notes ends leaf' in_place known_base stewards known carries moves calm durable =
     drain_moves names k counts m m' leaf notes leaf'
-    (record { in_place = in_place; grounded = grounded; stewards = stewards; known = known; carries = carries; durable = durable }) stop ends moves calm
+    (record { in_place = in_place; known_base = known_base; stewards = stewards; known = known; carries = carries; durable = durable }) stop ends moves calm

@@ -28,7 +28,7 @@ module _ (names : List (List ℕ)) (k : Known) (counts : List ℕ) (m m' : Meani
   killed : (s : Serving) (y : Seated) (leaf : Leaf) (first count : ℕ) → seated_of leaf ≡ s.seated → EachNoted IsClosedNote first count notes → m'.held ≡ m.held
       → s.owing.log.owed ≡ None → ServingStands s m → AtCounts (IsSettled k.base) s.seated counts → GivenOf leaf (IsDown y) → Later (IsDown y)
   killed s y leaf first count is closes held none stands settled g =
-      let founded = subst (λ (x : Seated). TablesFounded k.base x) is (tables_founded names k (seated_of leaf) g.in_place g.grounded) in
+      let founded = subst (λ (x : Seated). TablesFounded k.base x) is (tables_founded names k (seated_of leaf) g.in_place g.known_base) in
       let had : AreLogged m.held.disk counts s.seated = serving_logged k.base counts s m founded none stands settled in
       let there : AreLogged m.held.disk counts (seated_of leaf) = subst (λ (x : Seated). AreLogged m.held.disk counts x) (sym is) had in
       let same_tables : y.tables ≡ (seated_of leaf).tables = makes_tables m.clock m'.clock (seated_of leaf) notes y g.carries.made in

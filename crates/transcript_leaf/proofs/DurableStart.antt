@@ -23,7 +23,7 @@ use Rattle.leaf_opening.specs.Starts.{IsCome, disk_after}
 use Rattle.leaf_opening.proofs.Regions.{closed_no_image}
 use Rattle.crash_moments.specs.Left.{NamedStates, RegionLeft, closed, other_version, image}
 use Rattle.crash_moments.specs.Watched.{Watched}
-use Rattle.crash_states.specs.Standing.{Rests, tables_of}
+use Rattle.crash_states.specs.Standing.{Rests, states_of_tables}
 use Rattle.leaf_table.specs.Turns.{Shared}
 use Rattle.leaf_table.specs.Calls.{base_seen, name_of}
 use Rattle.leaf_steward.specs.declared.notes.Note.{Note}
@@ -38,11 +38,11 @@ use Rattle.printed_lines.specs.declared.line.Ending.{Ending}
 use Rattle.printed_lines.specs.declared.line.Said.TheVariants as said
 use Rattle.transcript.specs.Base.{LogHas}
 use Rattle.transcript.specs.Pieces.{Noted}
-use Rattle.transcript.specs.Life.{Notes, durable_after, durable_by}
+use Rattle.transcript.specs.Life.{NotesFrom, durable_after, durable_by}
 use Rattle.transcript.specs.Transcript.{Known}
 use Rattle.leaf_moves.specs.Stage.{Leaf, IsDown, IsUp, Carries}
 use Rattle.leaf_moves.specs.Steps.{StartMoves, StartsTold, noted_all, said_of_note}
-use Rattle.transcript_leaf.specs.Session.{AreGrounded, AreInPlace, AtCounts, IsDurable, IsSettled, StandsKnown}
+use Rattle.transcript_leaf.specs.Session.{HaveKnownBase, AreInPlace, AtCounts, IsDurable, IsSettled, StandsKnown}
 use Rattle.transcript_leaf.proofs.Lists.{clash_bool, element_at, get_map, length_mapped, same_some, within}
 use Rattle.transcript_leaf.proofs.Counting.{IsOf, settled_opened}
 use Rattle.transcript_leaf.proofs.CountingNotes.{AreStewards, seat_at, set_same, tables_count, tables_founded}
@@ -65,12 +65,12 @@ from_image base ws least next m names disk s rests come = by (rests.region m.hel
     version_is : (h : Head) (version other : ℕ) → h ≡ Version version → h ≡ Version other → version ≡ other
     version_is h version other e f = cc
 
-    by : RegionLeft reads (tables_of base ws m) m.held → AreFound names m.held.disk s.tables
+    by : RegionLeft reads (states_of_tables base ws m) m.held → AreFound names m.held.disk s.tables
     by (closed shut) = absurd (closed_no_image m.held.region shut come.0 come.1 come.2)
     by (other_version version head other) = absurd (clash_bool (reads version) (ap (λ (v : ℕ). reads v) (version_is (head_of m.held.region) version come.2.version head come.2.is.has.head) ∙ come.2.reads_it) other)
     by (image version found log_end reads_it is had log) =
         let same : found ≡ come.0 = one_tables m.held.region found come.0 log_end come.1 (record { version = version; reads_it = reads_it; is = is }) come.2 in
-        let writes_are : AreImagesOf (λ name. (tables_of base ws m name).writes) come.0 = subst (λ (ts : List TableImage). AreImagesOf (λ name. (tables_of base ws m name).writes) ts) same had in
+        let writes_are : AreImagesOf (λ name. (states_of_tables base ws m name).spare) (λ name. (states_of_tables base ws m name).writes) come.0 = subst (λ (ts : List TableImage). AreImagesOf (λ name. (states_of_tables base ws m name).spare) (λ name. (states_of_tables base ws m name).writes) ts) same had in
         record {
           table = λ name. images.table_of (images.table_named come.0 name);
           are = ap (λ (h : HeldTables). h.each) come.4;
@@ -80,7 +80,7 @@ from_image base ws least next m names disk s rests come = by (rests.region m.hel
 -- by the log itself
 from_log : (names : List (List ℕ)) (disk : List ℕ) (s : OpenedLeaf) → recovery.IsRecovered names disk s.tables s.log → AreFound names disk s.tables
 from_log names disk s r = record {
-  table = recovery.table_of r.records;
+  table = recovery.recovered_table r.records;
   are = r.tables_are;
   has = λ name. (r.records, s.log.end, closed_is_log disk r.records s.log.end r.closed, refl);
 }
@@ -100,8 +100,8 @@ has_after (Disk why) disk name a has = has_begun disk name a has
 
 notes_opened : (place : ℕ) (counts : List ℕ) (ts : List Table) (notes : List Note) → length counts ≡ length ts
     → ((i n : ℕ) (u : Table) → slice_get counts i ≡ Some n → slice_get ts i ≡ Some u → n ≡ u.writes)
-    → OpenedNotes place ts notes → Notes place (map said.Opened counts) (noted_all notes)
-notes_opened place [] [] notes count each h = subst (λ (ns : List Note). Notes place [] (noted_all ns)) (sym h) tt
+    → OpenedNotes place ts notes → NotesFrom place (map said.Opened counts) (noted_all notes)
+notes_opened place [] [] notes count each h = subst (λ (ns : List Note). NotesFrom place [] (noted_all ns)) (sym h) tt
 notes_opened place [] (t ∷ ts) notes count each h = absurd (omega (arith, count))
 notes_opened place (n ∷ ns) [] notes count each h = absurd (omega (arith, count))
 notes_opened place (n ∷ ns) (t ∷ ts) [] count each h = absurd h
@@ -144,7 +144,7 @@ part_rest all place n ns part = λ i k at. subst (λ (j : ℕ). slice_get all j 
 part_all : (all : List ℕ) → IsPart all 0 all
 part_all all = λ i n at. subst (λ (k : ℕ). slice_get all k ≡ Some n) (none_before i) at
 
-noted_as : (all : List ℕ) (place : ℕ) (counts : List ℕ) (notes : List Note) → IsPart all place counts → Notes place (map said.Opened counts) (noted_all notes)
+noted_as : (all : List ℕ) (place : ℕ) (counts : List ℕ) (notes : List Note) → IsPart all place counts → NotesFrom place (map said.Opened counts) (noted_all notes)
     → NotedAs (IsOpenedWith all) place (length counts) notes
 noted_as all place [] [] part h = refl
 noted_as all place [] (note ∷ notes) part h = absurd h
@@ -158,7 +158,7 @@ noted_as all place (n ∷ ns) (note ∷ notes) part h = (
 )
 
 -- what is opened with its count keeps it
-opened_still : (all : List ℕ) (place : ℕ) (counts : List ℕ) (notes : List Noted) → IsPart all place counts → Notes place (map said.Opened counts) notes → durable_after all notes ≡ all
+opened_still : (all : List ℕ) (place : ℕ) (counts : List ℕ) (notes : List Noted) → IsPart all place counts → NotesFrom place (map said.Opened counts) notes → durable_after all notes ≡ all
 opened_still all place [] [] part h = refl
 opened_still all place [] (note ∷ notes) part h = absurd h
 opened_still all place (n ∷ ns) [] part h = absurd h
@@ -172,9 +172,9 @@ opened_still all place (n ∷ ns) (note ∷ notes) part h =
 
 -- it opens each table with just the writes that are counted
 pub opened_counts : (names : List (List ℕ)) (k : Known) (counts : List ℕ) (m m' : Meaning) (x : Seated) (s : Serving) (notes : List Note) (way : Way)
-    → AreInPlace names x → AreGrounded (Some k) x → StandsKnown k (IsDown x) m → IsDurable k.base counts (IsDown x) m → StartsTold x m m' s notes way
-    → (length counts ≡ length x.tables) × Notes 0 (map said.Opened counts) (noted_all notes)
-opened_counts names k counts m m' x s notes way in_place grounded known durable told =
+    → AreInPlace names x → HaveKnownBase (Some k) x → StandsKnown k (IsDown x) m → IsDurable k.base counts (IsDown x) m → StartsTold x m m' s notes way
+    → (length counts ≡ length x.tables) × NotesFrom 0 (map said.Opened counts) (noted_all notes)
+opened_counts names k counts m m' x s notes way in_place known_base known durable told =
     (durable.0, notes_opened 0 counts served.tables notes count each told.came.noted)
   where
     served : OpenedLeaf
@@ -201,10 +201,10 @@ opened_counts names k counts m m' x s notes way in_place grounded known durable 
 
 -- and these are flushed then
 pub opened_durable : (names : List (List ℕ)) (k : Known) (counts : List ℕ) (m m' : Meaning) (x : Seated) (s : Serving) (notes : List Note) (way : Way)
-    → AreInPlace names x → AreGrounded (Some k) x → AreStewards x → StandsKnown k (IsDown x) m → Carries (IsDown x) (IsUp s) notes m m' → s.owing.log.owed ≡ None
-    → StartsTold x m m' s notes way → Notes 0 (map said.Opened counts) (noted_all notes) → length counts ≡ length x.tables
+    → AreInPlace names x → HaveKnownBase (Some k) x → AreStewards x → StandsKnown k (IsDown x) m → Carries (IsDown x) (IsUp s) notes m m' → s.owing.log.owed ≡ None
+    → StartsTold x m m' s notes way → NotesFrom 0 (map said.Opened counts) (noted_all notes) → length counts ≡ length x.tables
     → IsDurable k.base counts (IsUp s) m'
-opened_durable names k counts m m' x s notes way in_place grounded stewards known carries none told noted count =
+opened_durable names k counts m m' x s notes way in_place known_base stewards known carries none told noted count =
     (count ∙ sym (ap (λ (ts : List Shared). length ts) same_tables), none, settled)
   where
     same_tables : s.seated.tables ≡ x.tables
@@ -220,7 +220,7 @@ opened_durable names k counts m m' x s notes way in_place grounded stewards know
         let one : MadeAt (IsOpenedWith counts) m.clock m'.clock place t v.0 w = went.noted place t v.0 w (omega arith) (omega (arith, within counts place n e)) there v.1 now in
         let same : one.noted.0 ≡ n = same_some one.noted.0 n (sym one.noted.1 ∙ e) in
         let made : MadeAs (base_seen t) one.clock v.0 (what.Opened one.noted.0) w = subst (λ (u : What). MadeAs (base_seen t) one.clock v.0 u w) one.noted.2 one.made in
-        let of : IsOf k.base t = record { founded = tables_founded names k x in_place grounded place t there; sound = known.sound (name_of t) } in
+        let of : IsOf k.base t = record { founded = tables_founded names k x in_place known_base place t there; sound = known.sound (name_of t) } in
         subst (λ (c : ℕ). IsSettled k.base t w c) same (settled_opened k.base t one.clock v.0 w of (stewards place v.0 v.1) one.noted.0 made)
 
 module _ (names : List (List ℕ)) (k : Known) (counts : List ℕ) (m m' : Meaning) (notes : List Note) where
@@ -231,10 +231,10 @@ module _ (names : List (List ℕ)) (k : Known) (counts : List ℕ) (m m' : Meani
   start_opened : (x : Seated) (s : Serving) (way : Way) → s.owing.log.owed ≡ None → StartsTold x m m' s notes way → Given names k counts m m' notes (IsDown x) (IsUp s)
       → Later (IsUp s)
   start_opened x s way none told g =
-      let noted = opened_counts names k counts m m' x s notes way g.in_place g.grounded g.known g.durable told in
+      let noted = opened_counts names k counts m m' x s notes way g.in_place g.known_base g.known g.durable told in
       let same : durable_after counts (noted_all notes) ≡ counts = opened_still counts 0 counts (noted_all notes) (part_all counts) noted.1 in
       subst (λ (cs : List ℕ). IsDurable k.base cs (IsUp s) m') (sym same)
-      (opened_durable names k counts m m' x s notes way g.in_place g.grounded g.stewards g.known g.carries none told noted.1 noted.0)
+      (opened_durable names k counts m m' x s notes way g.in_place g.known_base g.stewards g.known g.carries none told noted.1 noted.0)
 
   pub start_moves : (leaf : Leaf) (ends : Ending) (leaf' : Leaf) → StartMoves m m' leaf notes ends leaf' → Given names k counts m m' notes leaf leaf' → Later leaf'
   start_moves leaf ends leaf' (StartMoves.opened x s way down none each told is up) g =

@@ -14,14 +14,14 @@ use Rattle.leaf_machine.proofs.LeaveRests.{rests_begin}
 use Rattle.leaf_machine.proofs.LeaveRuns.{runs_begin}
 use Rattle.printed_lines.specs.Lines.{name_at}
 use Rattle.transcript.specs.Pieces.{Did, Piece, PlayedItem, all_pieces, deeds}
-use Rattle.transcript.specs.Histories.{Ground, InOrder, IsHistoryOf, Shown, Tells, shown}
-use Rattle.transcript.specs.Strangers.{Strangers, StrangersIn}
+use Rattle.transcript.specs.Histories.{BaseState, InOrder, IsHistoryOf, Shown, Tells, shown}
+use Rattle.transcript.specs.Strangers.{StrangersIn}
 use Rattle.transcript.specs.Answers.{columns_of}
 use Rattle.transcript.specs.Life.{Lives}
-use Rattle.transcript.specs.Transcript.{Known, first_life, ground_of}
+use Rattle.transcript.specs.Transcript.{Known, first_life, base_state_of}
 use Rattle.transcript.specs.Leaving.{LeavesBerth}
 use Rattle.leaf_moves.specs.Stage.{Leaf, seated_of}
-use Rattle.leaf_moves.specs.Holds.{Hold, caller_in, ground_at, seen_by, seen_in, steward_in}
+use Rattle.leaf_moves.specs.Holds.{Hold, caller_in, base_state_at, seen_by, seen_in, steward_in}
 use Rattle.transcript.specs.Moments.{MomentsRise, notes_told}
 use Rattle.transcript_leaf.specs.Session.{AreMet, IsStewards, IsWhole, LeafHeld, LeafSession, OneOf, OwnedBy, TableSession}
 use Rattle.transcript_leaf.proofs.Lists.{element_at, get_map, name_is, same_some}
@@ -30,16 +30,16 @@ use Rattle.transcript_leaf.proofs.TableActs.{nothing_since}
 use Rattle.transcript_leaf.proofs.Standing.{leaves_met}
 use Rattle.transcript_leaf.proofs.Lending.{seats_at, seen_is, table_whole}
 use Rattle.transcript_leaf.proofs.Sessions.{many_tables}
-use Rattle.transcript_leaf.proofs.ToldOn.{ground_is, told_at_end}
+use Rattle.transcript_leaf.proofs.ToldOn.{base_state_is, told_at_end}
 
 -- ---- what its tables began from
 
-ground_there : (ts : List Shared) (table : ℕ) (t : Shared) → slice_get ts table ≡ Some t
-    → ground_at ts table ≡ record { founded = is_founded (base_seen t); base = start_of (base_seen t) }
-ground_there [] table t at = absurd cc
-ground_there (x ∷ xs) zero t at =
-    ap (λ (u : Shared). let g : Ground = record { founded = is_founded (base_seen u); base = start_of (base_seen u) } in g) (same_some x t at)
-ground_there (x ∷ xs) (suc table) t at = ground_there xs table t at
+base_state_there : (ts : List Shared) (table : ℕ) (t : Shared) → slice_get ts table ≡ Some t
+    → base_state_at ts table ≡ record { founded = is_founded (base_seen t); base = start_of (base_seen t) }
+base_state_there [] table t at = absurd cc
+base_state_there (x ∷ xs) zero t at =
+    ap (λ (u : Shared). let g : BaseState = record { founded = is_founded (base_seen u); base = start_of (base_seen u) } in g) (same_some x t at)
+base_state_there (x ∷ xs) (suc table) t at = base_state_there xs table t at
 
 -- ---- the history of one table
 
@@ -51,7 +51,7 @@ all_of_both : (v c : SeatView) (es : List Entry) → IsStewards v → AreOwnOrSt
 all_of_both v c [] sits h = tt
 all_of_both v c (e ∷ es) sits h = (one_of_both v c e.caller sits h.0, all_of_both v c es sits h.1)
 
-module _ (g : Ground) (number place : ℕ) (items : List PlayedItem) (v c : SeatView) (t : TableSession g [] number place items (Some v) (Some c)) (same : seen_of v ≡ seen_of c) where
+module _ (g : BaseState) (number place : ℕ) (items : List PlayedItem) (v c : SeatView) (t : TableSession g [] number place items (Some v) (Some c)) (same : seen_of v ≡ seen_of c) where
   none : t.since ≡ []
   none = nothing_since [] t.met t.since (seen_of v) (seen_of c) t.seen_steward t.seen_caller same
 
@@ -88,15 +88,15 @@ begins_again m = record {
 }
 
 -- what its tables began from is what is known of it
-pub grounds_are : {B : Type 0} (meaning : B → Meaning) (number : ℕ) (names : List (List ℕ)) (known : Option Known) (old : Meaning) (before : List Piece) (start : ℕ → List Entry) (items : List PlayedItem) (x : Hold B)
-    → LeafSession meaning number names known old before start items x → (table : ℕ) → table < length names → ground_at x.tables table ≡ ground_of known (name_at names table)
-grounds_are meaning number names known old before start items x now table below =
+pub base_states_are : {B : Type 0} (meaning : B → Meaning) (number : ℕ) (names : List (List ℕ)) (known : Option Known) (old : Meaning) (before : List Piece) (start : ℕ → List Entry) (items : List PlayedItem) (x : Hold B)
+    → LeafSession meaning number names known old before start items x → (table : ℕ) → table < length names → base_state_at x.tables table ≡ base_state_of known (name_at names table)
+base_states_are meaning number names known old before start items x now table below =
     let t = element_at x.tables table (omega (arith, below, many_tables meaning number names known old before start items x now)) in
-    let from = now.grounded table t.0 t.1 in
+    let from = now.known_base table t.0 t.1 in
     let named : name_of t.0 ≡ name_at names table =
     name_is names table (name_of t.0) (ap (λ (ns : List (List ℕ)). slice_get ns table) (sym now.named) ∙ get_map name_of x.tables table t.0 t.1) in
-    ground_there x.tables table t.0 t.1
-    ∙ (ground_is (ground_of known (name_of t.0)) (is_founded (base_seen t.0)) (start_of (base_seen t.0)) from.0 from.1 ∙ ap (ground_of known) named)
+    base_state_there x.tables table t.0 t.1
+    ∙ (base_state_is (base_state_of known (name_of t.0)) (is_founded (base_seen t.0)) (start_of (base_seen t.0)) from.0 from.1 ∙ ap (base_state_of known) named)
 
 module _ {B : Type 0} (meaning : B → Meaning) (number : ℕ) (names : List (List ℕ)) (known : Option Known) (old : Meaning) (items : List PlayedItem) (x : Hold B)
     (now : LeafSession meaning number names known old [] (λ place. []) items x) where
@@ -111,34 +111,34 @@ module _ {B : Type 0} (meaning : B → Meaning) (number : ℕ) (names : List (Li
     seats : (v c : SeatView) × (steward_in x.held table ≡ Some v) × (caller_in x.callers table ≡ Some c) × OwnsTheRest c
     seats = seats_at meaning number names known old [] (λ place. []) items x now met whole table at.0 at.1
 
-    session : TableSession (ground_of known (name_of at.0)) [] number table items (Some seats.0) (Some seats.1)
+    session : TableSession (base_state_of known (name_of at.0)) [] number table items (Some seats.0) (Some seats.1)
     session = table_whole meaning number names known old [] (λ place. []) items x now met whole table at.0 seats.0 seats.1 at.1 seats.2 seats.3
 
     seen : seen_in x table ≡ seen_of seats.1
     seen = seen_is meaning number names known old [] (λ place. []) items x now met whole table seats.0 seats.1 seats.2 seats.3
 
-    pub history : IsHistoryOf (ground_of known (name_at names table)) (shown number table (all_pieces items)) (seen_in x table)
+    pub history : IsHistoryOf (base_state_of known (name_at names table)) (shown number table (all_pieces items)) (seen_in x table)
     history =
         let are = met table seats.0 seats.1 seats.2 seats.3 in
-        subst (λ (es : List Entry). IsHistoryOf (ground_of known (name_at names table)) (shown number table (all_pieces items)) es) (sym seen)
-        (subst (λ (n : List ℕ). IsHistoryOf (ground_of known n) (shown number table (all_pieces items)) (seen_of seats.1)) named
-        (table_history (ground_of known (name_of at.0)) number table items seats.0 seats.1 session are.0 are.1 seats.4))
+        subst (λ (es : List Entry). IsHistoryOf (base_state_of known (name_at names table)) (shown number table (all_pieces items)) es) (sym seen)
+        (subst (λ (n : List ℕ). IsHistoryOf (base_state_of known n) (shown number table (all_pieces items)) (seen_of seats.1)) named
+        (table_history (base_state_of known (name_of at.0)) number table items seats.0 seats.1 session are.0 are.1 seats.4))
 
     pub order : InOrder number table 0 items (length (seen_in x table))
     order =
         subst (λ (es : List Entry). InOrder number table 0 items (length es)) (sym seen)
-        (table_order (ground_of known (name_of at.0)) number table items seats.0 seats.1 session (met table seats.0 seats.1 seats.2 seats.3).0)
+        (table_order (base_state_of known (name_of at.0)) number table items seats.0 seats.1 session (met table seats.0 seats.1 seats.2 seats.3).0)
 
 -- its starts found just the strangers that there are
 strangers_of : (number : ℕ) (names : List (List ℕ)) (known : Option Known) (old : Meaning) (pieces : List Piece) (l : Leaf) (m : Meaning) (k : Known) → known ≡ Some k
-    → LeafHeld number names known old pieces l m → Strangers names k.held.disk number k.held.region pieces
+    → LeafHeld number names known old pieces l m → StrangersIn names k.held.disk k.held.region (deeds number pieces)
 strangers_of number names None old pieces l m k is s = absurd cc
 strangers_of number names (Some d) old pieces l m k is s =
-    subst (λ (x : Known). Strangers names x.held.disk number x.held.region pieces) (same_some d k is)
+    subst (λ (x : Known). StrangersIn names x.held.disk x.held.region (deeds number pieces)) (same_some d k is)
     (subst (λ (ds : List Did). StrangersIn names d.held.disk d.held.region ds) (append-nil (deeds number pieces)) (s.of_known.named.on [] (λ rest. tt)))
 
 pub strangers_in : {B : Type 0} (meaning : B → Meaning) (number : ℕ) (names : List (List ℕ)) (known : Option Known) (old : Meaning) (items : List PlayedItem) (x : Hold B) (k : Known) → known ≡ Some k
-    → LeafSession meaning number names known old [] (λ place. []) items x → IsWhole x → Strangers names k.held.disk number k.held.region (all_pieces items)
+    → LeafSession meaning number names known old [] (λ place. []) items x → IsWhole x → StrangersIn names k.held.disk k.held.region (deeds number (all_pieces items))
 strangers_in meaning number names known old items x k is now whole =
     strangers_of number names known old (all_pieces items) whole.leaf (meaning whole.berth) k is (now.held whole.leaf whole.berth whole.held).1
 
@@ -150,7 +150,7 @@ left_of : (number : ℕ) (names : List (List ℕ)) (known : Option Known) (old :
 left_of number names None old pieces l m histories k is s seen = absurd cc
 left_of number names (Some d) old pieces l m histories k is s seen =
     subst (λ (x : Known). LeavesBerth names x.base s.life histories old m) (same_some d k is)
-    (leaves_met names d.base s.life l histories old m (begins_again m) s.of_known.now.tells s.of_known.now.sound s.in_place s.grounded (λ place t v at sat. seen place v sat)
+    (leaves_met names d.base s.life l histories old m (begins_again m) s.of_known.now.tells s.of_known.now.sound s.in_place s.known_base (λ place t v at sat. seen place v sat)
     s.of_known.now.stands s.of_known.told s.next.0)
 
 seen_alike : (v : SeatView) (c : Option SeatView) → ((s : SeatView) → c ≡ Some s → seen_of v ≡ seen_of s) → seen_of v ≡ seen_by (Some v) c
@@ -169,12 +169,12 @@ left {B} meaning number names known old items x k is now met l b held =
 
 pub lives_all : {B : Type 0} (meaning : B → Meaning) (number : ℕ) (names : List (List ℕ)) (known : Option Known) (old : Meaning) (items : List PlayedItem) (x : Hold B)
     → (now : LeafSession meaning number names known old [] (λ place. []) items x) → AreMet x → (l : Leaf) (b : B) (held : x.held ≡ Some (l, b))
-    → Lives (is_some known) (length names) (columns_of (λ table. ground_of known (name_at names table)) (λ table. seen_in x table) (length names)) [] (first_life known names) (deeds number (all_pieces items))
+    → Lives (is_some known) (length names) (columns_of (λ table. base_state_of known (name_at names table)) (λ table. seen_in x table) (length names)) [] (first_life known names) (deeds number (all_pieces items))
     (now.held l b held).1.life
 lives_all {B} meaning number names known old items x now met l b held =
     let is = (now.held l b held).1 in
-    is.lives (λ table. ground_of known (name_at names table)) (λ table. seen_in x table)
-    (told_at_end names known (seated_of l) (λ table. seen_in x table) is.in_place is.grounded (λ place v sat.
+    is.lives (λ table. base_state_of known (name_at names table)) (λ table. seen_in x table)
+    (told_at_end names known (seated_of l) (λ table. seen_in x table) is.in_place is.known_base (λ place v sat.
     let steward_is : steward_in x.held place ≡ Some v = ap (λ (h : Option (Leaf × B)). steward_in h place) held ∙ sat in
     let same = seen_alike v (caller_in x.callers place) (λ s e. (met place v s steward_is e).0) ∙ ap (λ (w : Option SeatView). seen_by w (caller_in x.callers place)) (sym steward_is) in
     ([], sym same ∙ sym (append-nil (seen_of v)))))
@@ -186,8 +186,8 @@ pub moments_all : {B : Type 0} (meaning : B → Meaning) (number : ℕ) (names :
     → MomentsRise (λ table. seen_in x table) old.clock (notes_told number (all_pieces items)) (meaning b).clock
 moments_all {B} meaning number names known old items x now met l b held =
     let is = (now.held l b held).1 in
-    is.moments (λ table. ground_of known (name_at names table)) (λ table. seen_in x table)
-    (told_at_end names known (seated_of l) (λ table. seen_in x table) is.in_place is.grounded (λ place v sat.
+    is.moments (λ table. base_state_of known (name_at names table)) (λ table. seen_in x table)
+    (told_at_end names known (seated_of l) (λ table. seen_in x table) is.in_place is.known_base (λ place v sat.
     let steward_is : steward_in x.held place ≡ Some v = ap (λ (h : Option (Leaf × B)). steward_in h place) held ∙ sat in
     let same = seen_alike v (caller_in x.callers place) (λ s e. (met place v s steward_is e).0) ∙ ap (λ (w : Option SeatView). seen_by w (caller_in x.callers place)) (sym steward_is) in
     ([], sym same ∙ sym (append-nil (seen_of v)))))

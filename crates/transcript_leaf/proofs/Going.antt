@@ -8,13 +8,13 @@ use Rattle.leaf_steward.specs.Seated.{AtEach}
 use Rattle.printed_lines.specs.declared.line.Ending.{Ending}
 use Rattle.printed_lines.specs.declared.line.Deed.{Deed}
 use Rattle.transcript.specs.Pieces.{Acted, Did, Noted, Piece, deeds}
-use Rattle.transcript.specs.Histories.{Ground}
+use Rattle.transcript.specs.Histories.{BaseState}
 use Rattle.transcript.specs.Answers.{columns_of}
 use Rattle.transcript.specs.Life.{Lives}
 use Rattle.transcript.specs.Transcript.{Known, first_life}
 use Rattle.leaf_moves.specs.Stage.{Leaf, Carries, seated_of}
 use Rattle.leaf_moves.specs.Steps.{Moves, noted_all}
-use Rattle.transcript_leaf.specs.Session.{AreGrounded, AreInPlace, AreToldOn, IsNoted, IsOwn, KnownLeaf, LeafHeld, StandsKnown}
+use Rattle.transcript_leaf.specs.Session.{HaveKnownBase, AreInPlace, AreToldOn, IsNoted, IsOwn, KnownLeaf, LeafHeld, StandsKnown}
 use Rattle.transcript_leaf.specs.Acting.{Lived}
 use Rattle.transcript_leaf.proofs.CountingNotes.{AreStewards}
 use Rattle.transcript_leaf.proofs.Deeds.{deed_lives}
@@ -25,7 +25,7 @@ use Rattle.transcript.specs.Moments.{MomentsRise, notes_told}
 use Rattle.transcript_leaf.proofs.Rising.{makes_rise, rise_on, told_act}
 use Rattle.transcript_leaf.proofs.ToldOn.{told_made}
 use Rattle.transcript_leaf.proofs.Behind.{some_weaken}
-use Rattle.transcript_leaf.proofs.Moved.{grounded_moved, known_moved, next_moved, opens, place_moved}
+use Rattle.transcript_leaf.proofs.Moved.{known_base_moved, known_moved, next_moved, opens, place_moved}
 
 module _ (number : ℕ) (names : List (List ℕ)) (known : Option Known) (old : Meaning) (pieces : List Piece) (met moved : Leaf) (m m' : Meaning) (deed : Deed) (notes : List Note) (ends : Ending)
     (s : LeafHeld number names known old pieces met m) (stewards : AreStewards (seated_of met)) (moves : Moves deed m m' met notes ends moved) (carries : Carries met moved notes m m') where
@@ -37,13 +37,13 @@ module _ (number : ℕ) (names : List (List ℕ)) (known : Option Known) (old : 
 
   -- the life of the leaf behind the deed
   lived : Lived known (length names) deed s.life (noted_all notes) ends moved m'
-  lived = deed_lives names known deed s.life m m' met notes ends moved s.in_place s.grounded stewards stands own s.mode s.next (opens names known s.life m m' met notes s.in_place s.grounded stands s.next) moves
+  lived = deed_lives names known deed s.life m m' met notes ends moved s.in_place s.known_base stewards stands own s.mode s.next (opens names known s.life m m' met notes s.in_place s.known_base stands s.next) moves
 
   moved_place : AreInPlace names (seated_of moved)
   moved_place = place_moved names met moved notes m m' s.in_place carries
 
-  moved_grounded : AreGrounded known (seated_of moved)
-  moved_grounded = grounded_moved names met moved notes m m' s.in_place carries known s.grounded
+  moved_known_base : HaveKnownBase known (seated_of moved)
+  moved_known_base = known_base_moved names met moved notes m m' s.in_place carries known s.known_base
 
   -- the entries that are told of it by then
   abbrev all_notes : List Noted
@@ -53,29 +53,29 @@ module _ (number : ℕ) (names : List (List ℕ)) (known : Option Known) (old : 
   moved_noted = noted_made (notes_told number pieces) m.clock m'.clock (seated_of met) notes (seated_of moved) carries.made s.noted
 
   -- it copied no more columns than its tables add then, and its copy had no room only where that much was
-  few_columns : (grounds : ℕ → Ground) (histories : ℕ → List Entry) → AreToldOn grounds histories (seated_of moved)
-      → (lived.hands.most ≤ (columns_of grounds histories (length names) all_notes).most) × (lived.hands.bulk ≤ (columns_of grounds histories (length names) all_notes).bulk)
-  few_columns grounds histories told =
-      subst (λ (n : ℕ). (lived.hands.most ≤ (columns_of grounds histories n all_notes).most) × (lived.hands.bulk ≤ (columns_of grounds histories n all_notes).bulk)) (as_many names (seated_of moved) moved_place)
-      (lived.hands.few grounds histories all_notes told moved_noted)
+  few_columns : (base_states : ℕ → BaseState) (histories : ℕ → List Entry) → AreToldOn base_states histories (seated_of moved)
+      → (lived.hands.most ≤ (columns_of base_states histories (length names) all_notes).most) × (lived.hands.bulk ≤ (columns_of base_states histories (length names) all_notes).bulk)
+  few_columns base_states histories told =
+      subst (λ (n : ℕ). (lived.hands.most ≤ (columns_of base_states histories n all_notes).most) × (lived.hands.bulk ≤ (columns_of base_states histories n all_notes).bulk)) (as_many names (seated_of moved) moved_place)
+      (lived.hands.few base_states histories all_notes told moved_noted)
 
   pub held_acts : LeafHeld number names known old (pieces ++ Acted number deed (noted_all notes) ends ∷ []) moved m'
   held_acts = record {
     life = lived.next;
-    lives = λ grounds histories told.
-        subst (λ (ds : List Did). Lives (is_some known) (length names) (columns_of grounds histories (length names)) [] (first_life known names) ds lived.next) (sym (deeds_act number pieces deed (noted_all notes) ends))
-        (lives_act (is_some known) (length names) (columns_of grounds histories (length names)) [] (first_life known names) s.life lived.next (deeds number pieces) (did deed (noted_all notes) ends)
-        (s.lives grounds histories (told_made grounds histories m.clock m'.clock (seated_of met) notes (seated_of moved) carries.made stewards told))
-        (lived.does (columns_of grounds histories (length names) all_notes) (lived.hands.told grounds histories told) (λ is. few_columns grounds histories told)));
-    moments = λ grounds histories told.
+    lives = λ base_states histories told.
+        subst (λ (ds : List Did). Lives (is_some known) (length names) (columns_of base_states histories (length names)) [] (first_life known names) ds lived.next) (sym (deeds_act number pieces deed (noted_all notes) ends))
+        (lives_act (is_some known) (length names) (columns_of base_states histories (length names)) [] (first_life known names) s.life lived.next (deeds number pieces) (did deed (noted_all notes) ends)
+        (s.lives base_states histories (told_made base_states histories m.clock m'.clock (seated_of met) notes (seated_of moved) carries.made stewards told))
+        (lived.does (columns_of base_states histories (length names) all_notes) (lived.hands.told base_states histories told) (λ is. few_columns base_states histories told)));
+    moments = λ base_states histories told.
         subst (λ (ns : List Noted). MomentsRise histories old.clock ns m'.clock) (sym (told_act number pieces deed (noted_all notes) ends))
         (rise_on histories old.clock m.clock m'.clock (notes_told number pieces) (noted_all notes)
-        (s.moments grounds histories (told_made grounds histories m.clock m'.clock (seated_of met) notes (seated_of moved) carries.made stewards told))
-        (makes_rise grounds histories m.clock m'.clock (seated_of met) notes (seated_of moved) carries.made stewards told));
+        (s.moments base_states histories (told_made base_states histories m.clock m'.clock (seated_of met) notes (seated_of moved) carries.made stewards told))
+        (makes_rise base_states histories m.clock m'.clock (seated_of met) notes (seated_of moved) carries.made stewards told));
     noted = subst (λ (ns : List Noted). AtEach (IsNoted ns) (seated_of moved)) (sym (told_act number pieces deed (noted_all notes) ends)) moved_noted;
     in_place = moved_place;
-    grounded = moved_grounded;
+    known_base = moved_known_base;
     mode = lived.mode;
-    next = next_moved names known deed s.life m m' met notes ends moved s.in_place s.grounded stewards stands carries moves s.next lived;
-    of_known = known_moved number names known old deed s.life pieces m m' met notes ends moved s.in_place s.grounded s.mode moves carries lived s.of_known;
+    next = next_moved names known deed s.life m m' met notes ends moved s.in_place s.known_base stewards stands carries moves s.next lived;
+    of_known = known_moved number names known old deed s.life pieces m m' met notes ends moved s.in_place s.known_base s.mode moves carries lived s.of_known;
   }

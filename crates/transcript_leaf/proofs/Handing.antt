@@ -5,7 +5,7 @@ use Rattle.std.proofs.lemmas.List.{append_assoc, length-append}
 use Rattle.std.proofs.Math.Seq.{take-append_seam}
 use Rattle.leaf_history.specs.Calls as call
 use Rattle.leaf_history.specs.Replies as reply
-use Rattle.leaf_history.specs.History.{Entry, HistoryState, LegalFrom, after, held}
+use Rattle.leaf_history.specs.History.{Entry, HistoryState, LegalFrom, after, contents_held}
 use Rattle.leaf_history.specs.Laws.{CallersKeep}
 use Rattle.leaf_history.proofs.Histories.{LegalFrom-back, LegalFrom-front, after-append, others_keep}
 use Rattle.leaf_table.specs.Turns.{Shared, is_founded, start_of}
@@ -19,11 +19,11 @@ use Rattle.leaf_steward.specs.Making.{EachNoted, IsHandedNote, MadeAs, Makes}
 use Rattle.leaf_steward.proofs.WatchMakes.{makes_tables}
 use Rattle.leaf_machine.specs.States.{columns_seen}
 use Rattle.table_state.specs.Tables.{least_columns}
-use Rattle.transcript.specs.Histories.{Ground, rows_before}
+use Rattle.transcript.specs.Histories.{BaseState, rows_before}
 use Rattle.transcript.specs.Answers.{columns_handed}
 use Rattle.leaf_moves.specs.Stage.{Leaf}
-use Rattle.leaf_moves.specs.Steps.{Part, noted_all}
-use Rattle.transcript_leaf.specs.Session.{AreToldOn, IsStewards, ground_of_table}
+use Rattle.leaf_moves.specs.Steps.{MakesNoted, noted_all}
+use Rattle.transcript_leaf.specs.Session.{AreToldOn, IsStewards, base_state_of_table}
 use Rattle.transcript_leaf.specs.Acting.{Hands}
 use Rattle.transcript_leaf.proofs.Ids.{stewards_still}
 use Rattle.transcript_leaf.proofs.Lists.{element_at, get_set_other, get_set_same, same_some, within}
@@ -33,7 +33,7 @@ use Rattle.transcript_leaf.proofs.Wearing.{seen_length}
 
 -- ---- the steward's seats stay the steward's
 
-pub part_stewards : (x : Seated) (notes : List Note) (y : Seated) → Part x notes y → AreStewards x → AreStewards y
+pub part_stewards : (x : Seated) (notes : List Note) (y : Seated) → MakesNoted x notes y → AreStewards x → AreStewards y
 part_stewards x notes y part are place w sat =
     let count : length y.seats ≡ length x.seats = makes_seats part.from part.to x notes y part.made in
     let v = element_at x.seats place (omega (arith, count, within y.seats place w sat)) in
@@ -42,12 +42,12 @@ part_stewards x notes y part are place w sat =
 -- ---- a table that is handed over
 
 -- it holds then what the steward's seat had seen it hold: others change nothing of a shut table
-rows_handed : (g : Ground) (entries more : List Entry) (t : Shared) (clock number : ℕ) (v w : SeatView) → IsStewards v → Made (base_seen t) clock v call.Done reply.Noted w → number ≡ length w.seen
-    → g ≡ ground_of_table t → entries ≡ seen_of w ++ more → rows_before g entries number ≡ (held (state_seen (base_seen t) v)).rows
-rows_handed g entries more t clock number v w steward made counted ground on =
-    ap (λ (x : Ground). (held (after x.founded x.base (take (number - 1) entries))).rows) ground
-    ∙ (ap (λ (es : List Entry). (held (after founded start es)).rows) (ap (λ (n : ℕ). take n entries) count ∙ (ap (λ (es : List Entry). take (length front) es) entries_are ∙ take-append_seam front (own ∷ more)))
-    ∙ ap (λ (s : HistoryState). (held s).rows) (after-append founded start (seen_of v) made.between ∙ still))
+rows_handed : (g : BaseState) (entries more : List Entry) (t : Shared) (clock number : ℕ) (v w : SeatView) → IsStewards v → Made (base_seen t) clock v call.Done reply.Noted w → number ≡ length w.seen
+    → g ≡ base_state_of_table t → entries ≡ seen_of w ++ more → rows_before g entries number ≡ (contents_held (state_seen (base_seen t) v)).rows
+rows_handed g entries more t clock number v w steward made counted base_state on =
+    ap (λ (x : BaseState). (contents_held (after x.founded x.base (take (number - 1) entries))).rows) base_state
+    ∙ (ap (λ (es : List Entry). (contents_held (after founded start es)).rows) (ap (λ (n : ℕ). take n entries) count ∙ (ap (λ (es : List Entry). take (length front) es) entries_are ∙ take-append_seam front (own ∷ more)))
+    ∙ ap (λ (s : HistoryState). (contents_held s).rows) (after-append founded start (seen_of v) made.between ∙ still))
   where
     founded : Bool
     founded = is_founded (base_seen t)
@@ -104,7 +104,7 @@ kept_seat from to x notes z place first count low (Makes.more f u a ns b clock n
 from_first : (j : ℕ) → 0 + j ≡ j
 from_first j = omega arith
 
-module _ (g : ℕ → Ground) (h : ℕ → List Entry) (z : Seated) (told : AreToldOn g h z) where
+module _ (g : ℕ → BaseState) (h : ℕ → List Entry) (z : Seated) (told : AreToldOn g h z) where
   columns_are : (from to : ℕ) (x : Seated) (notes : List Note) (ts : List Shared) (vs : List SeatView) (place count : ℕ) → Makes from to x notes z → EachNoted IsHandedNote place count notes
       → AreStewards x → ((j : ℕ) → slice_get x.tables (place + j) ≡ slice_get ts j) → ((j : ℕ) → slice_get x.seats (place + j) ≡ slice_get vs j)
       → columns_handed g h (noted_all notes) ≤ columns_seen ts vs
@@ -151,15 +151,15 @@ module _ (g : ℕ → Ground) (h : ℕ → List Entry) (z : Seated) (told : AreT
       at_end : slice_get z.tables place ≡ Some one.table
       at_end = ap (λ (ts : List Shared). slice_get ts place) (makes_tables clock to between rest z makes ∙ same_tables) ∙ (ap (λ (n : ℕ). slice_get x.tables n) (sym all.2) ∙ one.at)
 
-      rows : rows_before (g note.table) (h note.table) note.number ≡ (held (state_seen (base_seen one.table) one.before)).rows
+      rows : rows_before (g note.table) (h note.table) note.number ≡ (contents_held (state_seen (base_seen one.table) one.before)).rows
       rows =
           let goes = told.on place one.after now in
           rows_handed (g note.table) (h note.table) goes.0 one.table clock note.number one.before one.after (are note.table one.before one.was)
           (handed_made one.table clock one.before note.what one.after all.3 one.made) one.number
-          (ap g all.2 ∙ told.grounded place one.table one.after at_end now)
+          (ap g all.2 ∙ told.known_base place one.table one.after at_end now)
           (ap h all.2 ∙ goes.1)
 
-      first : least_columns (rows_before (g note.table) (h note.table) note.number) ≡ least_columns (held (state_seen (base_seen one.table) one.before)).rows
+      first : least_columns (rows_before (g note.table) (h note.table) note.number) ≡ least_columns (contents_held (state_seen (base_seen one.table) one.before)).rows
       first = ap least_columns rows
 
       by : (us : List Shared) (ws : List SeatView) → ((j : ℕ) → slice_get x.tables (place + j) ≡ slice_get us j) → ((j : ℕ) → slice_get x.seats (place + j) ≡ slice_get ws j)
@@ -177,8 +177,8 @@ module _ (g : ℕ → Ground) (h : ℕ → List Entry) (z : Seated) (told : AreT
       by (t ∷ us) (v ∷ ws) tables_are seats_are further_are =
           let table : one.table ≡ t = same_some one.table t (sym at ∙ tables_are 0) in
           let seat : one.before ≡ v = same_some one.before v (sym was ∙ seats_are 0) in
-          let same : least_columns (held (state_seen (base_seen one.table) one.before)).rows ≡ least_columns (held (state_seen (base_seen t) v)).rows =
-          ap (λ (s : Shared). least_columns (held (state_seen (base_seen s) one.before)).rows) table ∙ ap (λ (s : SeatView). least_columns (held (state_seen (base_seen t) s)).rows) seat in
+          let same : least_columns (contents_held (state_seen (base_seen one.table) one.before)).rows ≡ least_columns (contents_held (state_seen (base_seen t) v)).rows =
+          ap (λ (s : Shared). least_columns (contents_held (state_seen (base_seen s) one.before)).rows) table ∙ ap (λ (s : SeatView). least_columns (contents_held (state_seen (base_seen t) s)).rows) seat in
           let others = further_are us ws
           (λ j. ap (λ (ts : List Shared). slice_get ts (suc place + j)) same_tables ∙ (ap (λ (n : ℕ). slice_get x.tables n) (further j) ∙ tables_are (suc j)))
           (λ j. later j ∙ seats_are (suc j)) in
@@ -193,4 +193,4 @@ module _ (g : ℕ → Ground) (h : ℕ → List Entry) (z : Seated) (told : AreT
 
 -- a deed that hands nothing over
 pub hands_nothing : (leaf : Leaf) → Hands leaf
-hands_nothing leaf = record { handed = []; columns = 0; most = 0; bulk = 0; told = λ grounds histories on. omega arith; few = λ grounds histories notes on noted. (omega arith, omega arith) }
+hands_nothing leaf = record { handed = []; columns = 0; most = 0; bulk = 0; told = λ base_states histories on. omega arith; few = λ base_states histories notes on noted. (omega arith, omega arith) }

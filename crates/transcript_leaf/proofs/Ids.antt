@@ -3,10 +3,10 @@ use Rattle.std.proofs.Common.{◌≡◌, ◌⊎◌, inl, inr, ℕ, zero, suc, �
 use mathlib.Core.List.{IsPrefix}
 use Rattle.std.proofs.lemmas.List.{length-append}
 use Rattle.turnstile.specs.Ids.{Among, InShare, LongerOf, OwnsId, run_of}
-use Rattle.turnstile.specs.Seats.{Owns, Told, keeps_all_but, given}
+use Rattle.turnstile.specs.Seats.{Owns, SeesAlso, keeps_all_but, given}
 use Rattle.turnstile.proofs.Prefixes.{prefix_whole}
 use Rattle.leaf_history.specs.Calls.{Call}
-use Rattle.leaf_history.specs.Replies.{Reply}
+use Rattle.leaf_history.specs.Replies.{EntryReply}
 use Rattle.leaf_table.specs.declared.base.TableBase.{TableBase}
 use Rattle.leaf_table.specs.Calls.{Made, SeatView}
 use Rattle.leaf_moves.specs.Stage.{Meets}
@@ -30,7 +30,7 @@ pub same_on : (u v w : SeatView) → SameIds u v → SameIds v w → SameIds u w
 same_on u v w old new = record { id = new.id ∙ old.id; share = new.share ∙ old.share; taken = new.taken ∙ old.taken }
 
 -- an entry leaves them
-pub same_made : (base : Option TableBase) (clock : ℕ) (v w : SeatView) (c : Call) (r : Reply) → Made base clock v c r w → SameIds v w
+pub same_made : (base : Option TableBase) (clock : ℕ) (v w : SeatView) (c : Call) (r : EntryReply) → Made base clock v c r w → SameIds v w
 same_made base clock v w c r m = record {
   id = ap (λ (u : SeatView). u.id) m.place;
   share = ap (λ (u : SeatView). u.share) m.place;
@@ -38,7 +38,7 @@ same_made base clock v w c r m = record {
 }
 
 -- and so does a meeting
-pub same_told : (v u w : SeatView) → Told v u w → SameIds v w
+pub same_told : (v u w : SeatView) → SeesAlso v u w → SameIds v w
 same_told v u w t = record {
   id = ap (λ (x : SeatView). x.id) t.view;
   share = ap (λ (x : SeatView). x.share) t.view;

@@ -16,12 +16,12 @@ use Rattle.leaf_steward.specs.Seated.{Seated, AtEach}
 use Rattle.leaf_steward.specs.Making.{Makes, OneEntry}
 use Rattle.leaf_steward.proofs.Keeping.{entry_each}
 use Rattle.transcript.specs.Pieces.{Noted}
-use Rattle.transcript.specs.Histories.{Ground}
+use Rattle.transcript.specs.Histories.{BaseState}
 use Rattle.transcript.specs.Answers.{last_of}
-use Rattle.transcript.specs.Transcript.{Known, ground_of}
+use Rattle.transcript.specs.Transcript.{Known, base_state_of}
 use Rattle.leaf_moves.specs.Stage.{Leaf, seated_of, seated_with}
 use Rattle.leaf_moves.specs.Steps.{noted, noted_all}
-use Rattle.transcript_leaf.specs.Session.{AreGrounded, IsNoted}
+use Rattle.transcript_leaf.specs.Session.{HaveKnownBase, IsNoted}
 use Rattle.transcript_leaf.proofs.Lists.{element_at, within}
 use Rattle.transcript_leaf.proofs.Standing.{LeafMeets, seats_become}
 use Rattle.transcript_leaf.proofs.TableMeets.{HasLearned}
@@ -79,7 +79,7 @@ noted_made notes from to x made y (Makes.more f u a ns b clock first rest betwee
 -- ---- a meeting
 
 -- callers write nothing to a shut table
-noted_learned : (notes : List Noted) (place : ℕ) (t : Shared) (v w : SeatView) (g : Ground) → is_founded (base_seen t) ≡ g.founded → start_of (base_seen t) ≡ g.base → HasLearned g v w
+noted_learned : (notes : List Noted) (place : ℕ) (t : Shared) (v w : SeatView) (g : BaseState) → is_founded (base_seen t) ≡ g.founded → start_of (base_seen t) ≡ g.base → HasLearned g v w
     → IsNoted notes place t v → IsNoted notes place t w
 noted_learned notes place t v w g founded base has h = (
   omega (arith, h.0, ap (λ (es : List Entry). length es) has.seen, length-append (seen_of v) has.more),
@@ -100,12 +100,12 @@ noted_learned notes place t v w g founded base has h = (
     now : state_seen (base_seen t) w ≡ after (is_founded (base_seen t)) (state_seen (base_seen t) v) has.more
     now = ap (λ (es : List Entry). state_of (base_seen t) es) has.seen ∙ after-append (is_founded (base_seen t)) (start_of (base_seen t)) (seen_of v) has.more
 
-pub noted_met : (notes : List Noted) (known : Option Known) (leaf leaf' : Leaf) (m : Meaning) → AreGrounded known (seated_of leaf) → LeafMeets known leaf leaf' m
+pub noted_met : (notes : List Noted) (known : Option Known) (leaf leaf' : Leaf) (m : Meaning) → HaveKnownBase known (seated_of leaf) → LeafMeets known leaf leaf' m
     → AtEach (IsNoted notes) (seated_of leaf) → AtEach (IsNoted notes) (seated_of leaf')
-noted_met notes known leaf leaf' m grounded met each = subst (AtEach (IsNoted notes)) (sym (ap seated_of met.leaf_is ∙ seats_become leaf met.seats)) later
+noted_met notes known leaf leaf' m known_base met each = subst (AtEach (IsNoted notes)) (sym (ap seated_of met.leaf_is ∙ seats_become leaf met.seats)) later
   where
     later : AtEach (IsNoted notes) (seated_with (seated_of leaf) met.seats)
     later place t w at sat =
         let v = element_at (seated_of leaf).seats place (let below = within met.seats place w sat in omega (arith, below, met.count)) in
-        let ground = grounded place t v.0 at v.1 in
-        noted_learned notes place t v.0 w (ground_of known (name_of t)) ground.0 ground.1 (met.each place t v.0 w at v.1 sat) (each place t v.0 at v.1)
+        let base_state = known_base place t v.0 at v.1 in
+        noted_learned notes place t v.0 w (base_state_of known (name_of t)) base_state.0 base_state.1 (met.each place t v.0 w at v.1 sat) (each place t v.0 at v.1)

@@ -17,11 +17,11 @@ use Rattle.transcript.specs.Pieces.{Called, Piece, Played, PlayedItem, One, Burs
 use Rattle.transcript.specs.Histories.{InOrder, IsHistoryOf, shown}
 use Rattle.transcript.specs.Answers.{WornIsLong, columns_of}
 use Rattle.transcript.specs.Life.{Lives}
-use Rattle.transcript.specs.Strangers.{Strangers}
-use Rattle.transcript.specs.Transcript.{Known, first_life, ground_of}
+use Rattle.transcript.specs.Strangers.{StrangersIn}
+use Rattle.transcript.specs.Transcript.{Known, first_life, base_state_of}
 use Rattle.transcript.specs.Leaving.{LeavesBerth}
 use Rattle.leaf_moves.specs.Stage.{Leaf}
-use Rattle.leaf_moves.specs.Holds.{Hold, HoldMeets, ground_at, seen_in, with_callers, with_leaf}
+use Rattle.leaf_moves.specs.Holds.{Hold, HoldMeets, base_state_at, seen_in, with_callers, with_leaf}
 use Rattle.leaf_moves.specs.Steps.{CallStep, DeedStep}
 use Rattle.leaf_moves.specs.Lanes.{CutsOffAt, TakesBackAt}
 use Rattle.transcript_leaf.specs.Session.{AreApart, AreMet, AreSame, HasNoDeed, HoldsBoth, IsNewHold, IsOthers, IsWhole, LeafSession}
@@ -37,7 +37,7 @@ use Rattle.transcript_leaf.proofs.Reaching.{deed_is_long}
 use Rattle.transcript_leaf.proofs.Lending.{in_turn, joined_on, lends}
 use Rattle.transcript_leaf.proofs.Cutting.{cut_apart, cut_both, cut_off, cut_rest}
 use Rattle.transcript_leaf.proofs.Returning.{back_grows, back_holds, back_on}
-use Rattle.transcript_leaf.proofs.Ended.{grounds_are, history, left, lives_all, order, strangers_in}
+use Rattle.transcript_leaf.proofs.Ended.{base_states_are, history, left, lives_all, order, strangers_in}
 
 module _ {B : Type 0} (meaning : B → Meaning) (number : ℕ) (names : List (List ℕ)) (known : Option Known) where
   -- ---- it begins
@@ -112,9 +112,9 @@ module _ {B : Type 0} (meaning : B → Meaning) (number : ℕ) (names : List (Li
     deed_worn x deed l l' b b' p callers histories now held step on = deed_is_long meaning number names known old before start items (command.Kill number) x deed l l' b b' p callers histories now held step on
 
     -- its tables began from what is known of it
-    pub leaf_ground : (x : Hold B) → LeafSession meaning number names known old before start items x → (table : ℕ) → table < length names
-        → ground_at x.tables table ≡ ground_of known (name_at names table)
-    leaf_ground x now table below = grounds_are meaning number names known old before start items x now table below
+    pub leaf_base_state : (x : Hold B) → LeafSession meaning number names known old before start items x → (table : ℕ) → table < length names
+        → base_state_at x.tables table ≡ base_state_of known (name_at names table)
+    leaf_base_state x now table below = base_states_are meaning number names known old before start items x now table below
 
     -- ---- lanes
 
@@ -163,7 +163,7 @@ module _ {B : Type 0} (meaning : B → Meaning) (number : ℕ) (names : List (Li
 
   module _ (old : Meaning) (items : List PlayedItem) (x : Hold B) where
     pub leaf_history : LeafSession meaning number names known old [] (λ place. []) items x → IsWhole x → AreMet x → (table : ℕ) → table < length names
-        → IsHistoryOf (ground_of known (name_at names table)) (shown number table (all_pieces items)) (seen_in x table)
+        → IsHistoryOf (base_state_of known (name_at names table)) (shown number table (all_pieces items)) (seen_in x table)
     leaf_history now whole met table below = history meaning number names known old items x now whole met table below
 
     pub leaf_order : LeafSession meaning number names known old [] (λ place. []) items x → IsWhole x → AreMet x → (table : ℕ) → table < length names
@@ -172,11 +172,11 @@ module _ {B : Type 0} (meaning : B → Meaning) (number : ℕ) (names : List (Li
 
     -- its life, by its histories
     pub leaf_lives : (now : LeafSession meaning number names known old [] (λ place. []) items x) → AreMet x → (l : Leaf) (b : B) (held : x.held ≡ Some (l, b))
-        → Lives (is_some known) (length names) (columns_of (λ table. ground_of known (name_at names table)) (λ table. seen_in x table) (length names)) [] (first_life known names) (deeds number (all_pieces items))
+        → Lives (is_some known) (length names) (columns_of (λ table. base_state_of known (name_at names table)) (λ table. seen_in x table) (length names)) [] (first_life known names) (deeds number (all_pieces items))
         (now.held l b held).1.life
     leaf_lives now met l b held = lives_all meaning number names known old items x now met l b held
 
-    pub leaf_strangers : (k : Known) → known ≡ Some k → LeafSession meaning number names known old [] (λ place. []) items x → IsWhole x → Strangers names k.held.disk number k.held.region (all_pieces items)
+    pub leaf_strangers : (k : Known) → known ≡ Some k → LeafSession meaning number names known old [] (λ place. []) items x → IsWhole x → StrangersIn names k.held.disk k.held.region (deeds number (all_pieces items))
     leaf_strangers k is now whole = strangers_in meaning number names known old items x k is now whole
 
     pub leaf_leaves : (k : Known) → known ≡ Some k → (now : LeafSession meaning number names known old [] (λ place. []) items x) → AreMet x → (l : Leaf) (b : B) (held : x.held ≡ Some (l, b))

@@ -10,8 +10,8 @@ use Rattle.leaf_history.specs.History.{Entry, LegalFrom}
 use Rattle.leaf_table.specs.Turns.{Shared}
 use Rattle.leaf_table.specs.Calls.{SeatView, OwnsTheRest, name_of, seen_of}
 use Rattle.transcript.specs.Pieces.{Piece, Played, PlayedItem, One, Burst, all_pieces, pieces_in}
-use Rattle.transcript.specs.Histories.{Ground, InOrder, Rises, Shown, shown, shown_in}
-use Rattle.transcript.specs.Transcript.{Known, ground_of}
+use Rattle.transcript.specs.Histories.{BaseState, InOrder, Rises, Shown, shown, shown_in}
+use Rattle.transcript.specs.Transcript.{Known, base_state_of}
 use Rattle.leaf_moves.specs.Stage.{Leaf, seated_of}
 use Rattle.leaf_moves.specs.Holds.{Hold, caller_in, seen_by, seen_in, steward_in}
 use Rattle.transcript_leaf.specs.Session.{AreMet, AreSame, IsWhole, LeafHeld, LeafSession, OneOf, TableSession}
@@ -33,7 +33,7 @@ pub order_none : (number place low high : ℕ) → low ≤ high → InOrder numb
 order_none number place low high l = (high, (l, tt), same_most high)
 
 -- all that was seen is the beginning of the burst
-table_lends : (g : Ground) (start : List Entry) (number place : ℕ) (items : List PlayedItem) (v c : SeatView) → TableSession g start number place items (Some v) (Some c) → seen_of v ≡ seen_of c
+table_lends : (g : BaseState) (start : List Entry) (number place : ℕ) (items : List PlayedItem) (v c : SeatView) → TableSession g start number place items (Some v) (Some c) → seen_of v ≡ seen_of c
     → TableSession g (seen_of c) number place (Burst [] ∷ []) (Some v) (Some c)
 table_lends g start number place items v c t same = record {
   stewards = t.stewards;
@@ -111,9 +111,9 @@ module _ {B : Type 0} (meaning : B → Meaning) (number : ℕ) (names : List (Li
     named = now.named;
     callers_are = now.callers_are;
     tables = λ place t at.
-        retell (ground_of known (name_of t)) (start place) number place (items ++ map One (flat_map (λ l. l) lanes)) (items ++ Burst lanes ∷ []) (steward_in x.held place) (caller_in x.callers place) (now.tables place t at)
+        retell (base_state_of known (name_of t)) (start place) number place (items ++ map One (flat_map (λ l. l) lanes)) (items ++ Burst lanes ∷ []) (steward_in x.held place) (caller_in x.callers place) (now.tables place t at)
         (ap (λ (ps : List Piece). shown number place ps) (pieces_in_turn items lanes)) (λ high h. order_in_turn number place (length (start place)) high items lanes h);
-    grounded = now.grounded;
+    known_base = now.known_base;
     held = λ l b e. let h = now.held l b e in (h.0, subst (λ (ps : List Piece). LeafHeld number names known old (before ++ ps) l (meaning b)) (sym (pieces_in_turn items lanes)) h.1);
   }
 
@@ -128,10 +128,10 @@ module _ {B : Type 0} (meaning : B → Meaning) (number : ℕ) (names : List (Li
 
     -- a table's session, over the seats that are there
     pub table_whole : (place : ℕ) (t : Shared) (v c : SeatView) → slice_get x.tables place ≡ Some t → steward_in x.held place ≡ Some v → caller_in x.callers place ≡ Some c
-        → TableSession (ground_of known (name_of t)) (start place) number place items (Some v) (Some c)
+        → TableSession (base_state_of known (name_of t)) (start place) number place items (Some v) (Some c)
     table_whole place t v c at sat called =
-        subst (λ (d : Option SeatView). TableSession (ground_of known (name_of t)) (start place) number place items (Some v) d) called
-        (subst (λ (s : Option SeatView). TableSession (ground_of known (name_of t)) (start place) number place items s (caller_in x.callers place)) sat (was.tables place t at))
+        subst (λ (d : Option SeatView). TableSession (base_state_of known (name_of t)) (start place) number place items (Some v) d) called
+        (subst (λ (s : Option SeatView). TableSession (base_state_of known (name_of t)) (start place) number place items s (caller_in x.callers place)) sat (was.tables place t at))
 
     -- what has been seen of it
     pub seen_is : (place : ℕ) (v c : SeatView) → steward_in x.held place ≡ Some v → caller_in x.callers place ≡ Some c → seen_in x place ≡ seen_of c
@@ -145,11 +145,11 @@ module _ {B : Type 0} (meaning : B → Meaning) (number : ℕ) (names : List (Li
           let s = seats_at place t at in
           let v = s.0 in
           let c = s.1 in
-          subst (λ (es : List Entry). TableSession (ground_of known (name_of t)) es number place (Burst [] ∷ []) (steward_in x.held place) (caller_in x.callers place)) (sym (seen_is place v c s.2 s.3))
-          (subst (λ (u : Option SeatView). TableSession (ground_of known (name_of t)) (seen_of c) number place (Burst [] ∷ []) u (caller_in x.callers place)) (sym s.2)
-          (subst (λ (d : Option SeatView). TableSession (ground_of known (name_of t)) (seen_of c) number place (Burst [] ∷ []) (Some v) d) (sym s.3)
-          (table_lends (ground_of known (name_of t)) (start place) number place items v c (table_whole place t v c at s.2 s.3) (met place v c s.2 s.3).0)));
-      grounded = was.grounded;
+          subst (λ (es : List Entry). TableSession (base_state_of known (name_of t)) es number place (Burst [] ∷ []) (steward_in x.held place) (caller_in x.callers place)) (sym (seen_is place v c s.2 s.3))
+          (subst (λ (u : Option SeatView). TableSession (base_state_of known (name_of t)) (seen_of c) number place (Burst [] ∷ []) u (caller_in x.callers place)) (sym s.2)
+          (subst (λ (d : Option SeatView). TableSession (base_state_of known (name_of t)) (seen_of c) number place (Burst [] ∷ []) (Some v) d) (sym s.3)
+          (table_lends (base_state_of known (name_of t)) (start place) number place items v c (table_whole place t v c at s.2 s.3) (met place v c s.2 s.3).0)));
+      known_base = was.known_base;
       held = λ l b e. let h = was.held l b e in (h.0, subst (λ (ps : List Piece). LeafHeld number names known old ps l (meaning b)) (sym (append-nil (before ++ all_pieces items))) h.1);
     }
 
@@ -176,7 +176,7 @@ module _ {B : Type 0} (meaning : B → Meaning) (number : ℕ) (names : List (Li
           )
 
       table_joined : (place : ℕ) (t : Shared) → slice_get y.tables place ≡ Some t
-          → TableSession (ground_of known (name_of t)) (start place) number place (items ++ Burst lanes ∷ []) (steward_in y.held place) (caller_in y.callers place)
+          → TableSession (base_state_of known (name_of t)) (start place) number place (items ++ Burst lanes ∷ []) (steward_in y.held place) (caller_in y.callers place)
       table_joined place t at =
           let u = table_was place t at in
           let s = seats_at place u.0 u.1 in
@@ -196,15 +196,15 @@ module _ {B : Type 0} (meaning : B → Meaning) (number : ℕ) (names : List (Li
           )) in
           let sat : steward_in y.held place ≡ Some v'.0 = ap (λ (h : Option (Leaf × B)). steward_in h place) y_whole.held ∙ v'.1 in
           let called : caller_in y.callers place ≡ Some c'.0 = caller_is y.callers place (Some c'.0) c'.1 in
-          let burst : TableSession (ground_of known (name_of t)) (seen_of c) number place (Burst lanes ∷ []) (Some v'.0) (Some c'.0) =
-          subst (λ (es : List Entry). TableSession (ground_of known (name_of t)) es number place (Burst lanes ∷ []) (Some v'.0) (Some c'.0)) (seen_is place v c s.2 s.3)
-          (subst (λ (d : Option SeatView). TableSession (ground_of known (name_of t)) (seen_in x place) number place (Burst lanes ∷ []) (Some v'.0) d) called
-          (subst (λ (w : Option SeatView). TableSession (ground_of known (name_of t)) (seen_in x place) number place (Burst lanes ∷ []) w (caller_in y.callers place)) sat (now.tables place t at))) in
-          let first : TableSession (ground_of known (name_of t)) (start place) number place items (Some v) (Some c) =
-          subst (λ (n : List ℕ). TableSession (ground_of known n) (start place) number place items (Some v) (Some c)) u.2 (table_whole place u.0 v c u.1 s.2 s.3) in
-          subst (λ (w : Option SeatView). TableSession (ground_of known (name_of t)) (start place) number place (items ++ Burst lanes ∷ []) w (caller_in y.callers place)) (sym sat)
-          (subst (λ (d : Option SeatView). TableSession (ground_of known (name_of t)) (start place) number place (items ++ Burst lanes ∷ []) (Some v'.0) d) (sym called)
-          (table_lent (ground_of known (name_of t)) (start place) number place items lanes v c v'.0 c'.0 first (met place v c s.2 s.3).0 burst
+          let burst : TableSession (base_state_of known (name_of t)) (seen_of c) number place (Burst lanes ∷ []) (Some v'.0) (Some c'.0) =
+          subst (λ (es : List Entry). TableSession (base_state_of known (name_of t)) es number place (Burst lanes ∷ []) (Some v'.0) (Some c'.0)) (seen_is place v c s.2 s.3)
+          (subst (λ (d : Option SeatView). TableSession (base_state_of known (name_of t)) (seen_in x place) number place (Burst lanes ∷ []) (Some v'.0) d) called
+          (subst (λ (w : Option SeatView). TableSession (base_state_of known (name_of t)) (seen_in x place) number place (Burst lanes ∷ []) w (caller_in y.callers place)) sat (now.tables place t at))) in
+          let first : TableSession (base_state_of known (name_of t)) (start place) number place items (Some v) (Some c) =
+          subst (λ (n : List ℕ). TableSession (base_state_of known n) (start place) number place items (Some v) (Some c)) u.2 (table_whole place u.0 v c u.1 s.2 s.3) in
+          subst (λ (w : Option SeatView). TableSession (base_state_of known (name_of t)) (start place) number place (items ++ Burst lanes ∷ []) w (caller_in y.callers place)) (sym sat)
+          (subst (λ (d : Option SeatView). TableSession (base_state_of known (name_of t)) (start place) number place (items ++ Burst lanes ∷ []) (Some v'.0) d) (sym called)
+          (table_lent (base_state_of known (name_of t)) (start place) number place items lanes v c v'.0 c'.0 first (met place v c s.2 s.3).0 burst
           (λ id o. one_of y place v'.0 c'.0 id sat called ((same.ids place id).0 (one_as x place v c id s.2 s.3 o)))
           (λ id o. one_of x place v c id s.2 s.3 ((same.ids place id).1 (one_as y place v'.0 c'.0 id sat called o)))))
         where
@@ -223,7 +223,7 @@ module _ {B : Type 0} (meaning : B → Meaning) (number : ℕ) (names : List (Li
         named = now.named;
         callers_are = now.callers_are;
         tables = table_joined;
-        grounded = now.grounded;
+        known_base = now.known_base;
         held = λ l b e.
             let h = now.held l b e in (
               h.0,

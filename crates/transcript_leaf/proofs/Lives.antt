@@ -2,11 +2,12 @@
 use Rattle.std.proofs.Common.{◌≡◌, ℕ, ◌==◌, Bool, true, false, List, [], ◌∷◌, ◌++◌, refl, sym, ap, subst, ◌∙◌}
 use Rattle.std.specs.Prelude.{if◌then◌else◌}
 use Rattle.std.proofs.lemmas.Bool.{eq-eqb}
+use Rattle.std.specs.List.{flat_map}
 use Rattle.std.proofs.lemmas.Grind.{flat_map-append}
 use Rattle.std.proofs.lemmas.List.{append-nil, append_assoc}
 use Rattle.printed_lines.specs.declared.line.Ending.{Ending}
 use Rattle.printed_lines.specs.declared.line.Deed.{Deed}
-use Rattle.transcript.specs.Pieces.{Acted, Called, Did, Noted, Piece, Says, Worn, deeds, did_in, notes_of}
+use Rattle.transcript.specs.Pieces.{Acted, Called, Did, Noted, Piece, Says, Worn, deeds, did_in}
 use Rattle.transcript.specs.Life.{Columns, Does, Life, Lives}
 use Rattle.transcript_leaf.specs.Session.{HasNoDeed}
 
@@ -45,6 +46,10 @@ deeds_between leaf before none more apart =
     ∙ sym (deeds_append leaf before more))
 
 -- ---- the life
+
+-- the entries of these deeds
+abbrev pub notes_of : List Did → List Noted
+notes_of ds = flat_map (λ (d : Did). d.notes) ds
 
 -- behind entries that were there, and those of the deeds so far
 pub lives_act : (told : Bool) (tables : ℕ) (columns : List Noted → Columns) (before : List Noted) (first life next : Life) (ds : List Did) (d : Did)

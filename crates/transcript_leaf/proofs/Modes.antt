@@ -14,7 +14,7 @@ use Rattle.transcript.specs.Transcript.{Known}
 use Rattle.leaf_moves.specs.Stage.{Leaf, IsDown, IsUp, IsPreparing, with_seats}
 use Rattle.leaf_moves.specs.Modes.{mode_of}
 use Rattle.leaf_moves.specs.Steps.{IsDownLeaf, IsUpLeaf, noted_all}
-use Rattle.transcript_leaf.specs.Session.{AreGrounded, AreInPlace, FitsNext, StandsKnown}
+use Rattle.transcript_leaf.specs.Session.{HaveKnownBase, AreInPlace, FitsNext, StandsKnown}
 use Rattle.transcript_leaf.specs.Acting.{FitsWay}
 use Rattle.transcript_leaf.proofs.Lists.{element_at, length_mapped, within}
 
@@ -72,16 +72,16 @@ all_each P [] each = tt
 all_each P (x ∷ xs) each = (each zero x refl, all_each P xs (λ place y at. each (suc place) y at))
 
 -- tables with a base are founded
-pub founded_known : (names : List (List ℕ)) (k : Known) (x : Seated) → AreInPlace names x → AreGrounded (Some k) x → AreFounded x
-founded_known names k x in_place grounded = all_each (λ (t : Shared). is_founded (base_seen t) ≡ true) x.tables (λ place t at.
+pub founded_known : (names : List (List ℕ)) (k : Known) (x : Seated) → AreInPlace names x → HaveKnownBase (Some k) x → AreFounded x
+founded_known names k x in_place known_base = all_each (λ (t : Shared). is_founded (base_seen t) ≡ true) x.tables (λ place t at.
     let below = within x.tables place t at in
     let many = as_many names x in_place in
     let seat = element_at x.seats place (omega (arith, below, many, in_place.seats)) in
-    (grounded place t seat.0 at seat.1).0)
+    (known_base place t seat.0 at seat.1).0)
 
-pub founded_where : (names : List (List ℕ)) (known : Option Known) (x : Seated) → AreInPlace names x → AreGrounded known x → is_some known ≡ true → AreFounded x
-founded_where names None x in_place grounded is = absurd cc
-founded_where names (Some k) x in_place grounded is = founded_known names k x in_place grounded
+pub founded_where : (names : List (List ℕ)) (known : Option Known) (x : Seated) → AreInPlace names x → HaveKnownBase known x → is_some known ≡ true → AreFounded x
+founded_where names None x in_place known_base is = absurd cc
+founded_where names (Some k) x in_place known_base is = founded_known names k x in_place known_base
 
 -- ---- counts
 

@@ -24,13 +24,13 @@ use Rattle.printed_lines.specs.declared.line.Ending.TheVariants as ends_as
 use Rattle.printed_lines.specs.declared.line.Deed.{Deed}
 use Rattle.printed_lines.specs.declared.line.Deed.TheVariants.{Drain, Flush, Kill, Start}
 use Rattle.transcript.specs.Pieces.{Acted, Noted, Piece}
-use Rattle.transcript.specs.Life.{Columns, Life, Notes, durable_with}
+use Rattle.transcript.specs.Life.{Columns, Life, NotesFrom, durable_with}
 use Rattle.transcript.specs.Transcript.{Known}
 use Rattle.leaf_moves.specs.Stage.{Carries, IsDown, IsUp, Leaf, seated_of}
 use Rattle.leaf_moves.proofs.Drains.{by_endings}
 use Rattle.leaf_moves.specs.Modes.{mode_of}
 use Rattle.leaf_moves.specs.Steps.{DrainMoves, FlushMoves, KillMoves, Moves, StartMoves, StartsTold, ending_of, ending_of_flush, noted, noted_all}
-use Rattle.transcript_leaf.specs.Session.{AreGrounded, AreInPlace, FitsNext, IsDurable, IsStewards, KnownLeaf, StandsKnown}
+use Rattle.transcript_leaf.specs.Session.{HaveKnownBase, AreInPlace, FitsNext, IsDurable, IsStewards, KnownLeaf, StandsKnown}
 use Rattle.transcript_leaf.specs.Acting.{CountsGo, Lived, loses_counts}
 use Rattle.transcript_leaf.proofs.Lists.{clash_bool, length_mapped}
 use Rattle.transcript_leaf.proofs.Deeds.{OpensCounts}
@@ -60,16 +60,16 @@ module _ (names : List (List ℕ)) (met moved : Leaf) (notes : List Note) (m m' 
   pub table_before : (place : ℕ) (t : Shared) → slice_get (seated_of moved).tables place ≡ Some t → slice_get (seated_of met).tables place ≡ Some t
   table_before place t at = ap (λ (ts : List Shared). slice_get ts place) (sym same_tables) ∙ at
 
-  pub grounded_moved : (kn : Option Known) → AreGrounded kn (seated_of met) → AreGrounded kn (seated_of moved)
-  grounded_moved kn grounded = λ place t v at sat.
+  pub known_base_moved : (kn : Option Known) → HaveKnownBase kn (seated_of met) → HaveKnownBase kn (seated_of moved)
+  known_base_moved kn known_base = λ place t v at sat.
       let here = table_before place t at in
       let before = seat_there names (seated_of met) in_place place t here in
-      grounded place t before.0 here before.1
+      known_base place t before.0 here before.1
 
 -- ---- starts that open
 
 -- notes are as many as what they say, and as the tables that are noted
-notes_count : (place : ℕ) (saids : List Said) (notes : List Noted) → Notes place saids notes → length saids ≡ length notes
+notes_count : (place : ℕ) (saids : List Said) (notes : List Noted) → NotesFrom place saids notes → length saids ≡ length notes
 notes_count place [] [] h = refl
 notes_count place [] (n ∷ ns) h = absurd h
 notes_count place (s ∷ ss) [] h = absurd h
@@ -146,15 +146,15 @@ started Kill m m' leaf notes ends leaf' way moves e = absurd (no_opening ends wa
 
 -- what the counts say of a start
 pub opens : (names : List (List ℕ)) (kn : Option Known) (life : Life) (m m' : Meaning) (leaf : Leaf) (notes : List Note)
-    → AreInPlace names (seated_of leaf) → AreGrounded kn (seated_of leaf) → IfSome kn (λ k. StandsKnown k leaf m) → FitsNext kn life leaf m
+    → AreInPlace names (seated_of leaf) → HaveKnownBase kn (seated_of leaf) → IfSome kn (λ k. StandsKnown k leaf m) → FitsNext kn life leaf m
     → OpensCounts kn life m m' leaf notes
-opens names None life m m' leaf notes in_place grounded stands next = tt
-opens names (Some k) life m m' leaf notes in_place grounded stands next =
+opens names None life m m' leaf notes in_place known_base stands next = tt
+opens names (Some k) life m m' leaf notes in_place known_base stands next =
     some_weaken life.durable (λ counts. IsDurable k.base counts leaf m)
-    (λ counts. (x : Seated) (s : Serving) (way : Way) → leaf ≡ IsDown x → StartsTold x m m' s notes way → (length counts ≡ length x.tables) × Notes 0 (map Opened counts) (noted_all notes))
+    (λ counts. (x : Seated) (s : Serving) (way : Way) → leaf ≡ IsDown x → StartsTold x m m' s notes way → (length counts ≡ length x.tables) × NotesFrom 0 (map Opened counts) (noted_all notes))
     (λ counts durable x s way down came. opened_counts names k counts m m' x s notes way
     (subst (λ (l : Leaf). AreInPlace names (seated_of l)) down in_place)
-    (subst (λ (l : Leaf). AreGrounded (Some k) (seated_of l)) down grounded)
+    (subst (λ (l : Leaf). HaveKnownBase (Some k) (seated_of l)) down known_base)
     (subst (λ (l : Leaf). StandsKnown k l m) down stands)
     (subst (λ (l : Leaf). IsDurable k.base counts l m) down durable) came)
     next.1
@@ -166,15 +166,15 @@ none_durable deed life next notes ends (CountsGo.lost e) none = e
 none_durable deed life next notes ends (CountsGo.opened way counts ends_are saying e) none = e
 
 module _ (names : List (List ℕ)) (k : Known) (deed : Deed) (m m' : Meaning) (met : Leaf) (notes : List Note) (ends : Ending) (moved : Leaf)
-    (in_place : AreInPlace names (seated_of met)) (grounded : AreGrounded (Some k) (seated_of met))
+    (in_place : AreInPlace names (seated_of met)) (known_base : HaveKnownBase (Some k) (seated_of met))
     (stewards : (place : ℕ) (v : SeatView) → slice_get (seated_of met).seats place ≡ Some v → IsStewards v)
     (stands : StandsKnown k met m) (carries : Carries met moved notes m m') (moves : Moves deed m m' met notes ends moved) where
   counts_kept : (durable : Option (List ℕ)) → loses_counts deed ends ≡ false → IfSome durable (λ counts. IsDurable k.base counts met m)
       → IfSome (durable_with durable (noted_all notes)) (λ counts. IsDurable k.base counts moved m')
   counts_kept None calm h = tt
-  counts_kept (Some counts) calm h = durable_moves names k counts deed m m' met notes ends moved in_place grounded stewards stands carries moves calm h
+  counts_kept (Some counts) calm h = durable_moves names k counts deed m m' met notes ends moved in_place known_base stewards stands carries moves calm h
 
-  counts_opened : (way : Way) (counts : List ℕ) → ends ≡ ends_as.Started way → Notes 0 (map Opened counts) (noted_all notes) → IsDurable k.base counts moved m'
+  counts_opened : (way : Way) (counts : List ℕ) → ends ≡ ends_as.Started way → NotesFrom 0 (map Opened counts) (noted_all notes) → IsDurable k.base counts moved m'
   counts_opened way counts ends_are saying =
       let o = started deed m m' met notes ends moved way moves ends_are in
       let count : length counts ≡ length o.x.tables =
@@ -182,7 +182,7 @@ module _ (names : List (List ℕ)) (k : Known) (deed : Deed) (m m' : Meaning) (m
       subst (λ (l : Leaf). IsDurable k.base counts l m') (sym o.up)
       (opened_durable names k counts m m' o.x o.s notes way
       (subst (λ (l : Leaf). AreInPlace names (seated_of l)) o.down in_place)
-      (subst (λ (l : Leaf). AreGrounded (Some k) (seated_of l)) o.down grounded)
+      (subst (λ (l : Leaf). HaveKnownBase (Some k) (seated_of l)) o.down known_base)
       (subst (λ (l : Leaf). (place : ℕ) (v : SeatView) → slice_get (seated_of l).seats place ≡ Some v → IsStewards v) o.down stewards)
       (subst (λ (l : Leaf). StandsKnown k l m) o.down stands)
       (subst (λ (l : Leaf). Carries (IsDown o.x) l notes m m') o.up (subst (λ (l : Leaf). Carries l moved notes m m') o.down carries))
@@ -197,25 +197,25 @@ module _ (names : List (List ℕ)) (k : Known) (deed : Deed) (m m' : Meaning) (m
       subst (λ (d : Option (List ℕ)). IfSome d (λ counts. IsDurable k.base counts moved m')) (sym e) (counts_opened way counts ends_are saying)
 
 pub next_moved : (names : List (List ℕ)) (kn : Option Known) (deed : Deed) (life : Life) (m m' : Meaning) (met : Leaf) (notes : List Note) (ends : Ending) (moved : Leaf)
-    → AreInPlace names (seated_of met) → AreGrounded kn (seated_of met)
+    → AreInPlace names (seated_of met) → HaveKnownBase kn (seated_of met)
     → ((place : ℕ) (v : SeatView) → slice_get (seated_of met).seats place ≡ Some v → IsStewards v)
     → IfSome kn (λ k. StandsKnown k met m) → Carries met moved notes m m' → Moves deed m m' met notes ends moved → FitsNext kn life met m
     → (lived : Lived kn (length names) deed life (noted_all notes) ends moved m') → FitsNext kn lived.next moved m'
-next_moved names None deed life m m' met notes ends moved in_place grounded stewards stands carries moves next lived =
+next_moved names None deed life m m' met notes ends moved in_place known_base stewards stands carries moves next lived =
     (lived.way, none_durable deed life lived.next (noted_all notes) ends lived.counts next.1)
-next_moved names (Some k) deed life m m' met notes ends moved in_place grounded stewards stands carries moves next lived =
-    (lived.way, counts_on names k deed m m' met notes ends moved in_place grounded stewards stands carries moves life lived.next lived.counts next.1)
+next_moved names (Some k) deed life m m' met notes ends moved in_place known_base stewards stands carries moves next lived =
+    (lived.way, counts_on names k deed m m' met notes ends moved in_place known_base stewards stands carries moves life lived.next lived.counts next.1)
 
 -- ---- what stands of the berth
 
 pub known_moved : (number : ℕ) (names : List (List ℕ)) (kn : Option Known) (old : Meaning) (deed : Deed) (life : Life) (pieces : List Piece) (m m' : Meaning) (met : Leaf) (notes : List Note) (ends : Ending) (moved : Leaf)
-    → AreInPlace names (seated_of met) → AreGrounded kn (seated_of met) → life.mode ≡ mode_of met → Moves deed m m' met notes ends moved → Carries met moved notes m m'
+    → AreInPlace names (seated_of met) → HaveKnownBase kn (seated_of met) → life.mode ≡ mode_of met → Moves deed m m' met notes ends moved → Carries met moved notes m m'
     → (lived : Lived kn (length names) deed life (noted_all notes) ends moved m')
     → IfSome kn (KnownLeaf number names old life pieces met m)
     → IfSome kn (KnownLeaf number names old lived.next (pieces ++ Acted number deed (noted_all notes) ends ∷ []) moved m')
-known_moved number names None old deed life pieces m m' met notes ends moved in_place grounded mode moves carries lived s = tt
-known_moved number names (Some k) old deed life pieces m m' met notes ends moved in_place grounded mode moves carries lived s =
-    let on = stands_carried names k.base met moved notes m m' s.now.tells in_place grounded s.now.sound s.now.stands carries in
+known_moved number names None old deed life pieces m m' met notes ends moved in_place known_base mode moves carries lived s = tt
+known_moved number names (Some k) old deed life pieces m m' met notes ends moved in_place known_base mode moves carries lived s =
+    let on = stands_carried names k.base met moved notes m m' s.now.tells in_place known_base s.now.sound s.now.stands carries in
     let columns : Columns = record { least = λ handed. 0; most = lived.hands.most; bulk = lived.hands.bulk } in
     let does = lived.does columns (omega arith) (λ is. (le_refl lived.hands.most, le_refl lived.hands.bulk)) in
     record {
@@ -223,6 +223,6 @@ known_moved number names (Some k) old deed life pieces m m' met notes ends moved
       told = told_on k.base names met moved old m m' s.told on;
       named = named_act number names columns k.held life pieces deed m m' met notes ends moved lived.next s.now.tells mode in_place.same_names moves does s.named;
       own = λ begun.
-          owned names k.base m m' met moved notes ends in_place s.now.tells (founded_all names (seated_of met) in_place k.base grounded) s.now.stands on life lived.next s.own begun
+          owned names k.base m m' met moved notes ends in_place s.now.tells (founded_all names (seated_of met) in_place k.base known_base) s.now.stands on life lived.next s.own begun
           true (length names) columns deed (noted_all notes) moves does;
     }

@@ -21,7 +21,7 @@ use Rattle.printed_lines.specs.declared.line.Ending.TheVariants as ending
 use Rattle.printed_lines.specs.declared.line.Deed.{Deed}
 use Rattle.printed_lines.specs.declared.line.Deed.TheVariants.{Start, Flush, Drain, Kill}
 use Rattle.transcript.specs.Pieces.{Piece, Acted, Did, Noted, deeds}
-use Rattle.transcript.specs.Life.{Columns, Life, Mode, Down, Up, Owed, Does, OfFlush, OfDrain, OfKill, BeginsAt, IsStartRefusal, Progress, Stage}
+use Rattle.transcript.specs.Life.{Columns, Life, LifeMode, Down, Up, Owed, Does, OfFlush, OfDrain, OfKill, BeginsAt, IsStartRefusal, Progress, StageOfDrain}
 use Rattle.transcript.specs.Strangers.{Behind, FitsStrangers, StrangersIn}
 use Rattle.transcript.specs.Transcript.{Known, first_life}
 use Rattle.leaf_moves.specs.Stage.{Leaf, IsUp, seated_of}
@@ -61,11 +61,11 @@ never_started (fault.Worn table) way e = cc
 both : (b : Bool) → b ≡ true → b ≡ false → ⊥
 both b one other = cc
 
-down_up : (mode : Mode) (owed : Option Owed) → mode ≡ Down → mode ≡ Up owed → ⊥
+down_up : (mode : LifeMode) (owed : Option Owed) → mode ≡ Down → mode ≡ Up owed → ⊥
 down_up mode owed down up = cc
 
-never_begins : (mode : Mode) (p : Progress) → mode ≡ Down → BeginsAt mode p → ⊥
-never_begins mode p down begins = subst (λ (a : Mode). BeginsAt a p) down begins
+never_begins : (mode : LifeMode) (p : Progress) → mode ≡ Down → BeginsAt mode p → ⊥
+never_begins mode p down begins = subst (λ (a : LifeMode). BeginsAt a p) down begins
 
 pub record Rests (life : Life) (ends : Ending) (next : Life) : Type 0 where
   pub now : next ≡ life
@@ -154,7 +154,7 @@ kill_held m m' leaf notes ends leaf' down (KillMoves.up s y up each held ended n
 kill_held m m' leaf notes ends leaf' down (KillMoves.preparing x y count is all each held ended now) = held
 kill_held m m' leaf notes ends leaf' down (KillMoves.not_up other none held ended same) = held
 
-never_reached : (leaf leaf' : Leaf) (notes : List Note) {copy : ℕ} {s : Stage} → Reaches leaf leaf' notes copy s → IsDownLeaf leaf → ⊥
+never_reached : (leaf leaf' : Leaf) (notes : List Note) {copy : ℕ} {s : StageOfDrain} → Reaches leaf leaf' notes copy s → IsDownLeaf leaf → ⊥
 never_reached leaf leaf' notes r down = never_begins (moves.mode_of leaf) r.comes.0 (resting_mode leaf down) r.comes.1
 
 drain_held : (stop : Option ℕ) (m m' : Meaning) (leaf : Leaf) (notes : List Note) (ends : Ending) (leaf' : Leaf) → IsDownLeaf leaf → DrainMoves m m' leaf stop notes ends leaf' → m'.held ≡ m.held

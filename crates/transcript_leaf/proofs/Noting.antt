@@ -5,7 +5,7 @@ use Rattle.std.proofs.lemmas.Bool.{eq-eqb, eqb-true, eqb-false}
 use Rattle.std.proofs.lemmas.List.{append-nil, append_assoc, length-append, length-map}
 use Rattle.leaf_history.specs.Calls.{Call}
 use Rattle.leaf_history.specs.Calls as call
-use Rattle.leaf_history.specs.Replies.{Reply}
+use Rattle.leaf_history.specs.Replies.{EntryReply}
 use Rattle.leaf_history.specs.Replies as reply
 use Rattle.leaf_history.specs.History.{Entry, LegalFrom}
 use Rattle.printed_lines.specs.declared.line.Ending.{Ending}
@@ -19,7 +19,7 @@ use Rattle.leaf_steward.specs.Seated.{Seated}
 use Rattle.leaf_steward.specs.Making.{Makes, MadeAs, OneEntry}
 use Rattle.printed_lines.specs.declared.line.Deed.{Deed}
 use Rattle.transcript.specs.Pieces.{Acted}
-use Rattle.transcript.specs.Histories.{Shown, Shows, shown, shown_notes}
+use Rattle.transcript.specs.Histories.{Shown, ShowsEntry, shown, shown_notes}
 use Rattle.leaf_moves.specs.Steps.{noted_all, said_of_note}
 use Rattle.transcript_leaf.specs.Session.{IsStewards, OwnedBy, TellsOf}
 use Rattle.transcript_leaf.proofs.Lists.{same_some, get_set_same, get_set_other}
@@ -37,7 +37,7 @@ pub record NotesAt (place : ℕ) (notes : List Note) (v w : SeatView) : Type 0 w
 
 -- whatever a note tells of is one entry, which its line shows
 one_made : (base : Option TableBase) (clock : ℕ) (v w : SeatView) (what : What) → MadeAs base clock v what w
-    → (c : Call) × (r : Reply) × Made base clock v c r w × Shows None (said_of_note what) (entry_seen v.id clock c r)
+    → (c : Call) × (r : EntryReply) × Made base clock v c r w × ShowsEntry None (said_of_note what) (entry_seen v.id clock c r)
 one_made base clock v w (what.Opened n) m = (call.Open n m.0, reply.Noted, m.1, (refl, (m.0, refl)))
 one_made base clock v w (what.Took n) m = (call.Take, reply.Counted n, m, (refl, refl, refl))
 one_made base clock v w (what.Flushed n) m = (call.Flushed n, reply.Noted, m, (refl, refl))

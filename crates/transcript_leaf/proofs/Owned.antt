@@ -24,8 +24,8 @@ use Rattle.printed_lines.specs.declared.line.Ending.TheVariants as ending
 use Rattle.printed_lines.specs.declared.line.Deed.{Deed}
 use Rattle.printed_lines.specs.declared.line.Deed.TheVariants.{Start, Flush, Drain, Kill}
 use Rattle.transcript.specs.Pieces.{Noted}
-use Rattle.transcript.specs.Life.{Columns, Copying, Does, Life, OfStart, Shutting, Stage}
-use Rattle.leaf_moves.specs.Stage.{IsDown, IsUp, Leaf, Stands, StandsOn, seated_of}
+use Rattle.transcript.specs.Life.{Columns, Copying, Does, Life, OfStart, Shutting, StageOfDrain}
+use Rattle.leaf_moves.specs.Stage.{IsDown, IsUp, Leaf, LeafStands, StandsOn, seated_of}
 use Rattle.leaf_moves.specs.Steps.{DrainMoves, FlushMoves, KillMoves, Moves, Reaches, RefusalTold, RegionStopped, StartMoves, Stops}
 use Rattle.transcript_leaf.specs.Session.{AreInPlace, IsOwn}
 use Rattle.transcript_leaf.proofs.AsHanded.{read_named, refused_breaks}
@@ -54,13 +54,13 @@ held_own : (names : List (List ℕ)) (m m' : Meaning) → m'.held ≡ m.held →
 held_own names m m' same own = same_own names m m' (ap (λ (p : Pair). p.region) same) own
 
 -- a drain that was stopped left the region as it was, or closed
-stopped_own : (names : List (List ℕ)) (s : Stage) (m m' : Meaning) → RegionStopped s m m' → HasNoStranger names m.held.region → HasNoStranger names m'.held.region
+stopped_own : (names : List (List ℕ)) (s : StageOfDrain) (m m' : Meaning) → RegionStopped s m m' → HasNoStranger names m.held.region → HasNoStranger names m'.held.region
 stopped_own names (Shutting p) m m' same own = same_own names m m' same own
 stopped_own names (Copying zero) m m' same own = same_own names m m' same own
 stopped_own names (Copying (suc made)) m m' shut own = closed_own names m'.held.region (shut_head m'.held.region 0 shut)
 
 module _ (names : List (List ℕ)) (base : NamedStates) (m m' : Meaning) (met moved : Leaf) (notes : List Note) (ends : Ending) (in_place : AreInPlace names (seated_of met)) (tells : IsTrue m.tells)
-    (founded : AreFounded (seated_of met)) (stands : Stands base met m) where
+    (founded : AreFounded (seated_of met)) (stands : LeafStands base met m) where
   abbrev OwnsOn : Type 0
   OwnsOn = HasNoStranger names m.held.region → HasNoStranger names m'.held.region
 
@@ -82,7 +82,7 @@ module _ (names : List (List ℕ)) (base : NamedStates) (m m' : Meaning) (met mo
   of_names : HasNoStranger (seated_of met).names m'.held.region → HasNoStranger names m'.held.region
   of_names own = subst (λ (ns : List (List ℕ)). HasNoStranger ns m'.held.region) in_place.same_names own
 
-  stops_own : (copy : ℕ) (s : Stage) (r : Reaches met moved notes copy s) → Stops m m' met moved notes copy s r → OwnsOn
+  stops_own : (copy : ℕ) (s : StageOfDrain) (r : Reaches met moved notes copy s) → Stops m m' met moved notes copy s r → OwnsOn
   stops_own copy (Shutting p) r stops own = same_own names m m' (stops.4 tells) own
   stops_own copy (Copying made) r stops own = stopped_own names (Copying made) m m' (stops.2 base tells founded stands) own
 
@@ -116,7 +116,7 @@ module _ (names : List (List ℕ)) (base : NamedStates) (m m' : Meaning) (met mo
     -- by a start that opened its tables
     comes : (s : Serving) → moved ≡ IsUp s → HasNoStranger names m'.held.region → IsOwn names (seated_of moved) m'
     comes s now region =
-        let up : Stands base (IsUp s) m' = subst (λ (l : Leaf). Stands base l m') now on.stands in
+        let up : LeafStands base (IsUp s) m' = subst (λ (l : Leaf). LeafStands base l m') now on.stands in
         record {
           opened = subst (λ (l : Leaf). was_opened m'.clock (watched_by (seated_of l)) ≡ true) (sym now) up.1.opened;
           region = region;
@@ -162,7 +162,7 @@ watch_named (t ∷ ts) [] count = absurd (omega (arith, count))
 watch_named (t ∷ ts) (v ∷ vs) count = ap (λ (ns : List (List ℕ)). name_of t ∷ ns) (watch_named ts vs (omega (arith, count)))
 
 -- none that was up before
-pub never_stranger : (names : List (List ℕ)) (base : NamedStates) (x : Seated) (m m' : Meaning) (f : StartFault) (name : List ℕ) → AreInPlace names x → Stands base (IsDown x) m → IsOwn names x m
+pub never_stranger : (names : List (List ℕ)) (base : NamedStates) (x : Seated) (m m' : Meaning) (f : StartFault) (name : List ℕ) → AreInPlace names x → LeafStands base (IsDown x) m → IsOwn names x m
     → RefusalTold x m m' f → f ≢ fault.Stranger name
 never_stranger names base x m m' f name in_place stands own told = λ is.
     let exact : IsExactRefusal x.names m.held (fault.Stranger name) = subst (λ (g : StartFault). IsExactRefusal x.names m.held g) is told.exact in

@@ -19,7 +19,7 @@ use Rattle.log_recovery.specs.Recovery.{IsRecoveryRefusal}
 use Rattle.log_recovery.specs.declared.fault.RecoveryFault.TheVariants as found
 use Rattle.crash_moments.specs.Left.{NamedStates}
 use Rattle.crash_moments.specs.Watched.{Watched, by_name, is_watched, now_of, others_then, was_opened}
-use Rattle.crash_states.specs.Standing.{Rests, tables_of}
+use Rattle.crash_states.specs.Standing.{Rests, states_of_tables}
 use Rattle.transcript_leaf.proofs.AsHanded.{region_named}
 
 -- ---- the region
@@ -92,7 +92,7 @@ taken_of_none : (least : List Write) (s : HistoryState) → s.writes ≡ [] → 
 taken_of_none least s none is = is ∙ take_nothing (length least) s.writes none
 
 module _ (ws : List Watched) (others : NamedStates) (least : List ℕ → List Write) (next : Option LogRecord) (m : Meaning) (rests : Rests ws others least next m) (opened : was_opened m.clock ws ≡ true) where
-  no_writes : (name : List ℕ) → is_watched ws name ≡ false → (tables_of others ws m name).writes ≡ []
+  no_writes : (name : List ℕ) → is_watched ws name ≡ false → (states_of_tables others ws m name).writes ≡ []
   no_writes name none =
       ap (λ (s : HistoryState). s.writes) (foreign now_of (others_then (was_opened m.clock ws) others) ws name none ∙ ap (λ (b : Bool). others_then b others name) opened)
 
@@ -102,8 +102,8 @@ module _ (ws : List Watched) (others : NamedStates) (least : List ℕ → List W
       let none = no_writes name (not_watched ws name refusal.4) in
       let kept = rests.each name in
       elim (rests.logs m.held rests.stands.reads) [
-        | inl log ↦ no_record_of (map (λ (w : Watched). w.name) ws) m.held.disk name refusal least log (taken_of_none (least name) (tables_of others ws m name) none kept.shortest)
-        | inr log ↦ no_record_of (map (λ (w : Watched). w.name) ws) m.held.disk name refusal (with_writes next least) log (taken_of_none (with_writes next least name) (tables_of others ws m name) none kept.longest)
+        | inl log ↦ no_record_of (map (λ (w : Watched). w.name) ws) m.held.disk name refusal least log (taken_of_none (least name) (states_of_tables others ws m name) none kept.shortest)
+        | inr log ↦ no_record_of (map (λ (w : Watched). w.name) ws) m.held.disk name refusal (with_writes next least) log (taken_of_none (with_writes next least name) (states_of_tables others ws m name) none kept.longest)
       ]
 
   -- a start that is refused over it is told no stranger

@@ -8,7 +8,7 @@ use Rattle.leaf_history.specs.History.{Entry, LegalFrom}
 use Rattle.leaf_history.proofs.Histories.{LegalFrom-front}
 use Rattle.leaf_table.specs.Calls.{SeatView, seen_of}
 use Rattle.transcript.specs.Pieces.{PlayedItem, all_pieces}
-use Rattle.transcript.specs.Histories.{Ground, InOrder, Shown, shown}
+use Rattle.transcript.specs.Histories.{BaseState, InOrder, Shown, shown}
 use Rattle.leaf_moves.specs.Lanes.{SplitsIf}
 use Rattle.transcript_leaf.specs.Session.{IsCallers, IsStewards, OneOf, OwnedBy, TableSession}
 use Rattle.transcript_leaf.proofs.Ids.{callers_own, given_back, given_callers, given_owns, keeps_callers, keeps_owns, last_apart, parts_own, stewards_own}
@@ -93,7 +93,7 @@ append_none : (xs ys : List Shown) → xs ++ ys ≡ [] → (xs ≡ []) × (ys �
 append_none [] ys e = (refl, e)
 append_none (x ∷ xs) ys e = absurd cc
 
-module _ (g : Ground) (start : List Entry) (number place : ℕ) (items items' : List PlayedItem) (v c : Option SeatView) (t : TableSession g start number place items v c)
+module _ (g : BaseState) (start : List Entry) (number place : ℕ) (items items' : List PlayedItem) (v c : Option SeatView) (t : TableSession g start number place items v c)
     (nothing : shown number place (all_pieces items) ≡ []) (nothing_then : shown number place (all_pieces items') ≡ [])
     (order : (high : ℕ) → length start ≤ high → InOrder number place (length start) items' high) where
   none_told : (t.told ≡ []) × (t.later ≡ [])

@@ -5,7 +5,7 @@ use Rattle.std.proofs.lemmas.Bool.{ltb-true}
 use Rattle.berth_face.specs.Berth.{Meaning}
 use Rattle.leaf_table.specs.Turns.{Shared}
 use Rattle.leaf_table.specs.Calls.{SeatView, name_of}
-use Rattle.transcript.specs.Transcript.{Known, ground_of}
+use Rattle.transcript.specs.Transcript.{Known, base_state_of}
 use Rattle.leaf_moves.specs.Stage.{Leaf, MeetAll, MeetsIf, seated_of}
 use Rattle.leaf_moves.specs.Holds.{caller_in}
 use Rattle.transcript_leaf.proofs.Lists.{element_at, get_map, name_is, get_set_same, length_mapped, not_below, same_some, within}
@@ -113,7 +113,7 @@ module _ (leaf : Leaf) (callers : List (Option SeatView)) (leaf' : Leaf) (caller
   -- what each steward's seat learns
   pub leaf_met : (known : Option Known)
       → ((place : ℕ) (t : Shared) (v w : SeatView) → slice_get (seated_of leaf).tables place ≡ Some t → slice_get (seated_of leaf).seats place ≡ Some v → slice_get (seated_of leaf').seats place ≡ Some w
-      → MeetsIf v (caller_in callers place) w (caller_in callers' place) → HasLearned (ground_of known (name_of t)) v w)
+      → MeetsIf v (caller_in callers place) w (caller_in callers' place) → HasLearned (base_state_of known (name_of t)) v w)
       → LeafMeets known leaf leaf' m
   leaf_met known each = record {
     seats = met.seats;

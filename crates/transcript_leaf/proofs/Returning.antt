@@ -9,7 +9,7 @@ use Rattle.leaf_history.specs.History.{Entry}
 use Rattle.leaf_table.specs.Turns.{Shared, history}
 use Rattle.leaf_table.specs.Calls.{SeatView, name_of, seen_of}
 use Rattle.transcript.specs.Pieces.{Piece, Played, One, Burst, all_pieces, pieces_in, plays_in}
-use Rattle.transcript.specs.Transcript.{Known, ground_of}
+use Rattle.transcript.specs.Transcript.{Known, base_state_of}
 use Rattle.leaf_moves.specs.Stage.{Leaf, MeetAll, MeetsIf, seated_of}
 use Rattle.leaf_moves.specs.Holds.{Hold, caller_in, seen_by, seen_in, steward_in}
 use Rattle.leaf_moves.specs.Lanes.{ComesBack, JoinsIf, JoinsTo, TakesBackAt}
@@ -188,12 +188,12 @@ module _ {B : Type 0} (meaning : B → Meaning) (number : ℕ) (names : List (Li
   table_of_lane place t at = same_name names rest.tables off.tables main.named away.named place t at
 
   table_then : (place : ℕ) (t : Shared) → slice_get x.tables place ≡ Some t
-      → TableSession (ground_of known (name_of t)) (start place) number place (Burst (lanes ++ lane ∷ []) ∷ []) (steward_in x.held place) (caller_in x.callers place)
+      → TableSession (base_state_of known (name_of t)) (start place) number place (Burst (lanes ++ lane ∷ []) ∷ []) (steward_in x.held place) (caller_in x.callers place)
   table_then place t at =
       let u = table_of_lane place t (table_of_rest place t at) in
-      table_back (ground_of known (name_of t)) (start place) number place lanes lane (steward_in rest.held place) (caller_in rest.callers place) (steward_in off.held place) (caller_in off.callers place)
+      table_back (base_state_of known (name_of t)) (start place) number place lanes lane (steward_in rest.held place) (caller_in rest.callers place) (steward_in off.held place) (caller_in off.callers place)
       (caller_in back.joined place) (steward_in x.held place) (caller_in x.callers place) (main.tables place t (table_of_rest place t at))
-      (subst (λ (n : List ℕ). TableSession (ground_of known n) (start place) number place (map One lane) (steward_in off.held place) (caller_in off.callers place)) u.2 (away.tables place u.0 u.1))
+      (subst (λ (n : List ℕ). TableSession (base_state_of known n) (start place) number place (map One lane) (steward_in off.held place) (caller_in off.callers place)) u.2 (away.tables place u.0 u.1))
       (apart place) (back.seats place) (come place)
 
   -- ---- the leaf
@@ -216,18 +216,18 @@ module _ {B : Type 0} (meaning : B → Meaning) (number : ℕ) (names : List (Li
     own_table place t at = table_of meaning number names known old before start (map One lane) off away w.leaf w.berth w.is place t at
 
     learned : (place : ℕ) (t : Shared) (u s : SeatView) → slice_get (seated_of w.leaf).tables place ≡ Some t → slice_get (seated_of w.leaf).seats place ≡ Some u → slice_get (seated_of w.leaf_then).seats place ≡ Some s
-        → MeetsIf u (caller_in back.joined place) s (caller_in x.callers place) → HasLearned (ground_of known (name_of t)) u s
+        → MeetsIf u (caller_in back.joined place) s (caller_in x.callers place) → HasLearned (base_state_of known (name_of t)) u s
     learned place t u s at sat sat' meets =
         let there = own_table place t at in
         let y = same_name names off.tables x.tables away.named (ap (λ (ts : List Shared). map name_of ts) back.tables ∙ main.named) place there.0 there.1 in
         let same : name_of y.0 ≡ name_of t = y.2 ∙ there.2 in
-        let session : TableSession (ground_of known (name_of t)) (start place) number place (Burst (lanes ++ lane ∷ []) ∷ []) (Some s) (caller_in x.callers place) =
-        subst (λ (n : List ℕ). TableSession (ground_of known n) (start place) number place (Burst (lanes ++ lane ∷ []) ∷ []) (Some s) (caller_in x.callers place)) same
-        (subst (λ (v : Option SeatView). TableSession (ground_of known (name_of y.0)) (start place) number place (Burst (lanes ++ lane ∷ []) ∷ []) v (caller_in x.callers place))
+        let session : TableSession (base_state_of known (name_of t)) (start place) number place (Burst (lanes ++ lane ∷ []) ∷ []) (Some s) (caller_in x.callers place) =
+        subst (λ (n : List ℕ). TableSession (base_state_of known n) (start place) number place (Burst (lanes ++ lane ∷ []) ∷ []) (Some s) (caller_in x.callers place)) same
+        (subst (λ (v : Option SeatView). TableSession (base_state_of known (name_of y.0)) (start place) number place (Burst (lanes ++ lane ∷ []) ∷ []) v (caller_in x.callers place))
         (steward_of x.held (Some (w.leaf_then, w.berth)) place w.now ∙ sat') (table_then place y.0 y.1)) in
-        learns_if (ground_of known (name_of t)) u s (caller_in back.joined place) (caller_in x.callers place)
+        learns_if (base_state_of known (name_of t)) u s (caller_in back.joined place) (caller_in x.callers place)
         (table_held meaning number names known old before start (map One lane) off away w.leaf w.berth w.is place there.0 u there.1 sat).stewards meets
-        (steward_legal (ground_of known (name_of t)) (start place) number place (Burst (lanes ++ lane ∷ []) ∷ []) s (caller_in x.callers place) session)
+        (steward_legal (base_state_of known (name_of t)) (start place) number place (Burst (lanes ++ lane ∷ []) ∷ []) s (caller_in x.callers place) session)
 
     came_held : LeafHeld number names known old (before ++ all_pieces (Burst (lanes ++ lane ∷ []) ∷ [])) w.leaf_then (meaning w.berth)
     came_held =
@@ -264,7 +264,7 @@ module _ {B : Type 0} (meaning : B → Meaning) (number : ℕ) (names : List (Li
     named = ap (λ (ts : List Shared). map name_of ts) back.tables ∙ main.named;
     callers_are = many_callers ∙ main.callers_are;
     tables = table_then;
-    grounded = λ place t at. main.grounded place t (table_of_rest place t at);
+    known_base = λ place t at. main.known_base place t (table_of_rest place t at);
     held = held_then;
   }
 

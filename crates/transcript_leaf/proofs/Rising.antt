@@ -13,14 +13,14 @@ use Rattle.leaf_steward.specs.Seated.{Seated}
 use Rattle.leaf_steward.specs.Making.{MadeAs, Makes, OneEntry}
 use Rattle.printed_lines.specs.declared.line.Ending.{Ending}
 use Rattle.printed_lines.specs.declared.line.Deed.{Deed}
-use Rattle.transcript.specs.Pieces.{Acted, Did, Noted, Piece, deeds, notes_of}
-use Rattle.transcript.specs.Histories.{Ground}
-use Rattle.transcript.specs.Moments.{MomentsRise, moment_of, notes_told}
-use Rattle.leaf_moves.specs.Steps.{noted, noted_all}
+use Rattle.transcript.specs.Pieces.{Acted, Did, Noted, Piece, deeds}
+use Rattle.transcript.specs.Histories.{BaseState}
+use Rattle.transcript.specs.Moments.{MomentsRise, notes_told}
+use Rattle.leaf_moves.specs.Steps.{noted_all}
 use Rattle.transcript_leaf.specs.Session.{AreToldOn, HasNoDeed}
 use Rattle.transcript_leaf.proofs.Ids.{stewards_still}
 use Rattle.transcript_leaf.proofs.Lists.{element_at, get_set_same, within}
-use Rattle.transcript_leaf.proofs.Lives.{deeds_act, deeds_between, did}
+use Rattle.transcript_leaf.proofs.Lives.{deeds_act, deeds_between, did, notes_of}
 use Rattle.transcript_leaf.proofs.CountingNotes.{AreStewards, makes_seats}
 use Rattle.transcript_leaf.proofs.Noting.{notes_at}
 use Rattle.transcript_leaf.proofs.ToldOn.{told_made}
@@ -52,9 +52,9 @@ made_last base clock v w (what.Flushed n) m = (seen_of v ++ m.between, entry_see
 made_last base clock v w (what.Closed n) m = (seen_of v ++ m.between, entry_seen v.id clock _ _, m.seen, refl)
 made_last base clock v w what.Handed m = (seen_of v ++ m.between, entry_seen v.id clock _ _, m.seen, refl)
 
-module _ (grounds : ℕ → Ground) (histories : ℕ → List Entry) where
+module _ (base_states : ℕ → BaseState) (histories : ℕ → List Entry) where
   -- histories that go on from the seat have that entry under its number
-  moment_is : (clock : ℕ) (x : Seated) (note : Note) (y : Seated) → OneEntry clock x note y → AreToldOn grounds histories y → moment_of histories (noted note) ≡ Some clock
+  moment_is : (clock : ℕ) (x : Seated) (note : Note) (y : Seated) → OneEntry clock x note y → AreToldOn base_states histories y → option_map (λ (e : Entry). e.clock) (slice_get (histories note.table) (note.number - 1)) ≡ Some clock
   moment_is clock x note y one told =
       let last = made_last (base_seen one.table) clock one.before one.after note.what one.made in
       let seat : slice_get y.seats note.table ≡ Some one.after =
@@ -79,11 +79,11 @@ module _ (grounds : ℕ → Ground) (histories : ℕ → List Entry) where
   ends_later from to x notes y (Makes.more f u a ns b clock first rest between le one makes is) = let on = ends_later clock to between rest y makes in omega (arith, le, on)
 
   -- the entries of a deed
-  pub makes_rise : (from to : ℕ) (x : Seated) (notes : List Note) (y : Seated) → Makes from to x notes y → AreStewards x → AreToldOn grounds histories y → MomentsRise histories from (noted_all notes) to
+  pub makes_rise : (from to : ℕ) (x : Seated) (notes : List Note) (y : Seated) → Makes from to x notes y → AreStewards x → AreToldOn base_states histories y → MomentsRise histories from (noted_all notes) to
   makes_rise from to x notes y (Makes.none f u a ns b le is same) are told = subst (λ (ks : List Note). MomentsRise histories from (noted_all ks) to) (sym is) le
   makes_rise from to x notes y (Makes.more f u a ns b clock first rest between le one makes is) are told =
       let stewards = one_stewards clock to x first between one (ends_later clock to between rest y makes) are in
-      let later = told_made grounds histories clock to between rest y makes stewards told in
+      let later = told_made base_states histories clock to between rest y makes stewards told in
       subst (λ (ks : List Note). MomentsRise histories from (noted_all ks) to) (sym is)
       (clock, moment_is clock x first between one later, le, makes_rise clock to between rest y makes stewards told)
 

@@ -15,8 +15,8 @@ use Rattle.leaf_table.specs.Calls.{SeatView, name_of, seen_of}
 use Rattle.printed_lines.specs.declared.line.Said.{Said}
 use Rattle.printed_lines.specs.declared.line.Said.TheVariants as said
 use Rattle.transcript.specs.Pieces.{Acted, Called, Piece, PlayedItem, Says, Worn, all_pieces}
-use Rattle.transcript.specs.Histories.{Ground, InOrder, Shown, shown}
-use Rattle.transcript.specs.Transcript.{Known, ground_of}
+use Rattle.transcript.specs.Histories.{BaseState, InOrder, Shown, shown}
+use Rattle.transcript.specs.Transcript.{Known, base_state_of}
 use Rattle.leaf_moves.specs.Stage.{Leaf, MeetAll, MeetsIf, seated_of}
 use Rattle.leaf_moves.specs.Holds.{Hold, HoldMeets, caller_in, steward_in, with_callers, with_leaf}
 use Rattle.leaf_moves.specs.Steps.{CallStep, IsReplyPiece}
@@ -33,7 +33,7 @@ use Rattle.transcript_leaf.proofs.Places.{as_many_names, caller_is, caller_other
 -- ---- other words for what was printed
 
 -- the same lines, with their numbers in order
-pub retell : (g : Ground) (start : List Entry) (number place : ℕ) (items items' : List PlayedItem) (v c : Option SeatView) → TableSession g start number place items v c
+pub retell : (g : BaseState) (start : List Entry) (number place : ℕ) (items items' : List PlayedItem) (v c : Option SeatView) → TableSession g start number place items v c
     → shown number place (all_pieces items') ≡ shown number place (all_pieces items)
     → ((high : ℕ) → InOrder number place (length start) items high → InOrder number place (length start) items' high)
     → TableSession g start number place items' v c
@@ -100,9 +100,9 @@ module _ {B : Type 0} (meaning : B → Meaning) (number : ℕ) (names : List (Li
     many_seats l b e = (now.held l b e).1.in_place.seats ∙ sym now.callers_are
 
     pub table_held : (l : Leaf) (b : B) → x.held ≡ Some (l, b) → (place : ℕ) (t : Shared) (v : SeatView) → slice_get x.tables place ≡ Some t → slice_get (seated_of l).seats place ≡ Some v
-        → TableSession (ground_of known (name_of t)) (start place) number place items (Some v) (caller_in x.callers place)
+        → TableSession (base_state_of known (name_of t)) (start place) number place items (Some v) (caller_in x.callers place)
     table_held l b e place t v at sat =
-        subst (λ (s : Option SeatView). TableSession (ground_of known (name_of t)) (start place) number place items s (caller_in x.callers place))
+        subst (λ (s : Option SeatView). TableSession (base_state_of known (name_of t)) (start place) number place items s (caller_in x.callers place))
         (ap (λ (h : Option (Leaf × B)). steward_in h place) e ∙ sat) (now.tables place t at)
 
     -- its tables have the names of those
@@ -127,9 +127,9 @@ module _ {B : Type 0} (meaning : B → Meaning) (number : ℕ) (names : List (Li
     named = now.named;
     callers_are = now.callers_are;
     tables = λ place t at.
-        retell (ground_of known (name_of t)) (start place) number place items (with_pieces items c0 []) (steward_in x.held place) (caller_in x.callers place) (now.tables place t at)
+        retell (base_state_of known (name_of t)) (start place) number place items (with_pieces items c0 []) (steward_in x.held place) (caller_in x.callers place) (now.tables place t at)
         (ap (λ (ps : List Piece). shown number place ps) same) (λ high h. order_opens number place (length (start place)) items c0 high h);
-    grounded = now.grounded;
+    known_base = now.known_base;
     held = λ l b e. let h = now.held l b e in (h.0, subst (λ (ps : List Piece). LeafHeld number names known old (before ++ ps) l (meaning b)) (sym same) h.1);
   }
     where
@@ -143,8 +143,8 @@ module _ {B : Type 0} (meaning : B → Meaning) (number : ℕ) (names : List (Li
     named = now.named;
     callers_are = now.callers_are;
     tables = λ place t at.
-        other_table (ground_of known (name_of t)) (start place) number place items c0 ps p (steward_in x.held place) (caller_in x.callers place) (now.tables place t at) (others_shown number place p others);
-    grounded = now.grounded;
+        other_table (base_state_of known (name_of t)) (start place) number place items c0 ps p (steward_in x.held place) (caller_in x.callers place) (now.tables place t at) (others_shown number place p others);
+    known_base = now.known_base;
     held = λ l b e. let h = now.held l b e in (h.0, held_on c0 ps p l (meaning b) (others_no_deed number p others) h.1);
   }
 
@@ -156,36 +156,36 @@ module _ {B : Type 0} (meaning : B → Meaning) (number : ℕ) (names : List (Li
     named = now.named;
     callers_are = ap (λ (cs : List (Option SeatView)). length cs) step.now ∙ (length_set x.callers table (Some step.after) ∙ now.callers_are);
     tables = tables_then;
-    grounded = now.grounded;
+    known_base = now.known_base;
     held = λ l b e. let h = now.held l b e in (h.0, held_on c0 ps p l (meaning b) (is_call number table c step.reply p step.says) h.1);
   }
     where
       here : (t : Shared) → slice_get x.tables table ≡ Some t
-          → TableSession (ground_of known (name_of t)) (start table) number table (with_pieces items c0 (ps ++ p ∷ [])) (steward_in x.held table) (caller_in callers table)
+          → TableSession (base_state_of known (name_of t)) (start table) number table (with_pieces items c0 (ps ++ p ∷ [])) (steward_in x.held table) (caller_in callers table)
       here t at =
           let same : t ≡ step.shared = same_some t step.shared (sym at ∙ step.at) in
-          let grounded = now.grounded table step.shared step.at in
+          let known_base = now.known_base table step.shared step.at in
           let was : caller_in x.callers table ≡ Some step.before = caller_is x.callers table (Some step.before) step.was in
           let is : caller_in callers table ≡ Some step.after =
           ap (λ (cs : List (Option SeatView)). caller_in cs table) step.now ∙ caller_set x.callers table (Some step.before) (Some step.after) step.was in
-          subst (λ (u : Shared). TableSession (ground_of known (name_of u)) (start table) number table (with_pieces items c0 (ps ++ p ∷ [])) (steward_in x.held table) (caller_in callers table)) (sym same)
-          (subst (λ (d : Option SeatView). TableSession (ground_of known (name_of step.shared)) (start table) number table (with_pieces items c0 (ps ++ p ∷ [])) (steward_in x.held table) d) (sym is)
-          (call_table (ground_of known (name_of step.shared)) (start table) number table items c0 ps step.shared (steward_in x.held table) step.before step.after c step.reply p
-          (subst (λ (d : Option SeatView). TableSession (ground_of known (name_of step.shared)) (start table) number table (with_pieces items c0 ps) (steward_in x.held table) d) was
-          (now.tables table step.shared step.at)) grounded.0 grounded.1 step.answered step.says))
+          subst (λ (u : Shared). TableSession (base_state_of known (name_of u)) (start table) number table (with_pieces items c0 (ps ++ p ∷ [])) (steward_in x.held table) (caller_in callers table)) (sym same)
+          (subst (λ (d : Option SeatView). TableSession (base_state_of known (name_of step.shared)) (start table) number table (with_pieces items c0 (ps ++ p ∷ [])) (steward_in x.held table) d) (sym is)
+          (call_table (base_state_of known (name_of step.shared)) (start table) number table items c0 ps step.shared (steward_in x.held table) step.before step.after c step.reply p
+          (subst (λ (d : Option SeatView). TableSession (base_state_of known (name_of step.shared)) (start table) number table (with_pieces items c0 ps) (steward_in x.held table) d) was
+          (now.tables table step.shared step.at)) known_base.0 known_base.1 step.answered step.says))
 
       tables_then : (place : ℕ) (t : Shared) → slice_get x.tables place ≡ Some t
-          → TableSession (ground_of known (name_of t)) (start place) number place (with_pieces items c0 (ps ++ p ∷ [])) (steward_in x.held place) (caller_in callers place)
+          → TableSession (base_state_of known (name_of t)) (start place) number place (with_pieces items c0 (ps ++ p ∷ [])) (steward_in x.held place) (caller_in callers place)
       tables_then place t at = by (table == place) refl
         where
-          by : (b : Bool) → (table == place) ≡ b → TableSession (ground_of known (name_of t)) (start place) number place (with_pieces items c0 (ps ++ p ∷ [])) (steward_in x.held place) (caller_in callers place)
-          by true e = subst (λ (k : ℕ). TableSession (ground_of known (name_of t)) (start k) number k (with_pieces items c0 (ps ++ p ∷ [])) (steward_in x.held k) (caller_in callers k)) (eqb-true table place e)
+          by : (b : Bool) → (table == place) ≡ b → TableSession (base_state_of known (name_of t)) (start place) number place (with_pieces items c0 (ps ++ p ∷ [])) (steward_in x.held place) (caller_in callers place)
+          by true e = subst (λ (k : ℕ). TableSession (base_state_of known (name_of t)) (start k) number k (with_pieces items c0 (ps ++ p ∷ [])) (steward_in x.held k) (caller_in callers k)) (eqb-true table place e)
               (here t (subst (λ (k : ℕ). slice_get x.tables k ≡ Some t) (sym (eqb-true table place e)) at))
           by false e =
               let same : caller_in callers place ≡ caller_in x.callers place =
               ap (λ (cs : List (Option SeatView)). caller_in cs place) step.now ∙ caller_other x.callers table place (Some step.after) (eqb-false table place e) in
-              subst (λ (d : Option SeatView). TableSession (ground_of known (name_of t)) (start place) number place (with_pieces items c0 (ps ++ p ∷ [])) (steward_in x.held place) d) (sym same)
-              (other_table (ground_of known (name_of t)) (start place) number place items c0 ps p (steward_in x.held place) (caller_in x.callers place) (now.tables place t at)
+              subst (λ (d : Option SeatView). TableSession (base_state_of known (name_of t)) (start place) number place (with_pieces items c0 (ps ++ p ∷ [])) (steward_in x.held place) d) (sym same)
+              (other_table (base_state_of known (name_of t)) (start place) number place items c0 ps p (steward_in x.held place) (caller_in x.callers place) (now.tables place t at)
               (call_elsewhere number table place c step.reply p (eqb-false table place e) step.says))
 
   -- ---- a meeting
@@ -201,24 +201,24 @@ module _ {B : Type 0} (meaning : B → Meaning) (number : ℕ) (names : List (Li
     place_below place t at = let below = within x.tables place t at in omega (arith, below, many_tables x now, now.callers_are)
 
     table_met : (place : ℕ) (t : Shared) (v w : SeatView) → slice_get x.tables place ≡ Some t → slice_get (seated_of l).seats place ≡ Some v → MeetsIf v (caller_in x.callers place) w (caller_in callers place)
-        → TableSession (ground_of known (name_of t)) (start place) number place items (Some w) (caller_in callers place)
+        → TableSession (base_state_of known (name_of t)) (start place) number place items (Some w) (caller_in callers place)
     table_met place t v w at sat meets =
-        table_meets (ground_of known (name_of t)) (start place) number place items v w (caller_in x.callers place) (caller_in callers place) (table_held x now l b is place t v at sat) meets
+        table_meets (base_state_of known (name_of t)) (start place) number place items v w (caller_in x.callers place) (caller_in callers place) (table_held x now l b is place t v at sat) meets
 
     tables_then : (place : ℕ) (t : Shared) → slice_get x.tables place ≡ Some t
-        → TableSession (ground_of known (name_of t)) (start place) number place items (slice_get (seated_of l').seats place) (caller_in callers place)
+        → TableSession (base_state_of known (name_of t)) (start place) number place items (slice_get (seated_of l').seats place) (caller_in callers place)
     tables_then place t at =
         let m = met_at l x.callers l' callers (meaning b) met count place (place_below place t at) in
-        subst (λ (s : Option SeatView). TableSession (ground_of known (name_of t)) (start place) number place items s (caller_in callers place)) (sym m.at_then)
+        subst (λ (s : Option SeatView). TableSession (base_state_of known (name_of t)) (start place) number place items s (caller_in callers place)) (sym m.at_then)
         (table_met place t m.steward m.steward_then at m.at m.meets)
 
     learned : (place : ℕ) (t : Shared) (v w : SeatView) → slice_get (seated_of l).tables place ≡ Some t → slice_get (seated_of l).seats place ≡ Some v → slice_get (seated_of l').seats place ≡ Some w
-        → MeetsIf v (caller_in x.callers place) w (caller_in callers place) → HasLearned (ground_of known (name_of t)) v w
+        → MeetsIf v (caller_in x.callers place) w (caller_in callers place) → HasLearned (base_state_of known (name_of t)) v w
     learned place t v w at sat sat' meets =
         let there = table_of x now l b is place t at in
-        subst (λ (n : List ℕ). HasLearned (ground_of known n) v w) there.2
-        (learns_if (ground_of known (name_of there.0)) v w (caller_in x.callers place) (caller_in callers place) (table_held x now l b is place there.0 v there.1 sat).stewards meets
-        (steward_legal (ground_of known (name_of there.0)) (start place) number place items w (caller_in callers place) (table_met place there.0 v w there.1 sat meets)))
+        subst (λ (n : List ℕ). HasLearned (base_state_of known n) v w) there.2
+        (learns_if (base_state_of known (name_of there.0)) v w (caller_in x.callers place) (caller_in callers place) (table_held x now l b is place there.0 v there.1 sat).stewards meets
+        (steward_legal (base_state_of known (name_of there.0)) (start place) number place items w (caller_in callers place) (table_met place there.0 v w there.1 sat meets)))
 
     pub leaf_meeting : LeafMeets known l l' (meaning b)
     leaf_meeting = leaf_met l x.callers l' callers (meaning b) met count known learned
@@ -238,7 +238,7 @@ module _ {B : Type 0} (meaning : B → Meaning) (number : ℕ) (names : List (Li
       named = now.named;
       callers_are = met.count.1 ∙ now.callers_are;
       tables = tables_then;
-      grounded = now.grounded;
+      known_base = now.known_base;
       held = held_as;
     }
 

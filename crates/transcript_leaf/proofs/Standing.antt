@@ -16,19 +16,19 @@ use Rattle.crash_moments.proofs.Telling.{none_more, told_join}
 use Rattle.crash_states.proofs.Lefts.{runs_told, rests_told}
 use Rattle.crash_states.proofs.Whole.{runs_whole, rests_whole}
 use Rattle.crash_states.proofs.Meeting.{callers_between}
-use Rattle.crash_states.specs.Standing.{tables_of}
+use Rattle.crash_states.specs.Standing.{states_of_tables}
 use Rattle.leaf_table.specs.Turns.{Shared, is_founded, start_of}
 use Rattle.leaf_table.specs.Calls.{SeatView, base_seen, name_of, seen_of}
 use Rattle.leaf_steward.specs.declared.notes.Note.{Note}
 use Rattle.leaf_steward.specs.Seated.{Seated, AreFounded, AtEach, watch, watched_by}
 use Rattle.leaf_machine.specs.Leaving.{LeavesBegin}
 use Rattle.crash_states.specs.Beginning.{BeginsAgain}
-use Rattle.transcript.specs.Base.{unseen, watched_from, watched_with}
-use Rattle.leaf_moves.specs.Stage.{Leaf, IsDown, IsUp, IsPreparing, Stands, StandsOn, AreHandedNothing, Carries, seated_of, seated_with, with_seats}
+use Rattle.transcript.specs.Base.{watched_from}
+use Rattle.leaf_moves.specs.Stage.{Leaf, IsDown, IsUp, IsPreparing, LeafStands, StandsOn, AreHandedNothing, Carries, seated_of, seated_with, with_seats}
 use Rattle.transcript.specs.Life.{Life}
 use Rattle.transcript.specs.Leaving.{LeavesBerth}
-use Rattle.transcript.specs.Histories.{Ground}
-use Rattle.transcript.specs.Transcript.{Known, ground_of}
+use Rattle.transcript.specs.Histories.{BaseState}
+use Rattle.transcript.specs.Transcript.{Known, base_state_of}
 use Rattle.transcript_leaf.specs.Session.{AreInPlace}
 use Rattle.transcript_leaf.proofs.Lists.{element_at, length_mapped, within}
 use Rattle.transcript_leaf.proofs.TableMeets.{HasLearned}
@@ -81,7 +81,7 @@ watch_with base histories first (t ∷ ts) (v ∷ vs) count each =
     one_more n place = omega arith
 
 watched_as : (names : List (List ℕ)) (base : NamedStates) (histories : ℕ → List Entry) (x : Seated) → AreInPlace names x → AreFoundedWith base x
-    → AtEach (λ place t v. seen_of v ≡ histories place) x → watched_by x ≡ watched_with names base histories
+    → AtEach (λ place t v. seen_of v ≡ histories place) x → watched_by x ≡ watched_from 0 names base histories
 watched_as names base histories x in_place founded seen =
     watch_with base histories 0 x.tables x.seats (in_place.seats ∙ sym (as_many names x in_place)) each
     ∙ ap (λ (ns : List (List ℕ)). watched_from 0 ns base histories) in_place.named
@@ -94,7 +94,7 @@ watched_as names base histories x in_place founded seen =
 
 -- ---- what stands is told
 
-stands_told : (base : NamedStates) (leaf : Leaf) (before : List Watched) (m : Meaning) → Stands base leaf m → SeenMore m.clock m.clock before (watched_by (seated_of leaf))
+stands_told : (base : NamedStates) (leaf : Leaf) (before : List Watched) (m : Meaning) → LeafStands base leaf m → SeenMore m.clock m.clock before (watched_by (seated_of leaf))
     → moments.Told base before (watched_by (seated_of leaf)) m m
 stands_told base (IsDown x) before m stands more = rests_told before (watched_by x) base stands.0 stands.1 m stands.2 more
 stands_told base (IsUp x) before m stands more = runs_told before (watched_by x.seated) base x.owing.owner x.owing.log stands.0 m stands.1 more
@@ -109,10 +109,10 @@ pub record LeafMeets (known : Option Known) (leaf leaf' : Leaf) (m : Meaning) : 
   pub leaf_is : leaf' ≡ with_seats leaf seats
   pub count : length seats ≡ length (seated_of leaf).seats
   pub each : (place : ℕ) (t : Shared) (v w : SeatView) → slice_get (seated_of leaf).tables place ≡ Some t → slice_get (seated_of leaf).seats place ≡ Some v → slice_get seats place ≡ Some w
-      → HasLearned (ground_of known (name_of t)) v w
-  pub stands : (base : NamedStates) → IsTrue m.tells → AreFounded (seated_of leaf) → Stands base leaf m → Stands base leaf' m
+      → HasLearned (base_state_of known (name_of t)) v w
+  pub stands : (base : NamedStates) → IsTrue m.tells → AreFounded (seated_of leaf) → LeafStands base leaf m → LeafStands base leaf' m
 
-watch_learned : (from to : ℕ) (g : Shared → Ground) (ts : List Shared) (vs ws : List SeatView) → length ws ≡ length vs
+watch_learned : (from to : ℕ) (g : Shared → BaseState) (ts : List Shared) (vs ws : List SeatView) → length ws ≡ length vs
     → ((place : ℕ) (t : Shared) (v w : SeatView) → slice_get ts place ≡ Some t → slice_get vs place ≡ Some v → slice_get ws place ≡ Some w → HasLearned (g t) v w)
     → SeenMore from to (watch ts vs) (watch ts ws)
 watch_learned from to g [] vs ws count each = tt
@@ -135,17 +135,17 @@ seats_become (IsPreparing x) seats = refl
 met_more : (known : Option Known) (leaf leaf' : Leaf) (m : Meaning) → LeafMeets known leaf leaf' m → SeenMore m.clock m.clock (watched_by (seated_of leaf)) (watched_by (seated_of leaf'))
 met_more known leaf leaf' m met =
     subst (λ (ws : List Watched). SeenMore m.clock m.clock (watched_by (seated_of leaf)) ws) (sym now)
-    (watch_learned m.clock m.clock (λ t. ground_of known (name_of t)) (seated_of leaf).tables (seated_of leaf).seats met.seats met.count met.each)
+    (watch_learned m.clock m.clock (λ t. base_state_of known (name_of t)) (seated_of leaf).tables (seated_of leaf).seats met.seats met.count met.each)
   where
     now : watched_by (seated_of leaf') ≡ watch (seated_of leaf).tables met.seats
     now = ap (λ (l : Leaf). watched_by (seated_of l)) met.leaf_is ∙ ap (λ (s : Seated). watched_by s) (seats_become leaf met.seats)
 
 -- at a meeting no time passes, and the steward's seats learn callers' entries alone
 pub stands_met : (names : List (List ℕ)) (base : NamedStates) (known : Option Known) (leaf leaf' : Leaf) (m : Meaning)
-    → IsTrue m.tells → AreInPlace names (seated_of leaf) → AreFoundedWith base (seated_of leaf) → Stands base leaf m → LeafMeets known leaf leaf' m
+    → IsTrue m.tells → AreInPlace names (seated_of leaf) → AreFoundedWith base (seated_of leaf) → LeafStands base leaf m → LeafMeets known leaf leaf' m
     → StandsOn base leaf leaf' m m
 stands_met names base known leaf leaf' m tells in_place founded stands met =
-    let still : Stands base leaf' m = met.stands base tells (founded_all names (seated_of leaf) in_place base founded) stands in
+    let still : LeafStands base leaf' m = met.stands base tells (founded_all names (seated_of leaf) in_place base founded) stands in
     record {
       stands = still;
       told = stands_told base leaf' (watched_by (seated_of leaf)) m still (met_more known leaf leaf' m met);
@@ -153,15 +153,15 @@ stands_met names base known leaf leaf' m tells in_place founded stands met =
 
 -- what was told up to a call and what it tells
 pub told_on : (base : NamedStates) (names : List (List ℕ)) (leaf leaf' : Leaf) (old m m' : Meaning)
-    → moments.Told base (watched_with names base unseen) (watched_by (seated_of leaf)) old m → StandsOn base leaf leaf' m m'
-    → moments.Told base (watched_with names base unseen) (watched_by (seated_of leaf')) old m'
+    → moments.Told base (watched_from 0 names base (λ table. [])) (watched_by (seated_of leaf)) old m → StandsOn base leaf leaf' m m'
+    → moments.Told base (watched_from 0 names base (λ table. [])) (watched_by (seated_of leaf')) old m'
 told_on base names leaf leaf' old m m' so_far on =
-    told_join base (watched_with names base unseen) (watched_by (seated_of leaf)) (watched_by (seated_of leaf')) old m m' so_far on.told
+    told_join base (watched_from 0 names base (λ table. [])) (watched_by (seated_of leaf)) (watched_by (seated_of leaf')) old m m' so_far on.told
 
 -- where the tables are founded with the base, they are founded
 pub stands_carried : (names : List (List ℕ)) (base : NamedStates) (leaf leaf' : Leaf) (notes : List Note) (m m' : Meaning)
     → IsTrue m.tells → AreInPlace names (seated_of leaf) → AreFoundedWith base (seated_of leaf) → AreHandedNothing base
-    → Stands base leaf m → Carries leaf leaf' notes m m' → StandsOn base leaf leaf' m m'
+    → LeafStands base leaf m → Carries leaf leaf' notes m m' → StandsOn base leaf leaf' m m'
 stands_carried names base leaf leaf' notes m m' tells in_place founded sound stands carries =
     carries.stands base tells (founded_all names (seated_of leaf) in_place base founded) sound stands
 
@@ -169,23 +169,23 @@ stands_carried names base leaf leaf' notes m m' tells in_place founded sound sta
 
 -- a run begins
 pub told_first : (names : List (List ℕ)) (base : NamedStates) (x : Seated) (m : Meaning)
-    → AreInPlace names x → AreFoundedWith base x → AtEach (λ place t v. v ≡ unused_seat t.site 0 1 1024) x → Stands base (IsDown x) m
-    → moments.Told base (watched_with names base unseen) (watched_by x) m m
+    → AreInPlace names x → AreFoundedWith base x → AtEach (λ place t v. v ≡ unused_seat t.site 0 1 1024) x → LeafStands base (IsDown x) m
+    → moments.Told base (watched_from 0 names base (λ table. [])) (watched_by x) m m
 told_first names base x m in_place founded unused stands =
-    let none : AtEach (λ place t v. seen_of v ≡ unseen place) x = λ place t v at sat. ap (λ (s : SeatView). seen_of s) (unused place t v at sat) in
-    let first : watched_by x ≡ watched_with names base unseen = watched_as names base unseen x in_place founded none in
-    stands_told base (IsDown x) (watched_with names base unseen) m stands
+    let none : AtEach (λ place t v. seen_of v ≡ []) x = λ place t v at sat. ap (λ (s : SeatView). seen_of s) (unused place t v at sat) in
+    let first : watched_by x ≡ watched_from 0 names base (λ table. []) = watched_as names base (λ table. []) x in_place founded none in
+    stands_told base (IsDown x) (watched_from 0 names base (λ table. [])) m stands
     (subst (λ (ws : List Watched). SeenMore m.clock m.clock ws (watched_by x)) first (none_more m.clock m.clock (watched_by x)))
 
 -- a leaf may begin again over what stands of one
-stands_begin : (base : NamedStates) (leaf : Leaf) (m : Meaning) → LeavesBegin m → IsTrue m.tells → AreHandedNothing base → Stands base leaf m → BeginsAgain (tables_of base (watched_by (seated_of leaf)) m) m
+stands_begin : (base : NamedStates) (leaf : Leaf) (m : Meaning) → LeavesBegin m → IsTrue m.tells → AreHandedNothing base → LeafStands base leaf m → BeginsAgain (states_of_tables base (watched_by (seated_of leaf)) m) m
 stands_begin base (IsDown x) m law tells sound stands = law.rests (watched_by x) base stands.0 stands.1 tells stands.2
 stands_begin base (IsUp x) m law tells sound stands = law.runs (watched_by x.seated) base x.owing.owner x.owing.log stands.0 tells sound stands.1
 stands_begin base (IsPreparing x) m law tells sound stands =
     law.runs (watched_by x.serving.seated) base x.serving.owing.owner x.serving.owing.log stands.0 tells sound stands.1
 
 -- what a crash leaves now belongs to its tables with all their entries
-stands_whole : (base : NamedStates) (leaf : Leaf) (m : Meaning) → Stands base leaf m → EachNow (λ p. Left reads (tables_of base (watched_by (seated_of leaf)) m) p) m
+stands_whole : (base : NamedStates) (leaf : Leaf) (m : Meaning) → LeafStands base leaf m → EachNow (λ p. Left reads (states_of_tables base (watched_by (seated_of leaf)) m) p) m
 stands_whole base (IsDown x) m stands = rests_whole (watched_by x) base stands.0 stands.1 m stands.2
 stands_whole base (IsUp x) m stands = runs_whole (watched_by x.seated) base x.owing.owner x.owing.log stands.0 m stands.1
 stands_whole base (IsPreparing x) m stands = runs_whole (watched_by x.serving.seated) base x.serving.owing.owner x.serving.owing.log stands.0 m stands.1
@@ -194,15 +194,15 @@ stands_whole base (IsPreparing x) m stands = runs_whole (watched_by x.serving.se
 pub leaves_met : (names : List (List ℕ)) (base : NamedStates) (life : Life) (leaf : Leaf) (histories : ℕ → List Entry) (old m : Meaning)
     → LeavesBegin m → IsTrue m.tells → AreHandedNothing base → AreInPlace names (seated_of leaf) → AreFoundedWith base (seated_of leaf)
     → AtEach (λ place t v. seen_of v ≡ histories place) (seated_of leaf)
-    → Stands base leaf m → moments.Told base (watched_with names base unseen) (watched_by (seated_of leaf)) old m
+    → LeafStands base leaf m → moments.Told base (watched_from 0 names base (λ table. [])) (watched_by (seated_of leaf)) old m
     → IfSome life.way (IsWayLeft life.begun m.held.region)
     → LeavesBerth names base life histories old m
 leaves_met names base life leaf histories old m law tells sound in_place founded seen stands so_far way =
-    let last : watched_by (seated_of leaf) ≡ watched_with names base histories = watched_as names base histories (seated_of leaf) in_place founded seen in
+    let last : watched_by (seated_of leaf) ≡ watched_from 0 names base histories = watched_as names base histories (seated_of leaf) in_place founded seen in
     record {
-      crash = subst (λ (ws : List Watched). moments.Told base (watched_with names base unseen) ws old m) last so_far;
-      left = subst (λ (ws : List Watched). EachNow (λ p. Left reads (tables_of base ws m) p) m) last (stands_whole base leaf m stands);
-      begins = subst (λ (ws : List Watched). BeginsAgain (tables_of base ws m) m) last (stands_begin base leaf m law tells sound stands);
+      crash = subst (λ (ws : List Watched). moments.Told base (watched_from 0 names base (λ table. [])) ws old m) last so_far;
+      left = subst (λ (ws : List Watched). EachNow (λ p. Left reads (states_of_tables base ws m) p) m) last (stands_whole base leaf m stands);
+      begins = subst (λ (ws : List Watched). BeginsAgain (states_of_tables base ws m) m) last (stands_begin base leaf m law tells sound stands);
       way = found_way life.begun m.held.region life.way way;
       layout = drained_way life.begun m.held.region life.way way;
     }

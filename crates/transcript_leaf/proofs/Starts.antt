@@ -7,7 +7,7 @@ use Rattle.printed_lines.specs.declared.line.Said.TheVariants.{Opened}
 use Rattle.printed_lines.specs.declared.line.Ending.{Ending}
 use Rattle.printed_lines.specs.declared.line.Ending.TheVariants as ending
 use Rattle.transcript.specs.Pieces.{Noted}
-use Rattle.transcript.specs.Life.{Life, Down, IsStartRefusal, MayCome, Notes, OfStart, Up, claimed, on, way_refused}
+use Rattle.transcript.specs.Life.{Life, Down, IsStartRefusal, MayCome, NotesFrom, OfStart, Up, claimed, on, way_refused}
 
 pub data Starts (told : Bool) (tables : ℕ) (life : Life) (notes : List Noted) (ends : Ending) (next : Life) : Type 0 where
   opens : (way : Way) (counts : List ℕ)
@@ -16,7 +16,7 @@ pub data Starts (told : Bool) (tables : ℕ) (life : Life) (notes : List Noted) 
       → IfSome life.way (λ w. way ≡ w)
       → IfSome life.durable (λ known. counts ≡ known)
       → length counts ≡ tables
-      → Notes 0 (map Opened counts) notes
+      → NotesFrom 0 (map Opened counts) notes
       → ends ≡ ending.Started way
       → next ≡ record { mode = Up None; way = claimed told (way_after way); durable = claimed told counts; begun = true }
       → Starts told tables life notes ends next

@@ -5,12 +5,12 @@ use Rattle.std.proofs.lemmas.List.{append_assoc, append_cancel_left, append-nil,
 use Rattle.std.proofs.lemmas.List.Sorted.{IsPermutation-append, IsPermutation-trans}
 use Rattle.leaf_history.specs.History.{Entry, LegalFrom}
 use Rattle.leaf_history.proofs.Histories.{LegalFrom-front}
-use Rattle.leaf_table.specs.Turns.{Turns, told, history}
+use Rattle.leaf_table.specs.Turns.{TurnsTaken, told, history}
 use Rattle.leaf_table.specs.Calls.{SeatView, seen_of}
 use Rattle.turnstile.specs.Seats.{Owns}
 use Rattle.leaf_moves.specs.Stage.{Meets}
 use Rattle.transcript.specs.Pieces.{Played, One, Burst, pieces_in, plays_in}
-use Rattle.transcript.specs.Histories.{Ground, Shown, Rises, shown}
+use Rattle.transcript.specs.Histories.{BaseState, Shown, Rises, shown}
 use Rattle.leaf_moves.specs.Lanes.{JoinsTo}
 use Rattle.transcript_leaf.specs.Session.{TableSession, TellsOf, OneOf, OwnedBy, IsStewards, IsCallers}
 use Rattle.transcript_leaf.proofs.Merging.{Merged, tells_append, tells_merge, tells_others, tells_same}
@@ -35,7 +35,7 @@ pub others_weaken : (O P : ℕ → Type 0) (xs : List Entry) → ((id : ℕ) →
 others_weaken O P [] to h = tt
 others_weaken O P (x ∷ xs) to h = ((λ p. h.0 (to x.caller p)), others_weaken O P xs to h.1)
 
-pub back_steward : (g : Ground) (start : List Entry) (leaf table : ℕ) (lanes : List (List Played)) (lane : List Played) (u c d t w e : SeatView)
+pub back_steward : (g : BaseState) (start : List Entry) (leaf table : ℕ) (lanes : List (List Played)) (lane : List Played) (u c d t w e : SeatView)
     → TableSession g start leaf table (Burst lanes ∷ []) None (Some c)
     → TableSession g start leaf table (map One lane) (Some u) (Some d)
     → ((id : ℕ) → Owns c id → OneOf (Some u) (Some d) id → ⊥)
@@ -63,16 +63,16 @@ back_steward g start leaf table lanes lane u c d t w e M L apart j within meets 
 }
   where
     -- what was learned: by c and d at their meeting, by t at the steward's, and by the steward
-    c_more : Turns
+    c_more : TurnsTaken
     c_more = j.met.steward.longer.own.0
 
-    d_more : Turns
+    d_more : TurnsTaken
     d_more = j.met.steward.longer.theirs.0
 
-    t_more : Turns
+    t_more : TurnsTaken
     t_more = meets.caller.longer.own.0
 
-    u_more : Turns
+    u_more : TurnsTaken
     u_more = meets.steward.longer.own.0
 
     all : List Entry
@@ -199,7 +199,7 @@ back_steward g start leaf table lanes lane u c d t w e M L apart j within meets 
     legal_all = subst (λ (es : List Entry). LegalFrom g.founded g.base es) (seen_w ∙ ap (λ (es : List Entry). start ++ es) (sym (append-nil all))) legal_w
 
 -- The same of a lane that holds no caller's seat of the table.
-pub back_alone : (g : Ground) (start : List Entry) (leaf table : ℕ) (lanes : List (List Played)) (lane : List Played) (u c w e : SeatView)
+pub back_alone : (g : BaseState) (start : List Entry) (leaf table : ℕ) (lanes : List (List Played)) (lane : List Played) (u c w e : SeatView)
     → TableSession g start leaf table (Burst lanes ∷ []) None (Some c)
     → TableSession g start leaf table (map One lane) (Some u) None
     → ((id : ℕ) → Owns c id → OneOf (Some u) None id → ⊥)
@@ -224,10 +224,10 @@ back_alone g start leaf table lanes lane u c w e M L apart meets same stewards c
   legal = subst (λ (es : List Entry). LegalFrom g.founded g.base es) (seen_w ∙ ap (λ (es : List Entry). start ++ es) (sym (append-nil all))) legal_w;
 }
   where
-    c_more : Turns
+    c_more : TurnsTaken
     c_more = meets.caller.longer.own.0
 
-    u_more : Turns
+    u_more : TurnsTaken
     u_more = meets.steward.longer.own.0
 
     all : List Entry

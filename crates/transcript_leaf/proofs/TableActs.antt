@@ -6,14 +6,14 @@ use Rattle.std.proofs.lemmas.List.Sorted.{IsPermutation-append_left}
 use Rattle.turnstile.specs.Ids.{LongerOf}
 use Rattle.turnstile.proofs.Prefixes.{prefix_whole}
 use Rattle.leaf_history.specs.History.{Entry, LegalFrom}
-use Rattle.leaf_table.specs.Turns.{Turns, told, history}
+use Rattle.leaf_table.specs.Turns.{TurnsTaken, told, history}
 use Rattle.leaf_table.specs.Calls.{SeatView, seen_of}
 use Rattle.leaf_steward.specs.declared.notes.Note.{Note}
 use Rattle.printed_lines.specs.declared.line.Ending.{Ending}
 use Rattle.script_text.specs.declared.command.Command.{Command}
 use Rattle.printed_lines.specs.declared.line.Deed.{Deed}
 use Rattle.transcript.specs.Pieces.{Acted, Piece, PlayedItem, all_pieces}
-use Rattle.transcript.specs.Histories.{Ground, Rises, Shown, shown, shown_notes}
+use Rattle.transcript.specs.Histories.{BaseState, Rises, Shown, shown, shown_notes}
 use Rattle.leaf_moves.specs.Stage.{Meets, MeetsIf}
 use Rattle.leaf_moves.specs.Steps.{noted_all}
 use Rattle.transcript_leaf.specs.Session.{IsCallers, IsStewards, OneOf, OwnedBy, TableSession, TellsOf}
@@ -53,7 +53,7 @@ swapped : (O P : ℕ → Type 0) (id : ℕ) → O id ⊎ P id → P id ⊎ O id
 swapped O P id (inl o) = inr o
 swapped O P id (inr p) = inl p
 
-module _ (g : Ground) (start : List Entry) (number place : ℕ) (items : List PlayedItem) (c0 : Command) (ps : List Piece) (deed : Deed) (ends : Ending) (notes : List Note) (v w : SeatView) where
+module _ (g : BaseState) (start : List Entry) (number place : ℕ) (items : List PlayedItem) (c0 : Command) (ps : List Piece) (deed : Deed) (ends : Ending) (notes : List Note) (v w : SeatView) where
   abbrev act : Piece
   act = Acted number deed (noted_all notes) ends
 
@@ -139,7 +139,7 @@ module _ (g : Ground) (start : List Entry) (number place : ℕ) (items : List Pl
         from id (inr o) = inr (owns_back c c' id (same_told c w c' meets.caller) o)
 
         -- what the callers' seat learned at the meeting is none of its own
-        more : Turns
+        more : TurnsTaken
         more = meets.caller.longer.own.0
 
         c_seen : c'.seen ≡ c.seen ++ more

@@ -16,7 +16,7 @@ use Rattle.leaf_table.specs.Calls.{SeatView, Made, Replied, base_seen, entry_see
 use Rattle.leaf_table.specs.Calls as calls
 use Rattle.leaf_table.specs.declared.base.TableBase.{TableBase}
 use Rattle.transcript.specs.Pieces.{Piece, PlayedItem, Called, Worn, all_pieces}
-use Rattle.transcript.specs.Histories.{Ground, Rises, Shown, Shows, shown}
+use Rattle.transcript.specs.Histories.{BaseState, Rises, Shown, ShowsEntry, shown}
 use Rattle.leaf_moves.specs.Steps.{IsReplyPiece}
 use Rattle.transcript_leaf.specs.Session.{OneOf, OwnedBy, TableSession, TellsOf}
 use Rattle.transcript_leaf.proofs.Lists.{length_mapped}
@@ -26,7 +26,7 @@ use Rattle.transcript_leaf.proofs.Merging.{tells_append, tells_past, tells_same}
 use Rattle.transcript_leaf.proofs.Telling.{order_more, shown_more}
 
 -- pieces that show nothing of the table leave what is known of it
-pub other_table : (g : Ground) (start : List Entry) (number place : ℕ) (items : List PlayedItem) (c0 : Command) (ps : List Piece) (p : Piece) (v c : Option SeatView)
+pub other_table : (g : BaseState) (start : List Entry) (number place : ℕ) (items : List PlayedItem) (c0 : Command) (ps : List Piece) (p : Piece) (v c : Option SeatView)
     → TableSession g start number place (with_pieces items c0 ps) v c → shown number place (p ∷ []) ≡ [] → TableSession g start number place (with_pieces items c0 (ps ++ p ∷ [])) v c
 other_table g start number place items c0 ps p v c s none = record {
   stewards = s.stewards;
@@ -61,8 +61,8 @@ shows_one : (leaf table number : ℕ) (c : Call) (s : Said)
 shows_one leaf table number c s = rw (eq-eqb leaf leaf refl, eq-eqb table table refl) refl
 
 -- the piece of a reply, and what it shows
-piece_of : (leaf table n by : ℕ) (called : Call) (r : reply.Reply) (x : Reply) (p : Piece) → calls.IsToldAs n r x → IsReplyPiece leaf table called x p
-    → (s : Said) × (p ≡ Called leaf table called n s) × Shows (Some called) s (entry_seen by 0 called r)
+piece_of : (leaf table n by : ℕ) (called : Call) (r : reply.EntryReply) (x : Reply) (p : Piece) → calls.IsToldAs n r x → IsReplyPiece leaf table called x p
+    → (s : Said) × (p ≡ Called leaf table called n s) × ShowsEntry (Some called) s (entry_seen by 0 called r)
 piece_of leaf table n by called (reply.Added kept late) x p tells says = (said.Added kept late, subst (λ y. IsReplyPiece leaf table called y p) tells says, (refl, refl))
 piece_of leaf table n by called (reply.Groups gs) x p tells says = (said.Asked, subst (λ y. IsReplyPiece leaf table called y p) tells says, (refl, (gs, refl)))
 piece_of leaf table n by called reply.Shut x p tells says = (said.RefusedShut, subst (λ y. IsReplyPiece leaf table called y p) tells says, (refl, refl))
@@ -81,11 +81,11 @@ with_back v c d same id (inl o) = inl o
 with_back v c d same id (inr o) = inr (owns_back c d id same o)
 
 -- an entry was made and its line printed
-entry_table : (g : Ground) (start : List Entry) (number place : ℕ) (items : List PlayedItem) (c0 : Command) (ps : List Piece) (p : Piece) (t : Shared) (v : Option SeatView) (c c' : SeatView) (called : Call)
-    (r : reply.Reply) (s : Said)
+entry_table : (g : BaseState) (start : List Entry) (number place : ℕ) (items : List PlayedItem) (c0 : Command) (ps : List Piece) (p : Piece) (t : Shared) (v : Option SeatView) (c c' : SeatView) (called : Call)
+    (r : reply.EntryReply) (s : Said)
     → TableSession g start number place (with_pieces items c0 ps) v (Some c)
     → is_founded (base_seen t) ≡ g.founded → start_of (base_seen t) ≡ g.base
-    → Made (base_seen t) 0 c called r c' → Shows (Some called) s (entry_seen c.id 0 called r)
+    → Made (base_seen t) 0 c called r c' → ShowsEntry (Some called) s (entry_seen c.id 0 called r)
     → shown number place (p ∷ []) ≡ record { number = length c'.seen; call = Some called; said = s } ∷ []
     → TableSession g start number place (with_pieces items c0 (ps ++ p ∷ [])) v (Some c')
 entry_table g start number place items c0 ps p t v c c' called r s now founded from made shows one = record {
@@ -155,7 +155,7 @@ worn_or_made base v c (shared.Full number) w a = inr a
 worn_or_made base v c (shared.NoMemory number) w a = inr a
 
 -- a caller's call adds the line of its entry, or that its seat is worn
-pub call_table : (g : Ground) (start : List Entry) (number place : ℕ) (items : List PlayedItem) (c0 : Command) (ps : List Piece) (t : Shared) (v : Option SeatView) (c c' : SeatView) (called : Call) (x : Reply) (p : Piece)
+pub call_table : (g : BaseState) (start : List Entry) (number place : ℕ) (items : List PlayedItem) (c0 : Command) (ps : List Piece) (t : Shared) (v : Option SeatView) (c c' : SeatView) (called : Call) (x : Reply) (p : Piece)
     → TableSession g start number place (with_pieces items c0 ps) v (Some c)
     → is_founded (base_seen t) ≡ g.founded → start_of (base_seen t) ≡ g.base
     → Answered (base_seen t) c called x c' → IsReplyPiece number place called x p

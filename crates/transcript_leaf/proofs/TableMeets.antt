@@ -3,16 +3,16 @@ use Rattle.std.proofs.Common.{◌≡◌, ◌⊎◌, inl, inr, ℕ, suc, ◌+◌,
 use Rattle.std.specs.List.{AllByRecursion}
 use Rattle.std.proofs.lemmas.List.{append-nil, append_assoc, append_cancel_left, length-append, map-append}
 use mathlib.Core.List.{IsPrefix}
-use Rattle.turnstile.specs.Seats.{AreIds, Told}
+use Rattle.turnstile.specs.Seats.{AreIds, SeesAlso}
 use Rattle.turnstile.proofs.Prefixes.{prefix_whole}
 use Rattle.leaf_history.specs.History.{Entry, LegalFrom}
 use Rattle.leaf_history.specs.Laws.{AreCallers}
 use Rattle.leaf_history.proofs.Histories.{LegalFrom-front}
-use Rattle.leaf_table.specs.Turns.{Turns, told, history}
+use Rattle.leaf_table.specs.Turns.{TurnsTaken, told, history}
 use Rattle.leaf_table.specs.Calls.{SeatView, seen_of}
 use Rattle.leaf_table.proofs.Knowing.{callers_of}
 use Rattle.transcript.specs.Pieces.{PlayedItem, all_pieces}
-use Rattle.transcript.specs.Histories.{Ground, InOrder, Shown, shown}
+use Rattle.transcript.specs.Histories.{BaseState, InOrder, Shown, shown}
 use Rattle.leaf_moves.specs.Holds.{seen_by}
 use Rattle.leaf_moves.specs.Stage.{Meets, MeetsIf}
 use Rattle.transcript_leaf.specs.Session.{IsStewards, OneOf, OwnedBy, TableSession}
@@ -28,33 +28,33 @@ use Rattle.transcript_leaf.proofs.Stewards.{tells_wider}
 abbrev pub SeesMore : SeatView → SeatView → Type 0
 SeesMore v w = (more : List Entry) × (seen_of w ≡ seen_of v ++ more)
 
-pub told_more : (c v c' : SeatView) → Told c v c' → SeesMore c c'
+pub told_more : (c v c' : SeatView) → SeesAlso c v c' → SeesMore c c'
 told_more c v c' h =
     let own = h.longer.own in
     (history own.0, ap (λ (s : SeatView). seen_of s) h.view ∙ (ap history (sym own.1) ∙ map-append told c.seen own.0))
 
 -- and what the other had
-pub told_theirs : (c v c' : SeatView) → Told c v c' → SeesMore v c'
+pub told_theirs : (c v c' : SeatView) → SeesAlso c v c' → SeesMore v c'
 told_theirs c v c' h =
     let theirs = h.longer.theirs in
     (history theirs.0, ap (λ (s : SeatView). seen_of s) h.view ∙ (ap history (sym theirs.1) ∙ map-append told v.seen theirs.0))
 
 -- the steward's seat has learned callers' entries, behind which its table's history is legal
-pub record HasLearned (g : Ground) (v w : SeatView) : Type 0 where
+pub record HasLearned (g : BaseState) (v w : SeatView) : Type 0 where
   pub more : List Entry
   pub callers : AreCallers more
   pub seen : seen_of w ≡ seen_of v ++ more
   pub legal : LegalFrom g.founded g.base (seen_of w)
   pub ids : SameIds v w
 
-pub learns_if : (g : Ground) (v v' : SeatView) (c c' : Option SeatView) → IsStewards v → MeetsIf v c v' c' → LegalFrom g.founded g.base (seen_of v') → HasLearned g v v'
+pub learns_if : (g : BaseState) (v v' : SeatView) (c c' : Option SeatView) → IsStewards v → MeetsIf v c v' c' → LegalFrom g.founded g.base (seen_of v') → HasLearned g v v'
 learns_if g v v' (Some c) (Some c') is meets legal =
-    let more : Turns = meets.steward.longer.own.0 in
+    let more : TurnsTaken = meets.steward.longer.own.0 in
     let seen : v'.seen ≡ v.seen ++ more = ap (λ (s : SeatView). s.seen) meets.steward.view ∙ sym meets.steward.longer.own.1 in
     record {
       more = history more;
       callers = callers_of v (history more) is.id (let share = is.share in omega (arith, share)) (others_of v more (meets.steward_learns more seen));
-      seen = ap (λ (es : Turns). history es) seen ∙ map-append told v.seen more;
+      seen = ap (λ (es : TurnsTaken). history es) seen ∙ map-append told v.seen more;
       legal = legal;
       ids = same_told v c v' meets.steward;
     }
@@ -149,7 +149,7 @@ grows_made v w c es seen same = (by c, λ id. (to id, from id))
 -- ---- the session
 
 -- of what two seats had seen, one saw what the other had and more: behind the meeting both have seen just that
-met_seen : (v c : SeatView) (since : List Entry) (zs : Turns) → seen_of c ≡ seen_of v ++ since → IsPrefix c.seen zs → (zs ≡ v.seen) ⊎ (zs ≡ c.seen) → zs ≡ c.seen
+met_seen : (v c : SeatView) (since : List Entry) (zs : TurnsTaken) → seen_of c ≡ seen_of v ++ since → IsPrefix c.seen zs → (zs ≡ v.seen) ⊎ (zs ≡ c.seen) → zs ≡ c.seen
 met_seen v c since zs seen begins one = sym (prefix_whole c.seen zs begins (enough one))
   where
     ahead : length v.seen ≤ length c.seen
@@ -162,10 +162,10 @@ met_seen v c since zs seen begins one = sym (prefix_whole c.seen zs begins (enou
     )
 
     enough : (zs ≡ v.seen) ⊎ (zs ≡ c.seen) → length zs ≤ length c.seen
-    enough (inl is) = let n : length zs ≡ length v.seen = ap (λ (es : Turns). length es) is in omega (arith, n, ahead)
-    enough (inr is) = let n : length zs ≡ length c.seen = ap (λ (es : Turns). length es) is in omega (arith, n)
+    enough (inl is) = let n : length zs ≡ length v.seen = ap (λ (es : TurnsTaken). length es) is in omega (arith, n, ahead)
+    enough (inr is) = let n : length zs ≡ length c.seen = ap (λ (es : TurnsTaken). length es) is in omega (arith, n)
 
-both_met : (g : Ground) (start : List Entry) (number place : ℕ) (items : List PlayedItem) (v v' c c' : SeatView)
+both_met : (g : BaseState) (start : List Entry) (number place : ℕ) (items : List PlayedItem) (v v' c c' : SeatView)
     → TableSession g start number place items (Some v) (Some c) → Meets v c v' c' → TableSession g start number place items (Some v') (Some c')
 both_met g start number place items v v' c c' t meets = record {
   stewards = stewards_still v v' (same_told v c v' meets.steward) t.stewards;
@@ -199,7 +199,7 @@ both_met g start number place items v v' c c' t meets = record {
     same' = sym (meets_same v c v' c' meets) ∙ same
 
     -- what the steward's seat learned are others' entries
-    more : Turns
+    more : TurnsTaken
     more = meets.steward.longer.own.0
 
     learned : history more ≡ t.since
@@ -208,7 +208,7 @@ both_met g start number place items v v' c c' t meets = record {
     others : AllByRecursion (λ (e : Entry). OwnedBy (Some v) e.caller → ⊥) t.since
     others = subst (λ (es : List Entry). AllByRecursion (λ (e : Entry). OwnedBy (Some v) e.caller → ⊥) es) learned (others_of v more (meets.steward_learns more (view ∙ sym meets.steward.longer.own.1)))
 
-pub table_meets : (g : Ground) (start : List Entry) (number place : ℕ) (items : List PlayedItem) (v v' : SeatView) (c c' : Option SeatView)
+pub table_meets : (g : BaseState) (start : List Entry) (number place : ℕ) (items : List PlayedItem) (v v' : SeatView) (c c' : Option SeatView)
     → TableSession g start number place items (Some v) c → MeetsIf v c v' c' → TableSession g start number place items (Some v') c'
 table_meets g start number place items v v' (Some c) (Some c') t meets = both_met g start number place items v v' c c' t meets
 table_meets g start number place items v v' None None t same = subst (λ (s : SeatView). TableSession g start number place items (Some s) None) (sym same) t
@@ -223,7 +223,7 @@ same_if v v' (Some c) None meets = absurd meets
 same_if v v' None (Some c') meets = absurd meets
 
 -- what the steward's seat has seen is legal
-pub steward_legal : (g : Ground) (start : List Entry) (number place : ℕ) (items : List PlayedItem) (v : SeatView) (c : Option SeatView)
+pub steward_legal : (g : BaseState) (start : List Entry) (number place : ℕ) (items : List PlayedItem) (v : SeatView) (c : Option SeatView)
     → TableSession g start number place items (Some v) c → LegalFrom g.founded g.base (seen_of v)
 steward_legal g start number place items v c t = subst (λ (es : List Entry). LegalFrom g.founded g.base es) (sym t.seen_steward)
     (LegalFrom-front g.founded g.base (start ++ t.met) t.since (subst (λ (es : List Entry). LegalFrom g.founded g.base es) (sym (append_assoc start t.met t.since)) t.legal))

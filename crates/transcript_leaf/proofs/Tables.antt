@@ -7,7 +7,7 @@ use Rattle.std.proofs.lemmas.List.Sorted.{IsPermutation-append}
 use Rattle.leaf_history.specs.History.{Entry, LegalFrom}
 use Rattle.leaf_table.specs.Calls.{SeatView, seen_of}
 use Rattle.transcript.specs.Pieces.{Piece, Played, PlayedItem, One, Burst, pieces_in, plays_in, plays_of}
-use Rattle.transcript.specs.Histories.{Ground, Shown, Rises, ItemRises, InOrder, shown, shown_in}
+use Rattle.transcript.specs.Histories.{BaseState, Shown, Rises, ItemRises, InOrder, shown, shown_in}
 use Rattle.transcript_leaf.specs.Session.{TableSession, TellsOf, OneOf, OwnedBy}
 use Rattle.transcript_leaf.proofs.Merging.{tells_append, tells_same}
 
@@ -45,7 +45,7 @@ shown_items leaf table xs ys =
 -- ---- the burst
 
 -- The steward's seat took part, and had met the callers'.
-pub table_lent : (g : Ground) (start : List Entry) (leaf table : ℕ) (items : List PlayedItem) (lanes : List (List Played)) (v c v' c' : SeatView)
+pub table_lent : (g : BaseState) (start : List Entry) (leaf table : ℕ) (items : List PlayedItem) (lanes : List (List Played)) (v c v' c' : SeatView)
     → TableSession g start leaf table items (Some v) (Some c)
     → seen_of v ≡ seen_of c
     → TableSession g (seen_of c) leaf table (Burst lanes ∷ []) (Some v') (Some c')

@@ -6,7 +6,7 @@ use Rattle.leaf_table.specs.Calls.{SeatView}
 use Rattle.turnstile.specs.Seats.{Owns}
 use Rattle.leaf_moves.specs.Stage.{Meets, MeetsIf}
 use Rattle.transcript.specs.Pieces.{Played, One, Burst, all_pieces, pieces_in}
-use Rattle.transcript.specs.Histories.{Ground, Rises, Shown, shown}
+use Rattle.transcript.specs.Histories.{BaseState, Rises, Shown, shown}
 use Rattle.leaf_moves.specs.Lanes.{JoinsIf}
 use Rattle.transcript_leaf.specs.Session.{TableSession, OneOf, OwnedBy, IsCallers}
 use Rattle.transcript_leaf.proofs.Ids.{joined_callers, joined_owns, callers_still, same_told, stewards_still, meets_same}
@@ -86,7 +86,7 @@ back_both (Some v) c (Some u) d t w e j back = absurd back
 -- ---- all cases
 
 -- what is there holds nothing of the table, and the lane's seats come back as they are
-back_whole : (g : Ground) (start : List Entry) (number place : ℕ) (lanes : List (List Played)) (lane : List Played) (u d : Option SeatView)
+back_whole : (g : BaseState) (start : List Entry) (number place : ℕ) (lanes : List (List Played)) (lane : List Played) (u d : Option SeatView)
     → TableSession g start number place (Burst lanes ∷ []) None None
     → TableSession g start number place (map One lane) u d
     → TableSession g start number place (Burst (lanes ++ lane ∷ []) ∷ []) u d
@@ -133,7 +133,7 @@ back_whole g start number place lanes lane u d M L = record {
     main_rises = each_higher number place (length start) lanes M.order.0 (length start + length (L.met ++ L.since)) (omega (arith, M.order.2, nothing)) M.order.1.1
 
 -- Both had begun with one history; no id is of both.
-pub table_back : (g : Ground) (start : List Entry) (number place : ℕ) (lanes : List (List Played)) (lane : List Played) (v c u d t w e : Option SeatView)
+pub table_back : (g : BaseState) (start : List Entry) (number place : ℕ) (lanes : List (List Played)) (lane : List Played) (v c u d t w e : Option SeatView)
     → TableSession g start number place (Burst lanes ∷ []) v c
     → TableSession g start number place (map One lane) u d
     → ((id : ℕ) → OneOf v c id → OneOf u d id → ⊥)

@@ -5,7 +5,7 @@ use Rattle.std.proofs.lemmas.List.Sorted.{length_permutation}
 use Rattle.leaf_history.specs.History.{Entry}
 use Rattle.leaf_table.specs.Calls.{SeatView}
 use Rattle.transcript.specs.Pieces.{Played, One, Burst, pieces_in, plays_in}
-use Rattle.transcript.specs.Histories.{Ground, Shown, Rises, shown}
+use Rattle.transcript.specs.Histories.{BaseState, Shown, Rises, shown}
 use Rattle.transcript_leaf.specs.Session.{TableSession}
 use Rattle.transcript_leaf.proofs.Merging.{tells_nothing}
 use Rattle.transcript_leaf.proofs.Backs.{each_snoc, plays_ones, shown_lanes}
@@ -14,7 +14,7 @@ pub empty_permutation : (xs ys : List Shown) → ys ≡ [] → IsPermutation xs 
 empty_permutation [] ys none h = refl
 empty_permutation (x ∷ xs) ys none h = absurd (omega (arith, length_permutation (x ∷ xs) ys h, ap (λ (ss : List Shown). length ss) none))
 
-pub back_nothing : (g : Ground) (start : List Entry) (leaf table : ℕ) (lanes : List (List Played)) (lane : List Played) (v c : Option SeatView)
+pub back_nothing : (g : BaseState) (start : List Entry) (leaf table : ℕ) (lanes : List (List Played)) (lane : List Played) (v c : Option SeatView)
     → TableSession g start leaf table (Burst lanes ∷ []) v c
     → TableSession g start leaf table (map One lane) None None
     → TableSession g start leaf table (Burst (lanes ++ lane ∷ []) ∷ []) v c

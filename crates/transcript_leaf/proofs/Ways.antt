@@ -21,7 +21,7 @@ use Rattle.leaf_opening.proofs.Exact.{why_alone}
 use Rattle.crash_moments.specs.Left.{NamedStates, RegionLeft}
 use Rattle.leaf_steward.specs.Seated.{Seated}
 use Rattle.transcript.specs.Life.{MayCome}
-use Rattle.leaf_moves.specs.Stage.{IsDown, Stands}
+use Rattle.leaf_moves.specs.Stage.{IsDown, LeafStands}
 use Rattle.transcript_leaf.proofs.Lists.{clash_bool}
 
 -- a head has one version, and that is of one that is read or not
@@ -154,7 +154,7 @@ may_come (Disk (why.Closed flag)) = tt
 may_come (Disk (why.OtherVersion version)) = tt
 may_come (Disk why.NoImage) = refl
 
-pub comes_known : (base : NamedStates) (x : Seated) (m : Meaning) (way : Way) → Stands base (IsDown x) m → IsWayOf m.held.region way → MayCome true way
+pub comes_known : (base : NamedStates) (x : Seated) (m : Meaning) (way : Way) → LeafStands base (IsDown x) m → IsWayOf m.held.region way → MayCome true way
 comes_known base x m Memory stands is = tt
 comes_known base x m (Disk why.NoHead) stands is = tt
 comes_known base x m (Disk (why.Closed flag)) stands is = tt

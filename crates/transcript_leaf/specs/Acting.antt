@@ -9,10 +9,10 @@ use Rattle.printed_lines.specs.declared.line.Said.TheVariants.{Opened}
 use Rattle.printed_lines.specs.declared.line.Deed.{Deed}
 use Rattle.printed_lines.specs.declared.line.Deed.TheVariants.{Start}
 use Rattle.transcript.specs.Pieces.{Noted}
-use Rattle.transcript.specs.Life.{Columns, Life, Does, Notes, claimed, durable_with}
+use Rattle.transcript.specs.Life.{Columns, Life, Does, NotesFrom, claimed, durable_with}
 use Rattle.transcript.specs.Counts.{is_disk_fault}
 use Rattle.leaf_history.specs.History.{Entry}
-use Rattle.transcript.specs.Histories.{Ground}
+use Rattle.transcript.specs.Histories.{BaseState}
 use Rattle.transcript.specs.Answers.{columns_handed, columns_of}
 use Rattle.transcript.specs.Transcript.{Known}
 use Rattle.leaf_steward.specs.Seated.{AtEach}
@@ -31,7 +31,7 @@ loses_counts _ ending = is_disk_fault ending
 pub data CountsGo (told : Bool) (deed : Deed) (life : Life) (notes : List Noted) (ending : Ending) (next : Life) : Type 0 where
   keeps : loses_counts deed ending ≡ false → next.durable ≡ durable_with life.durable notes → CountsGo told deed life notes ending next
   lost : next.durable ≡ None → CountsGo told deed life notes ending next
-  opened : (way : Way) (counts : List ℕ) → ending ≡ ends.Started way → Notes 0 (map Opened counts) notes → next.durable ≡ claimed told counts → CountsGo told deed life notes ending next
+  opened : (way : Way) (counts : List ℕ) → ending ≡ ends.Started way → NotesFrom 0 (map Opened counts) notes → next.durable ≡ claimed told counts → CountsGo told deed life notes ending next
 
 -- the way of the next start, if one is claimed
 abbrev pub FitsWay : Option Known → Life → Meaning → Type 0
@@ -46,9 +46,9 @@ pub record Hands (leaf : Leaf) : Type 0 where
   pub columns : ℕ
   pub most : ℕ
   pub bulk : ℕ
-  pub told : (grounds : ℕ → Ground) (histories : ℕ → List Entry) → AreToldOn grounds histories (seated_of leaf) → columns_handed grounds histories handed ≤ columns
-  pub few : (grounds : ℕ → Ground) (histories : ℕ → List Entry) (notes : List Noted) → AreToldOn grounds histories (seated_of leaf) → AtEach (IsNoted notes) (seated_of leaf)
-      → (most ≤ (columns_of grounds histories (length (seated_of leaf).tables) notes).most) × (bulk ≤ (columns_of grounds histories (length (seated_of leaf).tables) notes).bulk)
+  pub told : (base_states : ℕ → BaseState) (histories : ℕ → List Entry) → AreToldOn base_states histories (seated_of leaf) → columns_handed base_states histories handed ≤ columns
+  pub few : (base_states : ℕ → BaseState) (histories : ℕ → List Entry) (notes : List Noted) → AreToldOn base_states histories (seated_of leaf) → AtEach (IsNoted notes) (seated_of leaf)
+      → (most ≤ (columns_of base_states histories (length (seated_of leaf).tables) notes).most) × (bulk ≤ (columns_of base_states histories (length (seated_of leaf).tables) notes).bulk)
 
 -- the life after a deed
 pub record Lived (known : Option Known) (tables : ℕ) (deed : Deed) (life : Life) (notes : List Noted) (ending : Ending) (leaf : Leaf) (m : Meaning) : Type 0 where

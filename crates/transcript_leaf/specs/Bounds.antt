@@ -4,7 +4,7 @@ use Rattle.printed_lines.specs.declared.line.Ending.TheVariants as ends
 use Rattle.transcript.specs.Pieces.{Noted}
 use Rattle.transcript.specs.Life.{Columns, Life, OfDrain}
 
--- a drain whose copy has no room is of tables that are this large
+-- a drain of founded tables that make no image: they have at least 2^25 rows, cells and writes
 abbrev pub RoomlessHaveMuch : Type 0
 RoomlessHaveMuch = (tables : ℕ) (columns : Columns) (stop : Option ℕ) (life : Life) (notes : List Noted) (next : Life)
     → OfDrain true tables columns stop life notes ends.FaultRoom next → 2 ^ 25 ≤ columns.bulk

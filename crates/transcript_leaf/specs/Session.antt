@@ -4,7 +4,7 @@ use Rattle.std.specs.Prelude.{◌≡◌, ◌⊎◌, ℕ, suc, ◌+◌, ◌<◌, 
 use Rattle.std.specs.List.{AllByRecursion}
 use Rattle.berth_face.specs.Berth.{Meaning, Pair}
 use Rattle.leaf_history.specs.History.{Entry, LegalFrom, after}
-use Rattle.leaf_model.specs.Names.{AreDistinct}
+use Rattle.row_model.specs.Names.{AreDistinct}
 use Rattle.adopt.specs.Adopting.{HasNoStranger}
 use Rattle.disk_backup.specs.Scanning.{BeginsScan}
 use Rattle.leaf_opening.specs.Starts.{IsWayLeft}
@@ -18,16 +18,16 @@ use Rattle.leaf_table.specs.Calls.{SeatView, OwnsTheRest, SeesShut, base_seen, n
 use Rattle.leaf_steward.specs.Seated.{Seated, AtEach, watched_by}
 use Rattle.leaf_machine.specs.States.{IsShutAndTaken}
 use Rattle.crash_states.specs.Beginning.{MayBegin}
-use Rattle.transcript.specs.Base.{LogHas, unseen, watched_with}
+use Rattle.transcript.specs.Base.{LogHas, watched_from}
 use Rattle.transcript.specs.Pieces.{Piece, Called, Worn, Acted, Says, Did, Noted, PlayedItem, all_pieces, deeds}
 use Rattle.transcript.specs.Life.{Life, Down, Lives, first_open}
-use Rattle.transcript.specs.Histories.{Ground, InOrder, Shown, Shows, shown}
+use Rattle.transcript.specs.Histories.{BaseState, InOrder, Shown, ShowsEntry, shown}
 use Rattle.transcript.specs.Strangers.{StrangersIn}
 use Rattle.transcript.specs.Moments.{MomentsRise, notes_told}
 use Rattle.transcript.specs.Answers.{columns_of, last_of}
-use Rattle.transcript.specs.Transcript.{Known, first_life, ground_of}
+use Rattle.transcript.specs.Transcript.{Known, first_life, base_state_of}
 use Rattle.transcript.specs.Leaving.{IsKnown}
-use Rattle.leaf_moves.specs.Stage.{Leaf, IsDown, IsUp, IsPreparing, seated_of, Stands, AreHandedNothing}
+use Rattle.leaf_moves.specs.Stage.{Leaf, IsDown, IsUp, IsPreparing, seated_of, LeafStands, AreHandedNothing}
 use Rattle.leaf_moves.specs.Modes.{mode_of, progress_of}
 use Rattle.leaf_moves.specs.Holds.{Hold, caller_in, steward_in}
 
@@ -37,7 +37,7 @@ use Rattle.leaf_moves.specs.Holds.{Hold, caller_in, steward_in}
 abbrev pub TellsOf : (ℕ → Type 0) → ℕ → List Shown → List Entry → Type 0
 TellsOf O n ss [] = ss ≡ []
 TellsOf O n ss (e ∷ es) = ((O e.caller → ⊥) × TellsOf O (suc n) ss es)
-    ⊎ (O e.caller × (s : Shown) × (rest : List Shown) × (ss ≡ s ∷ rest) × (s.number ≡ n) × Shows s.call s.said e × TellsOf O (suc n) rest es)
+    ⊎ (O e.caller × (s : Shown) × (rest : List Shown) × (ss ≡ s ∷ rest) × (s.number ≡ n) × ShowsEntry s.call s.said e × TellsOf O (suc n) rest es)
 
 abbrev pub OwnedBy : Option SeatView → ℕ → Type 0
 OwnedBy None id = ⊥
@@ -63,10 +63,10 @@ pub record IsCallers (c : SeatView) : Type 0 where
   pub share : 0 < c.share
   pub apart : StandApart c.id c.share c.taken
 
--- A table at which a player holds these seats, since a stretch of the run began after the entries `start`: `met` is
--- what the steward's seat has seen since, up to the last meeting; `since` is what the callers' has seen after that; and
--- the lines of both tell these entries, by their numbers.
-pub record TableSession (g : Ground) (start : List Entry) (number table : ℕ) (items : List PlayedItem) (v c : Option SeatView) : Type 0 where
+-- A table at which a player holds these seats. The stretch of the run began after the entries `start`. `met`: what the
+-- steward's seat has seen since then, up to the last meeting. `since`: what the callers' seat has seen after that
+-- meeting. The lines of both tell these entries, by their numbers.
+pub record TableSession (g : BaseState) (start : List Entry) (number table : ℕ) (items : List PlayedItem) (v c : Option SeatView) : Type 0 where
   pub stewards : IfSome v IsStewards
   pub callers : IfSome c IsCallers
   pub met : List Entry
@@ -107,8 +107,8 @@ FitsNext None life leaf m = (life.way ≡ None) × (life.durable ≡ None)
 FitsNext (Some k) life leaf m = IfSome life.way (IsWayLeft life.begun m.held.region) × IfSome life.durable (λ counts. IsDurable k.base counts leaf m)
 
 -- the tables begin with what is known of the leaf
-abbrev pub AreGrounded : Option Known → Seated → Type 0
-AreGrounded known x = AtEach (λ place t v. (is_founded (base_seen t) ≡ (ground_of known (name_of t)).founded) × (start_of (base_seen t) ≡ (ground_of known (name_of t)).base)) x
+abbrev pub HaveKnownBase : Option Known → Seated → Type 0
+HaveKnownBase known x = AtEach (λ place t v. (is_founded (base_seen t) ≡ (base_state_of known (name_of t)).founded) × (start_of (base_seen t) ≡ (base_state_of known (name_of t)).base)) x
 
 -- the leaf has tables of these names, and the steward's seat at each
 pub record AreInPlace (names : List (List ℕ)) (x : Seated) : Type 0 where
@@ -123,7 +123,7 @@ pub record AreInPlace (names : List (List ℕ)) (x : Seated) : Type 0 where
 pub record StandsKnown (k : Known) (leaf : Leaf) (m : Meaning) : Type 0 where
   pub tells : IsTrue m.tells
   pub sound : AreHandedNothing k.base
-  pub stands : Stands k.base leaf m
+  pub stands : LeafStands k.base leaf m
 
 -- until the leaf is first up, the disk reads as it was handed in, but for the first byte of a disk of at most one; and
 -- each start fits the strangers that there are
@@ -139,19 +139,19 @@ pub record IsOwn (names : List (List ℕ)) (x : Seated) (m : Meaning) : Type 0 w
 -- a leaf with a known base, whose berth meant `old` when the run began
 pub record KnownLeaf (number : ℕ) (names : List (List ℕ)) (old : Meaning) (life : Life) (pieces : List Piece) (leaf : Leaf) (m : Meaning) (k : Known) : Type 0 where
   pub now : StandsKnown k leaf m
-  pub told : moments.Told k.base (watched_with names k.base unseen) (watched_by (seated_of leaf)) old m
+  pub told : moments.Told k.base (watched_from 0 names k.base (λ table. [])) (watched_by (seated_of leaf)) old m
   pub named : AreNamed number names k.held life pieces m
   pub own : life.begun ≡ true → IsOwn names (seated_of leaf) m
 
 -- ---- the leaf so far
 
 -- what the table begins with
-abbrev pub ground_of_table : Shared → Ground
-ground_of_table t = record { founded = is_founded (base_seen t); base = start_of (base_seen t) }
+abbrev pub base_state_of_table : Shared → BaseState
+base_state_of_table t = record { founded = is_founded (base_seen t); base = start_of (base_seen t) }
 
--- the grounds of the tables, and histories that go on from what the seats have seen
-pub record AreToldOn (grounds : ℕ → Ground) (histories : ℕ → List Entry) (x : Seated) : Type 0 where
-  pub grounded : AtEach (λ place t v. grounds place ≡ ground_of_table t) x
+-- the base states of the tables, and histories that go on from what the seats have seen
+pub record AreToldOn (base_states : ℕ → BaseState) (histories : ℕ → List Entry) (x : Seated) : Type 0 where
+  pub known_base : AtEach (λ place t v. base_states place ≡ base_state_of_table t) x
   pub on : (place : ℕ) (v : SeatView) → slice_get x.seats place ≡ Some v → (more : List Entry) × (histories place ≡ seen_of v ++ more)
 
 -- The seat has seen the last entry of the table in these notes. While the table is shut, nothing was written after that
@@ -163,27 +163,27 @@ IsNoted notes place t v = (last_of place notes ≤ length (seen_of v)) × (SeesS
 -- life tells its deeds, and the moments of its steward's entries do not fall, however the histories go on.
 pub record LeafHeld (number : ℕ) (names : List (List ℕ)) (known : Option Known) (old : Meaning) (pieces : List Piece) (leaf : Leaf) (m : Meaning) : Type 0 where
   pub life : Life
-  pub lives : (grounds : ℕ → Ground) (histories : ℕ → List Entry) → AreToldOn grounds histories (seated_of leaf)
-      → Lives (is_some known) (length names) (columns_of grounds histories (length names)) [] (first_life known names) (deeds number pieces) life
-  pub moments : (grounds : ℕ → Ground) (histories : ℕ → List Entry) → AreToldOn grounds histories (seated_of leaf) → MomentsRise histories old.clock (notes_told number pieces) m.clock
+  pub lives : (base_states : ℕ → BaseState) (histories : ℕ → List Entry) → AreToldOn base_states histories (seated_of leaf)
+      → Lives (is_some known) (length names) (columns_of base_states histories (length names)) [] (first_life known names) (deeds number pieces) life
+  pub moments : (base_states : ℕ → BaseState) (histories : ℕ → List Entry) → AreToldOn base_states histories (seated_of leaf) → MomentsRise histories old.clock (notes_told number pieces) m.clock
   pub noted : AtEach (IsNoted (notes_told number pieces)) (seated_of leaf)
   pub in_place : AreInPlace names (seated_of leaf)
-  pub grounded : AreGrounded known (seated_of leaf)
+  pub known_base : HaveKnownBase known (seated_of leaf)
   pub mode : life.mode ≡ mode_of leaf
   pub next : FitsNext known life leaf m
   pub of_known : IfSome known (KnownLeaf number names old life pieces leaf m)
 
--- The leaf with this number, of which a player holds seats, and maybe the leaf itself. The stretch began after the
--- pieces `before`, when the history of each table was `start`. Since then these items were played. The whole run is the
+-- The leaf with this number: a player holds seats at its tables, and maybe the leaf. The stretch began after the pieces
+-- `before`, when the history of each table was `start`. Since then these items were played. The whole run is the
 -- stretch that began with nothing.
 pub record LeafSession {B : Type 0} (meaning : B → Meaning) (number : ℕ) (names : List (List ℕ)) (known : Option Known) (old : Meaning) (before : List Piece) (start : ℕ → List Entry)
     (items : List PlayedItem) (x : Hold B) : Type 0 where
   pub named : map name_of x.tables ≡ names
   pub callers_are : length x.callers ≡ length names
   pub tables : (place : ℕ) (t : Shared) → slice_get x.tables place ≡ Some t
-      → TableSession (ground_of known (name_of t)) (start place) number place items (steward_in x.held place) (caller_in x.callers place)
-  pub grounded : (place : ℕ) (t : Shared) → slice_get x.tables place ≡ Some t
-      → (is_founded (base_seen t) ≡ (ground_of known (name_of t)).founded) × (start_of (base_seen t) ≡ (ground_of known (name_of t)).base)
+      → TableSession (base_state_of known (name_of t)) (start place) number place items (steward_in x.held place) (caller_in x.callers place)
+  pub known_base : (place : ℕ) (t : Shared) → slice_get x.tables place ≡ Some t
+      → (is_founded (base_seen t) ≡ (base_state_of known (name_of t)).founded) × (start_of (base_seen t) ≡ (base_state_of known (name_of t)).base)
   pub held : (leaf : Leaf) (b : B) → x.held ≡ Some (leaf, b) → (map name_of (seated_of leaf).tables ≡ map name_of x.tables) × LeafHeld number names known old (before ++ all_pieces items) leaf (meaning b)
 
 -- the run holds the leaf, and at each table a seat with all ids but the steward's
@@ -240,7 +240,7 @@ pub record HoldsBoth {B : Type 0} (x y z : Hold B) : Type 0 where
 -- a leaf may begin over the berth, which holds what belongs to a leaf at rest
 pub record StandsFirst (x : Seated) (m : Meaning) (base : NamedStates) : Type 0 where
   pub begins : MayBegin base m
-  pub stands : Stands base (IsDown x) m
+  pub stands : LeafStands base (IsDown x) m
 
 -- A leaf that is down, with unused seats. If the base of its berth is known, the leaf may begin over the berth with it.
 pub record IsNewHold {B : Type 0} (meaning : B → Meaning) (names : List (List ℕ)) (base : Option NamedStates) (known : Option Known) (x : Hold B) : Type 0 where
@@ -252,6 +252,6 @@ pub record IsNewHold {B : Type 0} (meaning : B → Meaning) (names : List (List 
   pub callers_are : length x.callers ≡ length names
   pub first : IfSome base (StandsFirst seated (meaning berth))
   pub is_known : IsKnown base (meaning berth) known
-  pub grounded : AreGrounded known seated
+  pub known_base : HaveKnownBase known seated
   pub unused : (place : ℕ) (t : Shared) → slice_get x.tables place ≡ Some t
       → (slice_get seated.seats place ≡ Some (unused_seat t.site 0 1 1024)) × (slice_get x.callers place ≡ Some (Some (unused_seat t.site 1 65536 65536)))

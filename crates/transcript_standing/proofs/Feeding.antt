@@ -9,22 +9,22 @@ use Rattle.std.proofs.lemmas.List.{length-drop}
 use Rattle.std.proofs.lemmas.List.Elements.{All-from_recursion, recursion_from_All}
 use Rattle.std.proofs.lemmas.List.Sorted.{All-permutation}
 use Rattle.leaf_model.specs.declared.queries.Query.{Query}
-use Rattle.leaf_model.specs.declared.rows.Row.{Row}
+use Rattle.row_model.specs.declared.rows.Row.{Row}
 use Rattle.leaf_model.specs.declared.writes.Write.{Write}
 use Rattle.leaf_model.specs.declared.writes.Write.TheVariants as write
 use Rattle.leaf_model.specs.Content.{Contents, content_after, content_from, last_rows, rows_from}
-use Rattle.leaf_model.specs.Values.{IsTime}
+use Rattle.row_model.specs.Values.{IsTime}
 use Rattle.leaf_history.specs.Calls.{Call}
 use Rattle.leaf_history.specs.Calls as call
-use Rattle.leaf_history.specs.Replies.{Reply}
+use Rattle.leaf_history.specs.Replies.{EntryReply}
 use Rattle.leaf_history.specs.Replies as reply
-use Rattle.leaf_history.specs.History.{Allowed, Entry, HistoryState, LegalFrom, after, after_entry, changed, held, is_refusal, written}
+use Rattle.leaf_history.specs.History.{Allowed, Entry, HistoryState, LegalFrom, after, after_entry, changed, contents_held, is_refusal, written}
 use Rattle.printed_lines.specs.declared.line.Said.{Said}
 use Rattle.printed_lines.specs.declared.line.Said.TheVariants as said
 use Rattle.standing_query.specs.declared.fed.Fed.{Fed}
 use Rattle.standing_query.specs.declared.fed.Fed.TheVariants as fed
 use Rattle.standing_query.specs.States.{FedTo, Means, StandingState, is_end}
-use Rattle.transcript.specs.Histories.{Ground, Shown, Shows, rows_before}
+use Rattle.transcript.specs.Histories.{BaseState, Shown, ShowsEntry, rows_before}
 use Rattle.transcript.specs.Telling.{ends_state}
 use Rattle.transcript_standing.specs.Followed.{AreTimes}
 use Rattle.transcript_standing.proofs.HeardPieces.{fed_of}
@@ -32,14 +32,14 @@ use Rattle.transcript_standing.proofs.Numbers.{ShowsIn}
 
 -- ---- what a table holds
 
-abbrev pub contents_before : Ground → List Entry → ℕ → Contents
-contents_before g entries number = held (after g.founded g.base (take (number - 1) entries))
+abbrev pub contents_before : BaseState → List Entry → ℕ → Contents
+contents_before g entries number = contents_held (after g.founded g.base (take (number - 1) entries))
 
 -- behind the first n entries
-abbrev pub contents_behind : Ground → List Entry → ℕ → Contents
+abbrev pub contents_behind : BaseState → List Entry → ℕ → Contents
 contents_behind g entries n = contents_before g entries (n + 1)
 
-abbrev pub rows_behind : Ground → List Entry → ℕ → List Row
+abbrev pub rows_behind : BaseState → List Entry → ℕ → List Row
 rows_behind g entries n = rows_before g entries (n + 1)
 
 -- None of its rows is below its horizon. A table that is opened with any contents need not have this.
@@ -61,11 +61,11 @@ CountUp n (s ∷ ss) m = (s.number ≡ n + 1) × CountUp (n + 1) ss m
 
 -- a fresh state means the rows behind the first n entries, these have times, and none of them is below the table's
 -- horizon
-abbrev pub Knows : Ground → List Entry → ℕ → StandingState → Type 0
+abbrev pub Knows : BaseState → List Entry → ℕ → StandingState → Type 0
 Knows g entries n t = Means t (rows_behind g entries n) × AreTimes (rows_behind g entries n) × NoneBelow (contents_behind g entries n)
 
 -- what holds of the state t that s comes to by these lines, the last of which has the number m
-pub record FedBehind (g : Ground) (entries : List Entry) (ss : List Shown) (m : ℕ) (s t : StandingState) : Type 0 where
+pub record FedBehind (g : BaseState) (entries : List Entry) (ss : List Shown) (m : ℕ) (s t : StandingState) : Type 0 where
   pub upto : t.upto ≡ m
   pub query : t.query ≡ s.query
   pub stale : t.stale ≡ (s.stale || list_any (λ (e : Shown). ends_state e.call e.said) ss)
@@ -150,17 +150,17 @@ last_write c [] w = refl
 last_write c (v ∷ writes) w = last_write (content_after c v) writes w
 
 -- one more write
-wrote : (s : HistoryState) (w : Write) (c : Option Call) (d : Said) → Step c d (held s) (content_after (held s) w) → Step c d (held s) (held (written s w))
-wrote s w c d step = subst (λ (x : Contents). Step c d (held s) x) (sym (last_write s.before s.writes w)) step
+wrote : (s : HistoryState) (w : Write) (c : Option Call) (d : Said) → Step c d (contents_held s) (content_after (contents_held s) w) → Step c d (contents_held s) (contents_held (written s w))
+wrote s w c d step = subst (λ (x : Contents). Step c d (contents_held s) x) (sym (last_write s.before s.writes w)) step
 
 module _ (founded : Bool) (s : HistoryState) (caller : ℕ) where
-  added : (c : Call) (kept late : ℕ) → Allowed founded s caller c (reply.Added kept late) → NoneBelow (held s) → Step (Some c) (said.Added kept late) (held s) (held (changed founded s c))
+  added : (c : Call) (kept late : ℕ) → Allowed founded s caller c (reply.Added kept late) → NoneBelow (contents_held s) → Step (Some c) (said.Added kept late) (contents_held s) (contents_held (changed founded s c))
   added (call.Add rows) kept late a below =
-      let few = few_from (held s).horizon rows in
-      let many : late + length (rows_from (held s).horizon rows) ≡ length rows = omega (arith, few, a.1.3) in
+      let few = few_from (contents_held s).horizon rows in
+      let many : late + length (rows_from (contents_held s).horizon rows) ≡ length rows = omega (arith, few, a.1.3) in
       wrote s (write.Add rows) (Some (call.Add rows)) (said.Added kept late) (record {
-        feeds = ((held s).horizon, many, refl);
-        none_below = each-append (λ (row : Row). int_le (held s).horizon row.time ≡ true) (held s).rows (rows_from (held s).horizon rows) below (none_from (held s).horizon rows);
+        feeds = ((contents_held s).horizon, many, refl);
+        none_below = each-append (λ (row : Row). int_le (contents_held s).horizon row.time ≡ true) (contents_held s).rows (rows_from (contents_held s).horizon rows) below (none_from (contents_held s).horizon rows);
       })
   added (call.Expire horizon) kept late a below = absurd a.1
   added (call.Keep n) kept late a below = absurd a.1
@@ -171,18 +171,18 @@ module _ (founded : Bool) (s : HistoryState) (caller : ℕ) where
   added call.Done kept late a below = let wrong = a.2 in absurd cc
   added (call.Open n contents) kept late a below = let wrong = a.3 in absurd cc
 
-  removed : (c : Call) (n : ℕ) → Allowed founded s caller c (reply.Removed n) → is_end (fed_of (Some c) (said.Removed n)) ≡ false → NoneBelow (held s)
-      → Step (Some c) (said.Removed n) (held s) (held (changed founded s c))
+  removed : (c : Call) (n : ℕ) → Allowed founded s caller c (reply.Removed n) → is_end (fed_of (Some c) (said.Removed n)) ≡ false → NoneBelow (contents_held s)
+      → Step (Some c) (said.Removed n) (contents_held s) (contents_held (changed founded s c))
   removed (call.Add rows) n a on below = absurd a.1
   removed (call.Expire horizon) n a on below =
       wrote s (write.Expire horizon) (Some (call.Expire horizon)) (said.Removed n) (record {
-        feeds = expires (held s).horizon horizon (held s).rows below;
-        none_below = none_from (int_max (held s).horizon horizon) (held s).rows;
+        feeds = expires (contents_held s).horizon horizon (contents_held s).rows below;
+        none_below = none_from (int_max (contents_held s).horizon horizon) (contents_held s).rows;
       })
   removed (call.Keep k) n a on below =
       wrote s (write.Keep k) (Some (call.Keep k)) (said.Removed n) (record {
-        feeds = keeps_all n k (held s).rows a.1.1 (ltb-false 0 n on);
-        none_below = each-drop (λ (row : Row). int_le (held s).horizon row.time ≡ true) (length (held s).rows - k) (held s).rows below;
+        feeds = keeps_all n k (contents_held s).rows a.1.1 (ltb-false 0 n on);
+        none_below = each-drop (λ (row : Row). int_le (contents_held s).horizon row.time ≡ true) (length (contents_held s).rows - k) (contents_held s).rows below;
       })
   removed (call.Ask q) n a on below = absurd a.1
   removed call.Take n a on below = absurd a.2
@@ -191,11 +191,11 @@ module _ (founded : Bool) (s : HistoryState) (caller : ℕ) where
   removed call.Done n a on below = let wrong = a.2 in absurd cc
   removed (call.Open k contents) n a on below = let wrong = a.3 in absurd cc
 
-  asked : (c : Call) (gs : _) → Allowed founded s caller c (reply.Groups gs) → NoneBelow (held s) → Step (Some c) said.Asked (held s) (held (changed founded s c))
+  asked : (c : Call) (gs : _) → Allowed founded s caller c (reply.Groups gs) → NoneBelow (contents_held s) → Step (Some c) said.Asked (contents_held s) (contents_held (changed founded s c))
   asked (call.Add rows) gs a below = absurd a.1
   asked (call.Expire horizon) gs a below = absurd a.1
   asked (call.Keep k) gs a below = absurd a.1
-  asked (call.Ask q) gs a below = stays (Some (call.Ask q)) said.Asked (held s) (held s) refl refl below
+  asked (call.Ask q) gs a below = stays (Some (call.Ask q)) said.Asked (contents_held s) (contents_held s) refl refl below
   asked call.Take gs a below = absurd a.2
   asked (call.Flushed k) gs a below = let wrong = a.2 in absurd cc
   asked call.Shut gs a below = absurd a.2
@@ -216,25 +216,25 @@ refused_memory (call.Add rows) = refl
 refused_memory _ = refl
 
 -- a caller's entry, by its call and its reply
-called : (founded : Bool) (s : HistoryState) (e : Entry) (c : Option Call) (d : Said) (r : Reply) → c ≡ Some e.call → e.reply ≡ r
-    → Step (Some e.call) d (held s) (held (if is_refusal r then s else changed founded s e.call)) → Step c d (held s) (held (after_entry founded s e))
+called : (founded : Bool) (s : HistoryState) (e : Entry) (c : Option Call) (d : Said) (r : EntryReply) → c ≡ Some e.call → e.reply ≡ r
+    → Step (Some e.call) d (contents_held s) (contents_held (if is_refusal r then s else changed founded s e.call)) → Step c d (contents_held s) (contents_held (after_entry founded s e))
 called founded s e c d r is replied step =
-    subst (λ (o : Option Call). Step o d (held s) (held (after_entry founded s e))) (sym is)
-    (subst (λ (q : Reply). Step (Some e.call) d (held s) (held (if is_refusal q then s else changed founded s e.call))) (sym replied) step)
+    subst (λ (o : Option Call). Step o d (contents_held s) (contents_held (after_entry founded s e))) (sym is)
+    (subst (λ (q : EntryReply). Step (Some e.call) d (contents_held s) (contents_held (if is_refusal q then s else changed founded s e.call))) (sym replied) step)
 
-replied_as : (founded : Bool) (s : HistoryState) (e : Entry) (r : Reply) → e.reply ≡ r → Allowed founded s e.caller e.call e.reply → Allowed founded s e.caller e.call r
-replied_as founded s e r is a = subst (λ (q : Reply). Allowed founded s e.caller e.call q) is a
+replied_as : (founded : Bool) (s : HistoryState) (e : Entry) (r : EntryReply) → e.reply ≡ r → Allowed founded s e.caller e.call e.reply → Allowed founded s e.caller e.call r
+replied_as founded s e r is a = subst (λ (q : EntryReply). Allowed founded s e.caller e.call q) is a
 
 called_as : (founded : Bool) (s : HistoryState) (e : Entry) (c : Call) → e.call ≡ c → Allowed founded s e.caller e.call e.reply → Allowed founded s e.caller c e.reply
 called_as founded s e c is a = subst (λ (k : Call). Allowed founded s e.caller k e.reply) is a
 
 -- what the steward's entry leaves of the state
-left_by : (founded : Bool) (s : HistoryState) (e : Entry) (c : Call) (r : Reply) → e.call ≡ c → e.reply ≡ r
-    → held (after_entry founded s e) ≡ held (if is_refusal r then s else changed founded s c)
-left_by founded s e c r is replied = ap₂ (λ (k : Call) (q : Reply). held (if is_refusal q then s else changed founded s k)) is replied
+left_by : (founded : Bool) (s : HistoryState) (e : Entry) (c : Call) (r : EntryReply) → e.call ≡ c → e.reply ≡ r
+    → contents_held (after_entry founded s e) ≡ contents_held (if is_refusal r then s else changed founded s c)
+left_by founded s e c r is replied = ap₂ (λ (k : Call) (q : EntryReply). contents_held (if is_refusal q then s else changed founded s k)) is replied
 
-entry_step : (founded : Bool) (s : HistoryState) (e : Entry) (c : Option Call) (d : Said) → Allowed founded s e.caller e.call e.reply → Shows c d e
-    → is_end (fed_of c d) ≡ false → NoneBelow (held s) → Step c d (held s) (held (after_entry founded s e))
+entry_step : (founded : Bool) (s : HistoryState) (e : Entry) (c : Option Call) (d : Said) → Allowed founded s e.caller e.call e.reply → ShowsEntry c d e
+    → is_end (fed_of c d) ≡ false → NoneBelow (contents_held s) → Step c d (contents_held s) (contents_held (after_entry founded s e))
 entry_step founded s e c (said.Added kept late) a shows on below =
     called founded s e c (said.Added kept late) (reply.Added kept late) shows.0 shows.1 (added founded s e.caller e.call kept late (replied_as founded s e (reply.Added kept late) shows.1 a) below)
 entry_step founded s e c (said.Removed n) a shows on below =
@@ -243,19 +243,19 @@ entry_step founded s e c (said.Removed n) a shows on below =
 entry_step founded s e c said.Asked a shows on below =
     called founded s e c said.Asked (reply.Groups shows.1.0) shows.0 shows.1.1 (asked founded s e.caller e.call shows.1.0 (replied_as founded s e (reply.Groups shows.1.0) shows.1.1 a) below)
 entry_step founded s e c said.RefusedShut a shows on below =
-    called founded s e c said.RefusedShut reply.Shut shows.0 shows.1 (stays (Some e.call) said.RefusedShut (held s) (held s) (refused_shut e.call) refl below)
+    called founded s e c said.RefusedShut reply.Shut shows.0 shows.1 (stays (Some e.call) said.RefusedShut (contents_held s) (contents_held s) (refused_shut e.call) refl below)
 entry_step founded s e c said.RefusedFull a shows on below =
-    called founded s e c said.RefusedFull reply.Full shows.0 shows.1 (stays (Some e.call) said.RefusedFull (held s) (held s) (refused_full e.call) refl below)
+    called founded s e c said.RefusedFull reply.Full shows.0 shows.1 (stays (Some e.call) said.RefusedFull (contents_held s) (contents_held s) (refused_full e.call) refl below)
 entry_step founded s e c said.RefusedMemory a shows on below =
-    called founded s e c said.RefusedMemory reply.NoMemory shows.0 shows.1 (stays (Some e.call) said.RefusedMemory (held s) (held s) (refused_memory e.call) refl below)
+    called founded s e c said.RefusedMemory reply.NoMemory shows.0 shows.1 (stays (Some e.call) said.RefusedMemory (contents_held s) (contents_held s) (refused_memory e.call) refl below)
 entry_step founded s e c (said.Opened n) a shows on below = absurd (true≢false on)
 entry_step founded s e c (said.Closed n) a shows on below = absurd (true≢false on)
 entry_step founded s e c (said.Took n) a shows on below =
-    stays c (said.Took n) (held s) (held (after_entry founded s e)) refl (left_by founded s e call.Take (reply.Counted n) shows.1 shows.2) below
+    stays c (said.Took n) (contents_held s) (contents_held (after_entry founded s e)) refl (left_by founded s e call.Take (reply.Counted n) shows.1 shows.2) below
 entry_step founded s e c (said.Flushed n) a shows on below =
-    stays c (said.Flushed n) (held s) (held (after_entry founded s e)) refl (left_by founded s e (call.Flushed n) reply.Noted shows.1 (called_as founded s e (call.Flushed n) shows.1 a).2) below
+    stays c (said.Flushed n) (contents_held s) (contents_held (after_entry founded s e)) refl (left_by founded s e (call.Flushed n) reply.Noted shows.1 (called_as founded s e (call.Flushed n) shows.1 a).2) below
 entry_step founded s e c said.Handed a shows on below =
-    stays c said.Handed (held s) (held (after_entry founded s e)) refl (left_by founded s e call.Done reply.Noted shows.1 (called_as founded s e call.Done shows.1 a).2) below
+    stays c said.Handed (contents_held s) (contents_held (after_entry founded s e)) refl (left_by founded s e call.Done reply.Noted shows.1 (called_as founded s e call.Done shows.1 a).2) below
 
 -- ---- entries of a history
 
@@ -270,10 +270,10 @@ entry_at founded s (x ∷ xs) zero e legal at =
     subst (λ (y : Entry). Allowed founded s y.caller y.call y.reply × (after_entry founded s x ≡ after_entry founded s y)) (same_some x e at) (legal.0, refl)
 entry_at founded s (x ∷ xs) (suc i) e legal at = entry_at founded (after_entry founded s x) xs i e legal.1 at
 
-behind_is : (g : Ground) (entries : List Entry) (n k : ℕ) → n + 1 - 1 ≡ k → contents_behind g entries n ≡ held (after g.founded g.base (take k entries))
-behind_is g entries n k is = ap (λ (j : ℕ). held (after g.founded g.base (take j entries))) is
+behind_is : (g : BaseState) (entries : List Entry) (n k : ℕ) → n + 1 - 1 ≡ k → contents_behind g entries n ≡ contents_held (after g.founded g.base (take k entries))
+behind_is g entries n k is = ap (λ (j : ℕ). contents_held (after g.founded g.base (take j entries))) is
 
-pub step_at : (g : Ground) (entries : List Entry) (s : Shown) (k : ℕ) → LegalFrom g.founded g.base entries → ShowsIn entries s → s.number ≡ k + 1 → is_end (fed_of s.call s.said) ≡ false
+pub step_at : (g : BaseState) (entries : List Entry) (s : Shown) (k : ℕ) → LegalFrom g.founded g.base entries → ShowsIn entries s → s.number ≡ k + 1 → is_end (fed_of s.call s.said) ≡ false
     → NoneBelow (contents_behind g entries k) → Step s.call s.said (contents_behind g entries k) (contents_behind g entries (k + 1))
 step_at g entries s k legal shows number on below =
     let place : s.number - 1 ≡ k = omega (arith, number) in
@@ -284,17 +284,17 @@ step_at g entries s k legal shows number on below =
     let state = after g.founded g.base (take k entries) in
     let step = entry_step g.founded state e s.call s.said at.0 shows.1.2 on (subst (λ (x : Contents). NoneBelow x) first below) in
     subst (λ (x : Contents). Step s.call s.said x (contents_behind g entries (k + 1))) (sym first)
-    (subst (λ (x : Contents). Step s.call s.said (held state) x) (sym (next ∙ ap (λ (x : HistoryState). held x) at.1)) step)
+    (subst (λ (x : Contents). Step s.call s.said (contents_held state) x) (sym (next ∙ ap (λ (x : HistoryState). contents_held x) at.1)) step)
 
 -- the same with the entry's own number
-step_of : (g : Ground) (entries : List Entry) (s : Shown) → LegalFrom g.founded g.base entries → ShowsIn entries s → is_end (fed_of s.call s.said) ≡ false
+step_of : (g : BaseState) (entries : List Entry) (s : Shown) → LegalFrom g.founded g.base entries → ShowsIn entries s → is_end (fed_of s.call s.said) ≡ false
     → NoneBelow (contents_behind g entries (s.number - 1)) → Step s.call s.said (contents_behind g entries (s.number - 1)) (contents_behind g entries s.number)
 step_of g entries s legal shows on below =
     let number : s.number ≡ s.number - 1 + 1 = omega (arith, shows.0) in
     subst (λ (n : ℕ). Step s.call s.said (contents_behind g entries (s.number - 1)) (contents_behind g entries n)) (sym number) (step_at g entries s (s.number - 1) legal shows number on below)
 
 -- one entry: its saying tells what it makes of the rows, unless it ends the state
-pub fed_to : (g : Ground) (entries : List Entry) (s : Shown) → LegalFrom g.founded g.base entries → ShowsIn entries s → is_end (fed_of s.call s.said) ≡ false
+pub fed_to : (g : BaseState) (entries : List Entry) (s : Shown) → LegalFrom g.founded g.base entries → ShowsIn entries s → is_end (fed_of s.call s.said) ≡ false
     → NoneBelow (contents_behind g entries (s.number - 1)) → FedTo (fed_of s.call s.said) (rows_behind g entries (s.number - 1)) (rows_behind g entries s.number)
 fed_to g entries s legal shows on below = (step_of g entries s legal shows on below).feeds
 
@@ -302,7 +302,7 @@ fed_to g entries s legal shows on below = (step_of g entries s legal shows on be
 some_call : (c c' : Call) → Some c ≡ Some c' → c' ≡ c
 some_call c c' e = cc
 
-pub asked_leaves : (g : Ground) (entries : List Entry) (number : ℕ) (q : Query) → ShowsIn entries (record { number = number; call = Some (call.Ask q); said = said.Asked })
+pub asked_leaves : (g : BaseState) (entries : List Entry) (number : ℕ) (q : Query) → ShowsIn entries (record { number = number; call = Some (call.Ask q); said = said.Asked })
     → LegalFrom g.founded g.base entries → contents_behind g entries number ≡ contents_before g entries number
 asked_leaves g entries number q shows legal =
     let e = shows.1.0 in
@@ -310,7 +310,7 @@ asked_leaves g entries number q shows legal =
     let at = entry_at g.founded g.base entries (number - 1) e legal shows.1.1 in
     let left = left_by g.founded state e (call.Ask q) (reply.Groups shows.1.2.1.0) (some_call (call.Ask q) e.call shows.1.2.0) shows.1.2.1.1 in
     let number_is : number + 1 - 1 ≡ suc (number - 1) = omega (arith, shows.0) in
-    behind_is g entries number (suc (number - 1)) number_is ∙ (ap (λ (x : HistoryState). held x) at.1 ∙ left)
+    behind_is g entries number (suc (number - 1)) number_is ∙ (ap (λ (x : HistoryState). contents_held x) at.1 ∙ left)
 
 -- the ending is the one that the transcript reads
 end_is : (c : Option Call) (d : Said) → is_end (fed_of c d) ≡ ends_state c d

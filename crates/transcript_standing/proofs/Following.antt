@@ -1,20 +1,20 @@
 -- Standing queries follow the items of a run, one after another.
 use Rattle.std.proofs.Common.{◌≡◌, ℕ, zero, suc, ◌<◌, List, [], ◌∷◌, ◌++◌, refl, sym, ap, subst, ◌∙◌, arith, length, Some}
 use Rattle.std.specs.Prelude.{◌-◌, int_le, slice_get, take, true}
-use Rattle.leaf_model.specs.declared.rows.Row.{Row}
+use Rattle.row_model.specs.declared.rows.Row.{Row}
 use Rattle.leaf_model.specs.Content.{Contents}
 use Rattle.std.specs.List.{AllByRecursion}
 use Rattle.std.proofs.lemmas.List.{append-nil}
 use Rattle.leaf_model.specs.Groups.{groups}
 use Rattle.standing_query.specs.Spread.{spread}
-use Rattle.leaf_history.specs.History.{Entry, after, held}
-use Rattle.script_text.specs.declared.fleet.Fleet.{Fleet}
+use Rattle.leaf_history.specs.History.{Entry, after, contents_held}
+use Rattle.script_text.specs.declared.fleet.FleetShape.{FleetShape}
 use Rattle.standing_feed.specs.declared.follower.Follower.{Follower}
 use Rattle.script_text.specs.declared.command.Command.{Command}
 use Rattle.script_text.specs.declared.command.Command.TheVariants as command
 use Rattle.script_text.specs.Commands.{leaf_count}
 use Rattle.transcript.specs.Pieces.{Piece, PlayedItem, One, Burst}
-use Rattle.transcript.specs.Histories.{Ground}
+use Rattle.transcript.specs.Histories.{BaseState}
 use Rattle.transcript_standing.specs.Followed.{AreFollowers, AreTimes, DoesItself, FollowedAll, FollowsItem, IsFollower, TellsItself, held_before}
 use Rattle.transcript_standing.specs.Laws.{FollowOn, FollowToEnd, FollowToStop}
 
@@ -27,17 +27,17 @@ each_at P (y ∷ ys) all zero x at = subst P (here y x at) all.0
     here a b e = cc
 each_at P (y ∷ ys) all (suc i) x at = each_at P ys all.1 i x at
 
-module _ (fleet : Fleet) (grounds : ℕ → ℕ → Ground) (histories : ℕ → ℕ → List Entry) where
-  one_more : (items : List PlayedItem) (x : PlayedItem) (olds news behind : List Follower) → FollowedAll fleet grounds histories items olds news
-      → FollowsItem fleet grounds histories x news behind → FollowedAll fleet grounds histories (items ++ x ∷ []) olds behind
-  one_more [] x olds news behind all step = (behind, subst (λ (fs : List Follower). FollowsItem fleet grounds histories x fs behind) all step, refl)
+module _ (fleet : FleetShape) (base_states : ℕ → ℕ → BaseState) (histories : ℕ → ℕ → List Entry) where
+  one_more : (items : List PlayedItem) (x : PlayedItem) (olds news behind : List Follower) → FollowedAll fleet base_states histories items olds news
+      → FollowsItem fleet base_states histories x news behind → FollowedAll fleet base_states histories (items ++ x ∷ []) olds behind
+  one_more [] x olds news behind all step = (behind, subst (λ (fs : List Follower). FollowsItem fleet base_states histories x fs behind) all step, refl)
   one_more (y ∷ items) x olds news behind all step = (all.0, all.1, one_more items x all.0 news behind all.2 step)
 
 pub follow_on : FollowOn
-follow_on fleet grounds histories items x olds news behind all step = one_more fleet grounds histories items x olds news behind all step
+follow_on fleet base_states histories items x olds news behind all step = one_more fleet base_states histories items x olds news behind all step
 
 pub follow_to_end : FollowToEnd
-follow_to_end fleet grounds histories items olds news all = record {
+follow_to_end fleet base_states histories items olds news all = record {
   whole = items;
   last = [];
   between = news;
@@ -48,7 +48,7 @@ follow_to_end fleet grounds histories items olds news all = record {
 }
 
 pub follow_to_stop : FollowToStop
-follow_to_stop fleet grounds histories items x olds news behind all itself = record {
+follow_to_stop fleet base_states histories items x olds news behind all itself = record {
   whole = items;
   last = x ∷ [];
   between = news;
@@ -61,16 +61,16 @@ follow_to_stop fleet grounds histories items x olds news behind all itself = rec
 -- ---- what the tables began from
 
 -- two say the same of each table of the fleet
-abbrev pub SameGrounds : Fleet → (ℕ → ℕ → Ground) → (ℕ → ℕ → Ground) → Type 0
-SameGrounds fleet f g = (leaf table : ℕ) → leaf < leaf_count fleet → table < length fleet.names → f leaf table ≡ g leaf table
+abbrev pub SameBaseStates : FleetShape → (ℕ → ℕ → BaseState) → (ℕ → ℕ → BaseState) → Type 0
+SameBaseStates fleet f g = (leaf table : ℕ) → leaf < leaf_count fleet → table < length fleet.names → f leaf table ≡ g leaf table
 
-module _ (fleet : Fleet) (f g : ℕ → ℕ → Ground) (histories : ℕ → ℕ → List Entry) (same : SameGrounds fleet f g) where
+module _ (fleet : FleetShape) (f g : ℕ → ℕ → BaseState) (histories : ℕ → ℕ → List Entry) (same : SameBaseStates fleet f g) where
   tells_same : (standing : ℕ) (old new : Follower) (pieces : List Piece) → IsFollower fleet old → TellsItself fleet f histories standing old pieces new → TellsItself fleet g histories standing old pieces new
   tells_same standing old new pieces is (TellsItself.fresh told fresh are right stays) = TellsItself.fresh told fresh are right stays
   tells_same standing old new pieces is (TellsItself.made_fresh number gs told stale are asked right now) =
-      let ground : f old.leaf old.table ≡ g old.leaf old.table = same old.leaf old.table is.0 is.1 in
+      let base_state : f old.leaf old.table ≡ g old.leaf old.table = same old.leaf old.table is.0 is.1 in
       let contents : held_before fleet f histories old number ≡ held_before fleet g histories old number =
-      ap (λ (x : Ground). held (after x.founded x.base (take (number - 1) (histories old.leaf old.table)))) ground in
+      ap (λ (x : BaseState). contents_held (after x.founded x.base (take (number - 1) (histories old.leaf old.table)))) base_state in
       TellsItself.made_fresh number gs told stale are (record {
         times = subst (λ (c : Contents). AreTimes c.rows) contents asked.times;
         none_below = subst (λ (c : Contents). AllByRecursion (λ (row : Row). int_le c.horizon row.time ≡ true) c.rows) contents asked.none_below;

@@ -5,30 +5,35 @@ use Rattle.std.specs.Prelude.{◌⊎◌, Some, None, option_to_list, slice_get}
 use Rattle.std.specs.List.{AllByRecursion, flat_map, range_with_len}
 use Rattle.std.proofs.lemmas.Grind.{flat_map-append}
 use Rattle.std.proofs.lemmas.List.{append-nil}
-use Rattle.leaf_model.specs.Names.{AreDistinct}
+use Rattle.row_model.specs.Names.{AreDistinct}
 use Rattle.leaf_history.specs.Calls.{Call}
-use Rattle.leaf_history.specs.Calls as call
 use Rattle.leaf_history.specs.History.{Entry}
 use Rattle.script_text.specs.declared.command.Command.{Command}
 use Rattle.script_text.specs.declared.command.Command.TheVariants as command
-use Rattle.script_text.specs.declared.fleet.Fleet.{Fleet}
+use Rattle.script_text.specs.declared.order.Order.{Order}
+use Rattle.script_text.specs.declared.order.Order.TheVariants as order
+use Rattle.script_text.specs.declared.order.Part.{Part}
+use Rattle.script_text.specs.declared.order.Part.TheVariants as part
+use Rattle.script_text.specs.declared.order.TableRequest.{TableRequest}
+use Rattle.script_text.specs.declared.order.TableRequest.TheVariants as request
+use Rattle.script_text.specs.Orders.{part_of}
+use Rattle.script_text.specs.declared.fleet.FleetShape.{FleetShape}
 use Rattle.script_text.specs.Commands.{leaf_count}
 use Rattle.printed_lines.specs.declared.line.Deed.{Deed}
-use Rattle.printed_lines.specs.declared.line.Deed.TheVariants.{Start, Flush, Drain, Kill}
+use Rattle.printed_lines.specs.declared.line.Deed.TheVariants.{Start, Drain}
 use Rattle.printed_lines.specs.declared.line.Line.{Line}
 use Rattle.printed_lines.specs.declared.line.Line.TheVariants as line
 use Rattle.standing_feed.specs.declared.heard.Heard.{Heard}
 use Rattle.standing_feed.specs.declared.meant.Meant.{Meant}
-use Rattle.standing_feed.specs.declared.meant.Meant.TheVariants as meant
-use Rattle.standing_feed.specs.Hearing.{TablePlace, heard, heard_from, is_at, meant_by, meant_in, meant_lane, no_call_yet, some_when}
+use Rattle.standing_feed.specs.Hearing.{TablePlace, heard, heard_from, is_at, meant_by, meant_in, meant_lane, meant_order, meant_request, no_call_yet, some_when}
 use Rattle.transcript.specs.Pieces.{Piece, Says, Played, PlayedItem, One, Burst, commands_in, item_lines, item_of, lane_lines, lines_in, pieces_in, plays_of}
-use Rattle.transcript.specs.Shapes.{ActPiece, CallPiece, EachActs, OnePiece, Prints, Rolls, WavePieces, WavesPieces}
-use Rattle.transcript.specs.Histories.{Ground, shown}
-use Rattle.transcript.specs.Answers.{Answers}
-use Rattle.transcript_standing.specs.Followed.{HasTimes, IsOfLane, IsPlayable}
+use Rattle.transcript.specs.Shapes.{ActPiece, CallPiece, EachActs, OnePiece, Prints, PrintsOrder, Rolls, WavePieces, WavesPieces, call_of}
+use Rattle.transcript.specs.Histories.{BaseState, shown}
+use Rattle.transcript.specs.Answers.{Answers, AnswersOrder}
+use Rattle.transcript_standing.specs.Followed.{HasTimes, IsOfLane, IsPlayable, OrderTimes}
 pub use Rattle.transcript_standing.proofs.HeardPieces.{AreProper, AsksOnce, Hears, IsProper, IsQuiet, IsSaidOf, PrintsOwn, PrintsOwnOf, TellsOnce, fed_of, heard_of, meant_of}
 use Rattle.transcript_standing.proofs.HeardPieces.{All-both, IsCalm, Takes, call_meant, call_unmeant, calm_hears, heard_append, hears_more, hears_none, proper_parts, says_hears}
-use Rattle.transcript_standing.proofs.HeardQueries.{query_hears}
+use Rattle.transcript_standing.proofs.HeardQueries.{ask_taken, query_hears}
 use Rattle.transcript_standing.proofs.HeardTails.{tail_hears}
 
 -- ---- pieces of stewards
@@ -67,7 +72,7 @@ watches_calm : (texts : List (List ℕ)) → AreCalm (map (λ (text : List ℕ).
 watches_calm [] = tt
 watches_calm (text ∷ texts) = (tt, watches_calm texts)
 
-pub roll_calm : (fleet : Fleet) (percent : ℕ) (pieces : List Piece) → Rolls fleet percent pieces → AreCalm pieces
+pub roll_calm : (fleet : FleetShape) (percent : ℕ) (pieces : List Piece) → Rolls fleet percent pieces → AreCalm pieces
 roll_calm fleet percent pieces r =
     let begun : List Piece = flat_map (λ (wave : List Piece). wave) r.roll.begun in
     let watches : List Piece = map (λ (text : List ℕ). Says (line.Watch text)) r.roll.texts in
@@ -77,6 +82,18 @@ roll_calm fleet percent pieces r =
 
 -- ---- commands
 
+-- the order of the leaves that a part is
+abbrev pub order_in : Part → Order
+order_in (part.Leaves o) = o
+order_in (part.Run o) = order.Start
+
+-- the call of a request uses up what the request means
+request_taken : (r : TableRequest) (rest : List Meant) → Takes (no_call_yet (meant_request r ∷ rest)) (call_of r) (no_call_yet rest)
+request_taken (request.Add rows) rest = λ told is. (refl, refl)
+request_taken (request.Expire horizon) rest = λ told is. (refl, refl)
+request_taken (request.Keep n) rest = λ told is. (refl, refl)
+request_taken (request.Ask q) rest = ask_taken q rest
+
 -- one call of callers, which is meant just for the table that it is of
 one_meant : (p : TablePlace) (leaf table : ℕ) (c : Call) (m : Meant) (pieces : List Piece) → OnePiece (CallPiece leaf table c) pieces
     → ((rest : List Meant) → Takes (no_call_yet (m ∷ rest)) c (no_call_yet rest)) → AreProper p pieces
@@ -85,29 +102,25 @@ one_meant p leaf table c m pieces one takes proper rest =
     subst (λ (ps : List Piece). Hears p (no_call_yet (option_to_list (some_when (is_at p leaf table) m) ++ rest)) ps (no_call_yet rest)) (sym one.2)
     (call_meant p leaf table c m one.0 one.1 takes (subst (λ (ps : List Piece). AreProper p ps) one.2 proper) rest)
 
-module _ (fleet : Fleet) (grounds : ℕ → ℕ → Ground) (histories : ℕ → ℕ → List Entry) (p : TablePlace) (distinct : AreDistinct fleet.names) (below : p.leaf < leaf_count fleet)
+module _ (fleet : FleetShape) (base_states : ℕ → ℕ → BaseState) (histories : ℕ → ℕ → List Entry) (p : TablePlace) (distinct : AreDistinct fleet.names) (below : p.leaf < leaf_count fleet)
     (at : slice_get fleet.names p.table ≡ Some p.name) where
-  -- a command of a lane uses up what it means
-  lane_command : (c : Command) (pieces : List Piece) → Prints fleet c pieces → Answers fleet grounds histories (record { command = c; pieces = pieces }) → IsOfLane c → AreProper p pieces
+  -- an order uses up what it means
+  lane_order : (o : Order) (pieces : List Piece) → PrintsOrder fleet o pieces → AnswersOrder fleet base_states histories o pieces → OrderTimes o → AreProper p pieces
+      → (rest : List Meant) → Hears p (no_call_yet (option_to_list (meant_order p o) ++ rest)) pieces (no_call_yet rest)
+  lane_order order.Start pieces prints answers times proper rest = calm_hears p (no_call_yet rest) pieces (each_calm Start (range_with_len 0 (leaf_count fleet)) pieces prints) proper
+  lane_order (order.Call leaf table r) pieces prints answers times proper rest = one_meant p leaf table (call_of r) (meant_request r) pieces prints (request_taken r) proper rest
+  lane_order (order.Deed leaf d) pieces prints answers times proper rest = calm_hears p (no_call_yet rest) pieces (one_calm leaf d pieces prints) proper
+  lane_order (order.Query q) pieces prints answers times proper rest = query_hears p fleet q pieces distinct below at prints proper rest
+  lane_order (order.Tail key table rows) pieces prints answers times proper rest =
+      tail_hears p (leaf_count fleet) (λ leaf. base_states leaf table) (λ leaf. histories leaf table) key table rows pieces answers proper rest
+  lane_order (order.Rollover percent) pieces prints answers times proper rest = calm_hears p (no_call_yet rest) pieces (roll_calm fleet percent pieces prints) proper
+
+  -- so does a command of a lane
+  lane_command : (c : Command) (pieces : List Piece) → Prints fleet c pieces → Answers fleet base_states histories (record { command = c; pieces = pieces }) → IsOfLane c → AreProper p pieces
       → (rest : List Meant) → Hears p (no_call_yet (option_to_list (meant_by p c) ++ rest)) pieces (no_call_yet rest)
-  lane_command (command.Fleet machines per_machine tables) pieces prints answers may proper rest =
-      calm_hears p (no_call_yet rest) pieces (each_calm Start (range_with_len 0 (leaf_count fleet)) pieces prints) proper
-  lane_command (command.Add leaf table rows) pieces prints answers may proper rest =
-      one_meant p leaf table (call.Add rows) (meant.Add rows) pieces prints (λ left told is. (refl, refl)) proper rest
-  lane_command (command.Expire leaf table horizon) pieces prints answers may proper rest =
-      one_meant p leaf table (call.Expire horizon) (meant.Expire horizon) pieces prints (λ left told is. (refl, refl)) proper rest
-  lane_command (command.Keep leaf table n) pieces prints answers may proper rest =
-      one_meant p leaf table (call.Keep n) meant.Keep pieces prints (λ left told is. (refl, refl)) proper rest
-  lane_command (command.Query q) pieces prints answers may proper rest = query_hears p fleet q pieces distinct below at prints proper rest
-  lane_command (command.Tail key table rows) pieces prints answers may proper rest =
-      tail_hears p (leaf_count fleet) (λ leaf. grounds leaf table) (λ leaf. histories leaf table) key table rows pieces answers proper rest
-  lane_command (command.Flush leaf table) pieces prints answers may proper rest = calm_hears p (no_call_yet rest) pieces (one_calm leaf (Flush table) pieces prints) proper
-  lane_command (command.Drain leaf stop) pieces prints answers may proper rest = calm_hears p (no_call_yet rest) pieces (one_calm leaf (Drain stop) pieces prints) proper
-  lane_command (command.Kill leaf) pieces prints answers may proper rest = calm_hears p (no_call_yet rest) pieces (one_calm leaf Kill pieces prints) proper
-  lane_command (command.Start leaf) pieces prints answers may proper rest = calm_hears p (no_call_yet rest) pieces (one_calm leaf Start pieces prints) proper
-  lane_command (command.Rollover percent) pieces prints answers may proper rest = calm_hears p (no_call_yet rest) pieces (roll_calm fleet percent pieces prints) proper
   lane_command (command.Standing leaf q) pieces prints answers may proper rest = absurd may
   lane_command (command.Tell standing) pieces prints answers may proper rest = absurd may
+  lane_command c pieces prints answers may proper rest = lane_order (order_in (part_of c)) pieces prints answers may proper rest
 
   tells_once : (pieces : List Piece) → TellsOnce pieces → Hears p (no_call_yet []) pieces (no_call_yet [])
   tells_once pieces t = subst (λ (ps : List Piece). Hears p (no_call_yet []) ps (no_call_yet [])) (sym t.2) (says_hears p (no_call_yet []) t.0 t.1)
@@ -120,7 +133,7 @@ module _ (fleet : Fleet) (grounds : ℕ → ℕ → Ground) (histories : ℕ →
       (call_unmeant p t.leaf t.table t.query t.asked t.ask parts.0) (says_hears p (no_call_yet []) t.told t.quiet))
 
   -- and so does one alone
-  one_command : (c : Command) (pieces : List Piece) → Prints fleet c pieces → Answers fleet grounds histories (record { command = c; pieces = pieces }) → PrintsOwnOf c pieces → HasTimes c
+  one_command : (c : Command) (pieces : List Piece) → Prints fleet c pieces → Answers fleet base_states histories (record { command = c; pieces = pieces }) → PrintsOwnOf c pieces → HasTimes c
       → AreProper p pieces → Hears p (no_call_yet (option_to_list (meant_by p c))) pieces (no_call_yet [])
   one_command (command.Standing leaf q) pieces prints answers own times proper = tells_once pieces own
   one_command (command.Tell standing) pieces prints answers own times proper = by own
@@ -138,7 +151,7 @@ module _ (fleet : Fleet) (grounds : ℕ → ℕ → Ground) (histories : ℕ →
   ArePrinted ps = AllByRecursion (λ (q : Played). Prints fleet q.command q.pieces) ps
 
   abbrev AreAnswered : List Played → Type 0
-  AreAnswered ps = AllByRecursion (Answers fleet grounds histories) ps
+  AreAnswered ps = AllByRecursion (Answers fleet base_states histories) ps
 
   abbrev AreOfLane : List Played → Type 0
   AreOfLane ps = AllByRecursion (λ (q : Played). IsOfLane q.command) ps
@@ -164,7 +177,7 @@ module _ (fleet : Fleet) (grounds : ℕ → ℕ → Ground) (histories : ℕ →
       let others : List Played = plays_on lanes in
       let joined : pieces_in (lane ++ others) ≡ pieces_in lane ++ pieces_in others = flat_map-append (λ (q : Played). q.pieces) lane others in
       let printed = All-both (λ (q : Played). Prints fleet q.command q.pieces) lane others prints in
-      let answered = All-both (Answers fleet grounds histories) lane others answers in
+      let answered = All-both (Answers fleet base_states histories) lane others answers in
       let ofs = All-both (λ (q : Played). IsOfLane q.command) lane others may in
       let parts = proper_parts p (pieces_in lane) (pieces_in others) (subst (λ (ps : List Piece). AreProper p ps) joined proper) in
       lane_hears lane printed.0 answered.0 ofs.0 parts.0 (flat_map (meant_lane p) (map commands_in lanes)) (lane_lines (suc number) lanes)
@@ -172,7 +185,7 @@ module _ (fleet : Fleet) (grounds : ℕ → ℕ → Ground) (histories : ℕ →
       ∙ sym (heard_append p (pieces_in lane) (pieces_in others))
       ∙ ap (λ (ps : List Piece). map heard_of (shown p.leaf p.table ps)) (sym joined)
 
-  alone_heard : (q : Played) → Prints fleet q.command q.pieces → Answers fleet grounds histories q → PrintsOwn q → HasTimes q.command → AreProper p (q.pieces ++ [])
+  alone_heard : (q : Played) → Prints fleet q.command q.pieces → Answers fleet base_states histories q → PrintsOwn q → HasTimes q.command → AreProper p (q.pieces ++ [])
       → heard_from p (no_call_yet (option_to_list (meant_by p q.command))) (lines_in q.pieces) ≡ map heard_of (shown p.leaf p.table (q.pieces ++ []))
   alone_heard q prints answers own times proper =
       let calls = no_call_yet (option_to_list (meant_by p q.command)) in
@@ -183,15 +196,15 @@ module _ (fleet : Fleet) (grounds : ℕ → ℕ → Ground) (histories : ℕ →
       ∙ ap (λ (ps : List Piece). map heard_of (shown p.leaf p.table ps)) (sym (append-nil q.pieces))
 
 -- Of a table of the fleet, what is heard behind an item is what the lines of its entries tell.
-pub heard_shown : (fleet : Fleet) (grounds : ℕ → ℕ → Ground) (histories : ℕ → ℕ → List Entry) (x : PlayedItem) (p : TablePlace)
+pub heard_shown : (fleet : FleetShape) (base_states : ℕ → ℕ → BaseState) (histories : ℕ → ℕ → List Entry) (x : PlayedItem) (p : TablePlace)
     → AreDistinct fleet.names → p.leaf < leaf_count fleet → slice_get fleet.names p.table ≡ Some p.name
     → IsPlayable x
     → AllByRecursion (λ (q : Played). Prints fleet q.command q.pieces) (plays_of x)
-    → AllByRecursion (Answers fleet grounds histories) (plays_of x)
+    → AllByRecursion (Answers fleet base_states histories) (plays_of x)
     → AllByRecursion PrintsOwn (plays_of x)
     → AllByRecursion IsProper (shown p.leaf p.table (pieces_in (plays_of x)))
     → heard p (meant_in p (item_of x)) (item_lines x) ≡ map heard_of (shown p.leaf p.table (pieces_in (plays_of x)))
-heard_shown fleet grounds histories (One q) p distinct below at may prints answers own proper =
-    alone_heard fleet grounds histories p distinct below at q prints.0 answers.0 own.0 may proper
-heard_shown fleet grounds histories (Burst lanes) p distinct below at may prints answers own proper =
-    lanes_heard fleet grounds histories p distinct below at 0 lanes prints answers may proper
+heard_shown fleet base_states histories (One q) p distinct below at may prints answers own proper =
+    alone_heard fleet base_states histories p distinct below at q prints.0 answers.0 own.0 may proper
+heard_shown fleet base_states histories (Burst lanes) p distinct below at may prints answers own proper =
+    lanes_heard fleet base_states histories p distinct below at 0 lanes prints answers may proper

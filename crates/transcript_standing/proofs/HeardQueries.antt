@@ -6,9 +6,9 @@ use Rattle.std.proofs.Math.Dec.{eqb-suc-suc, eqb-suc-zero, eqb-zero-suc}
 use Rattle.std.proofs.lemmas.Bool.{eqb-false}
 use Rattle.std.proofs.lemmas.Slice.Eq.{bytes_eq-Decides}
 use Rattle.leaf_model.specs.declared.queries.Query.{Query}
-use Rattle.leaf_model.specs.Names.{AreDistinct}
+use Rattle.row_model.specs.Names.{AreDistinct}
 use Rattle.leaf_history.specs.Calls as call
-use Rattle.script_text.specs.declared.fleet.Fleet.{Fleet}
+use Rattle.script_text.specs.declared.fleet.FleetShape.{FleetShape}
 use Rattle.script_text.specs.Commands.{leaf_count}
 use Rattle.printed_lines.specs.declared.line.Line.{Line}
 use Rattle.printed_lines.specs.declared.line.Line.TheVariants as line
@@ -85,7 +85,7 @@ later_leaf p leaf above = by (leaf == p.leaf) refl
 abbrev AreAsked : ℕ → Query → ℕ → ℕ → List Piece → Type 0
 AreAsked table q n count asks = AllZip (λ leaf piece. CallPiece leaf table (call.Ask q) piece) (range_with_len n count) asks
 
-ask_taken : (q : Query) (rest : List Meant) → Takes (no_call_yet (meant.Ask ∷ rest)) (call.Ask q) (no_call_yet rest)
+pub ask_taken : (q : Query) (rest : List Meant) → Takes (no_call_yet (meant.Ask ∷ rest)) (call.Ask q) (no_call_yet rest)
 ask_taken q rest told is = (refl, refl)
 
 module _ (p : TablePlace) (table : ℕ) (q : Query) where
@@ -132,7 +132,7 @@ module _ (p : TablePlace) (table : ℕ) (q : Query) where
 
 -- ---- a query
 
-pub query_hears : (p : TablePlace) (fleet : Fleet) (q : Query) (pieces : List Piece) → AreDistinct fleet.names → p.leaf < leaf_count fleet → slice_get fleet.names p.table ≡ Some p.name
+pub query_hears : (p : TablePlace) (fleet : FleetShape) (q : Query) (pieces : List Piece) → AreDistinct fleet.names → p.leaf < leaf_count fleet → slice_get fleet.names p.table ≡ Some p.name
     → QueryPieces fleet q pieces → AreProper p pieces
     → (rest : List Meant) → Hears p (no_call_yet (option_to_list (some_when (bytes_eq q.table p.name) meant.Ask) ++ rest)) pieces (no_call_yet rest)
 query_hears p fleet q pieces distinct below at asked proper rest =

@@ -2,13 +2,13 @@
 use Rattle.std.proofs.Common.{◌≡◌, inl, inr, ℕ, ◌==◌, ◌&&◌, Bool, true, false, MatchBool, List, [], ◌∷◌, ◌++◌, refl, sym, ap, subst, ◌∙◌, append_assoc}
 use Rattle.std.specs.Prelude.{Option, Some, None, IfSome, is_some, option_and_then, option_to_list, if◌then◌else◌}
 use Rattle.std.specs.List.{AllByRecursion, flat_map}
-use Rattle.leaf_model.specs.declared.rows.Row.{Row}
+use Rattle.row_model.specs.declared.rows.Row.{Row}
 use Rattle.leaf_model.specs.declared.queries.Query.{Query}
 use Rattle.leaf_history.specs.Calls.{Call}
 use Rattle.leaf_history.specs.Calls as call
 use Rattle.leaf_history.specs.History.{Entry}
 use Rattle.tail_picks.specs.Room.{every_row}
-use Rattle.tail_picks.specs.Tails.{TryOf, Tails, Goes, pick_of, words_of}
+use Rattle.tail_picks.specs.Tails.{TryOf, Tails, TryGoesOn, pick_of, words_of}
 use Rattle.printed_lines.specs.declared.line.Said.{Said}
 use Rattle.printed_lines.specs.declared.line.Said.TheVariants.{Added, RefusedShut}
 use Rattle.printed_lines.specs.declared.line.Line.TheVariants as line
@@ -18,7 +18,7 @@ use Rattle.standing_feed.specs.declared.meant.Now.TheVariants as now
 use Rattle.standing_feed.specs.Hearing.{CallsLeft, TablePlace, fed_by_call, fed_by_tail, fed_called, heard_from, is_at, left_by_tail, left_called, no_call_yet, rows_left, some_when}
 use Rattle.transcript.specs.Pieces.{Piece, Called, Worn, Says}
 use Rattle.transcript.specs.Shapes.{CallPiece}
-use Rattle.transcript.specs.Histories.{Ground}
+use Rattle.transcript.specs.Histories.{BaseState}
 use Rattle.transcript.specs.Tails.{TailPieces, TryPieces, free_then, pieces_of_try, tells_added}
 use Rattle.transcript_standing.proofs.HeardPieces.{AreProper, Hears, IsSaidOf, Takes, TakesOn, call_elsewhere, call_here, called_hears, hears_more, hears_none, proper_parts, worn_hears}
 
@@ -165,7 +165,7 @@ module _ (p : TablePlace) (table : ℕ) (rows : List Row) (left : Option (List R
   -- the picked one, and then the other tries, where it did not take the rows
   added_on : (free : Piece → Option ℕ) (calls : CallsLeft) (added : Option Piece) (pick : Option ℕ) (ts : List (TryOf Piece)) (sent : Option ℕ) (Others : Type 0)
       → InTail left more calls → is_some added ≡ is_some pick → IfSome added (λ q. IfSome pick (λ leaf. CallPiece leaf table (call.Add rows) q))
-      → Goes free tells_added (option_and_then (λ r. if tells_added r then pick else None) added) ts sent Others
+      → TryGoesOn free tells_added (option_and_then (λ r. if tells_added r then pick else None) added) ts sent Others
       → AreProper p (option_to_list added)
       → (Others → (next : CallsLeft) → InTail left more next → EndsIn p more next (flat_map pieces_of_try ts))
       → EndsIn p more calls (option_to_list added ++ flat_map pieces_of_try ts)
@@ -173,7 +173,7 @@ module _ (p : TablePlace) (table : ℕ) (rows : List Row) (left : Option (List R
   added_on free calls (Some piece) None ts sent Others still even is goes proper further = absurd cc
   added_on free calls (Some piece) (Some leaf) ts sent Others still even is goes proper further = by (tells_added piece) refl goes (add_on calls leaf piece still is proper)
     where
-      by : (b : Bool) → tells_added piece ≡ b → Goes free tells_added (if b then Some leaf else None) ts sent Others → AddsIn p left more calls piece
+      by : (b : Bool) → tells_added piece ≡ b → TryGoesOn free tells_added (if b then Some leaf else None) ts sent Others → AddsIn p left more calls piece
           → EndsIn p more calls (piece ∷ flat_map pieces_of_try ts)
       by true e goes a =
           subst (λ (us : List (TryOf Piece)). EndsIn p more calls (piece ∷ flat_map pieces_of_try us)) (sym goes.0) (record { left = a.left; next = a.next; hears = a.hears; still = a.still })
@@ -208,15 +208,15 @@ second_true : (a b : Bool) → (a && b) ≡ true → b ≡ true
 second_true true b e = e
 second_true false b e = absurd cc
 
-pub tail_hears : (p : TablePlace) (leaves : ℕ) (grounds : ℕ → Ground) (histories : ℕ → List Entry) (key table : ℕ) (rows : List Row) (pieces : List Piece)
-    → TailPieces leaves grounds histories key table rows pieces → AreProper p pieces
+pub tail_hears : (p : TablePlace) (leaves : ℕ) (base_states : ℕ → BaseState) (histories : ℕ → List Entry) (key table : ℕ) (rows : List Row) (pieces : List Piece)
+    → TailPieces leaves base_states histories key table rows pieces → AreProper p pieces
     → (rest : List Meant) → Hears p (no_call_yet (meant.Tail (some_when (table == p.table) rows) ∷ rest)) pieces (no_call_yet rest)
-tail_hears p leaves grounds histories key table rows pieces t proper rest =
+tail_hears p leaves base_states histories key table rows pieces t proper rest =
     let left : Option (List Row) = some_when (table == p.table) rows in
     let calls : CallsLeft = no_call_yet (meant.Tail left ∷ rest) in
     let tries : List Piece = flat_map pieces_of_try t.tries in
     let parts = proper_parts p tries (Says (line.Tailed t.sent) ∷ []) (subst (λ (ps : List Piece). AreProper p ps) t.are proper) in
     let r = tries_hear p table rows left (λ leaf e. ap (λ (b : Bool). some_when b rows) (second_true (leaf == p.leaf) (table == p.table) e)) rest
-    (free_then grounds histories) leaves (words_of key) t.tries t.sent calls (tail_begins left rest) t.tails t.calls parts.0 in
+    (free_then base_states histories) leaves (words_of key) t.tries t.sent calls (tail_begins left rest) t.tails t.calls parts.0 in
     subst (λ (ps : List Piece). Hears p calls ps (no_call_yet rest)) (sym t.are)
     (hears_more p calls r.next (no_call_yet rest) tries (Says (line.Tailed t.sent) ∷ []) r.hears (tailed_hears p r.left rest r.next t.sent r.still))

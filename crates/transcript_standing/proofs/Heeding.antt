@@ -14,7 +14,7 @@ use Rattle.standing_query.specs.States.{StandingState, is_end}
 use Rattle.standing_feed.specs.declared.heard.Heard.{Heard}
 use Rattle.standing_feed.specs.Following.{Ascend, FeedsTo, Heeds, HeedsAll, HeedsInOrder}
 use Rattle.standing_feed.specs.Following as following
-use Rattle.transcript.specs.Histories.{Ground, Shown}
+use Rattle.transcript.specs.Histories.{BaseState, Shown}
 use Rattle.transcript.specs.Telling.{ends_state}
 use Rattle.transcript_standing.proofs.HeardPieces.{fed_of, heard_of}
 use Rattle.transcript_standing.proofs.Numbers.{ShowsIn}
@@ -45,7 +45,7 @@ first_heeded s hs t h others (following.more a b c h' others' between one rest a
     let both = first_same h' h others' others (sym are ∙ is) in
     (between, subst (λ (x : Heard). Heeds a x between) both.0 one, subst (λ (xs : List Heard). HeedsAll between xs c) both.1 rest)
 
-one_on : (g : Ground) (entries : List Entry) → LegalFrom g.founded g.base entries → (x : Shown) (k : ℕ) (s t : StandingState) → x.number ≡ k + 1 → ShowsIn entries x → AddsTimes x
+one_on : (g : BaseState) (entries : List Entry) → LegalFrom g.founded g.base entries → (x : Shown) (k : ℕ) (s t : StandingState) → x.number ≡ k + 1 → ShowsIn entries x → AddsTimes x
     → (s.stale ≡ false → Knows g entries k s) → FeedsTo s (heard_of x) t → t.stale ≡ false → Knows g entries (k + 1) t
 one_on g entries legal x k s t number shows adds now feeds fresh =
     let both = or_parts s.stale (is_end (fed_of x.call x.said)) (sym feeds.stale ∙ fresh) in
@@ -56,7 +56,7 @@ one_on g entries legal x k s t number shows adds now feeds fresh =
       step.none_below,
     )
 
-pub heeds_all_on : (g : Ground) (entries : List Entry) → LegalFrom g.founded g.base entries → (ss : List Shown) (k m : ℕ) (s t : StandingState)
+pub heeds_all_on : (g : BaseState) (entries : List Entry) → LegalFrom g.founded g.base entries → (ss : List Shown) (k m : ℕ) (s t : StandingState)
     → CountUp k ss m → AllByRecursion (ShowsIn entries) ss → AllByRecursion AddsTimes ss
     → s.upto ≡ k → (s.stale ≡ false → Knows g entries k s)
     → HeedsAll s (map heard_of ss) t → FedBehind g entries ss m s t
@@ -113,7 +113,7 @@ ascend_on zs up i j d le lt =
     let at = up i j (heard_of d) le (omega (arith, long, lt)) in
     omega (arith, here, there, at)
 
-pub heeds_on : (g : Ground) (entries : List Entry) → LegalFrom g.founded g.base entries → (ss : List Shown) (k m : ℕ) (s t : StandingState)
+pub heeds_on : (g : BaseState) (entries : List Entry) → LegalFrom g.founded g.base entries → (ss : List Shown) (k m : ℕ) (s t : StandingState)
     → ((zs : List Shown) → IsPermutation ss zs → IsNonDecreasingBy (λ (z : Shown). z.number) zs → CountUp k zs m) → AllByRecursion (ShowsIn entries) ss → AllByRecursion AddsTimes ss
     → s.upto ≡ k → (s.stale ≡ false → Knows g entries k s)
     → HeedsInOrder s (map heard_of ss) t → FedBehind g entries ss m s t

@@ -16,7 +16,7 @@ use Rattle.leaf_history.specs.History.{Entry}
 use Rattle.region_layout.specs.Names.{AreNames}
 use Rattle.script_text.specs.declared.command.Command.{Command}
 use Rattle.script_text.specs.declared.command.Command.TheVariants as command
-use Rattle.script_text.specs.declared.fleet.Fleet.{Fleet}
+use Rattle.script_text.specs.declared.fleet.FleetShape.{FleetShape}
 use Rattle.script_text.specs.declared.item.Item.{Item}
 use Rattle.printed_lines.specs.declared.line.Said.TheVariants.{Asked}
 use Rattle.printed_lines.specs.declared.line.Line.{Line}
@@ -27,12 +27,12 @@ use Rattle.standing_feed.specs.declared.follower.Follower.{Follower}
 use Rattle.standing_feed.specs.declared.heard.Heard.{Heard}
 use Rattle.standing_query.specs.declared.fed.Fed.TheVariants as fed
 use Rattle.standing_feed.specs.Hearing.{TablePlace, heard, heard_from, is_at, no_call_yet, some_when}
-use Rattle.standing_feed.specs.Following.{new_follower, place_of, settled}
+use Rattle.standing_feed.specs.Following.{new_follower, table_place_of, settled}
 use Rattle.transcript.specs.Pieces.{Piece, Called, Says, Played, PlayedItem, One, Burst, all_pieces, item_lines, lines_in, pieces_in, place_among, plays_in, plays_of}
 use Rattle.transcript.specs.Shapes.{CallPiece}
-use Rattle.transcript.specs.Histories.{Ground, Shown, shown, shown_if}
-use Rattle.transcript.specs.Transcript.{Known, Transcript, grounds_of}
-use Rattle.transcript.specs.Telling.{Standing, declared, declared_of, ends_state, has_told, is_ended, last_number, tells_rows}
+use Rattle.transcript.specs.Histories.{BaseState, Shown, shown, shown_if}
+use Rattle.transcript.specs.Transcript.{Known, Transcript, base_states_of}
+use Rattle.transcript.specs.Telling.{StandingQuery, declared, declared_of, ends_state, has_told, is_ended, last_number, tells_rows}
 use Rattle.transcript_standing.specs.Followed.{AreAsked, AreTimes, DeclaresOne, DoesItself, IsOfLane, IsPlayable, TellsItself, TellsOne, TellsState}
 use Rattle.transcript_standing.proofs.Lists.{get_before, get_behind, get_beside_set, get_of_set, name_there, same_some}
 use Rattle.transcript_standing.proofs.Numbers.{IsStretch}
@@ -46,8 +46,8 @@ use Rattle.transcript_standing.proofs.Standing.{AllStand, StandsAt, counts_up, f
 quiet_told : (standing : ℕ) (f : Follower) (told : Line) → TellsState standing f told → TellsOnce (Says told ∷ [])
 quiet_told standing f told tells = (line.Told standing f.standing.upto tells.0, tt, ap (λ (l : Line). Says l ∷ []) tells.1)
 
-module _ (fleet : Fleet) (grounds : ℕ → ℕ → Ground) (histories : ℕ → ℕ → List Entry) where
-  tells_own : (standing : ℕ) (f : Follower) (pieces : List Piece) (g : Follower) → TellsItself fleet grounds histories standing f pieces g → TellsOnce pieces ⊎ AsksOnce pieces
+module _ (fleet : FleetShape) (base_states : ℕ → ℕ → BaseState) (histories : ℕ → ℕ → List Entry) where
+  tells_own : (standing : ℕ) (f : Follower) (pieces : List Piece) (g : Follower) → TellsItself fleet base_states histories standing f pieces g → TellsOnce pieces ⊎ AsksOnce pieces
   tells_own standing f pieces g (TellsItself.fresh told fresh are tells same) =
       let once = quiet_told standing f told tells in
       inl (once.0, once.1, are ∙ once.2)
@@ -72,12 +72,12 @@ module _ (fleet : Fleet) (grounds : ℕ → ℕ → Ground) (histories : ℕ →
     are = are;
   })
 
-  one_own : (c : Command) (pieces : List Piece) (fs mids : List Follower) → DoesItself fleet grounds histories (One (record { command = c; pieces = pieces })) fs mids → PrintsOwnOf c pieces
+  one_own : (c : Command) (pieces : List Piece) (fs mids : List Follower) → DoesItself fleet base_states histories (One (record { command = c; pieces = pieces })) fs mids → PrintsOwnOf c pieces
   one_own (command.Standing leaf q) pieces fs mids does = (line.Declared (length fs), tt, does.pieces_are)
   one_own (command.Tell standing) pieces fs mids does = tells_own standing does.old pieces does.new does.tells
   one_own _ pieces fs mids does = tt
 
-  pub item_own : (x : PlayedItem) (fs mids : List Follower) → IsPlayable x → DoesItself fleet grounds histories x fs mids → AllByRecursion PrintsOwn (plays_of x)
+  pub item_own : (x : PlayedItem) (fs mids : List Follower) → IsPlayable x → DoesItself fleet base_states histories x fs mids → AllByRecursion PrintsOwn (plays_of x)
   item_own (One p) fs mids may does = (one_own p.command p.pieces fs mids does, tt)
   item_own (Burst lanes) fs mids may does = lanes_own lanes may
 
@@ -135,10 +135,10 @@ asked_heard p leaf table number told rows standing upto is =
 -- the standing queries of commands
 pub map_set : (fs : List Follower) (i : ℕ) (f g : Follower) → slice_get fs i ≡ Some f → standing_of g ≡ standing_of f → map standing_of (slice_set fs i g) ≡ map standing_of fs
 map_set [] i f g at same = refl
-map_set (h ∷ fs) zero f g at same = ap (λ (s : Standing). s ∷ map standing_of fs) (same ∙ ap standing_of (sym (same_some h f at)))
-map_set (h ∷ fs) (suc i) f g at same = ap (λ (ss : List Standing). standing_of h ∷ ss) (map_set fs i f g at same)
+map_set (h ∷ fs) zero f g at same = ap (λ (s : StandingQuery). s ∷ map standing_of fs) (same ∙ ap standing_of (sym (same_some h f at)))
+map_set (h ∷ fs) (suc i) f g at same = ap (λ (ss : List StandingQuery). standing_of h ∷ ss) (map_set fs i f g at same)
 
-module _ (fleet : Fleet) where
+module _ (fleet : FleetShape) where
   pub declared_more : (before : List PlayedItem) (x : PlayedItem) → declared fleet (before ++ x ∷ []) ≡ declared fleet before ++ declared fleet (x ∷ [])
   declared_more before x =
       ap (λ (ps : List Played). flat_map (λ (p : Played). declared_of fleet p.command) ps) (flat_map-append plays_of before (x ∷ []))
@@ -151,28 +151,28 @@ module _ (fleet : Fleet) where
 
   plays_declare : (ps : List Played) → AllByRecursion (λ (p : Played). IsOfLane p.command) ps → flat_map (λ (p : Played). declared_of fleet p.command) ps ≡ []
   plays_declare [] all = refl
-  plays_declare (p ∷ ps) all = ap₂ (λ (a b : List Standing). a ++ b) (lane_declares p.command all.0) (plays_declare ps all.1)
+  plays_declare (p ∷ ps) all = ap₂ (λ (a b : List StandingQuery). a ++ b) (lane_declares p.command all.0) (plays_declare ps all.1)
 
   pub burst_declares : (lanes : List (List Played)) → IsPlayable (Burst lanes) → declared fleet (Burst lanes ∷ []) ≡ []
   burst_declares lanes may = ap (λ (ps : List Played). flat_map (λ (p : Played). declared_of fleet p.command) ps) (append-nil (plays_of (Burst lanes))) ∙ plays_declare (plays_of (Burst lanes)) may
 
 -- ---- one item
 
-module _ (fleet : Fleet) (known : ℕ → Option Known) (items : List Item) (out : List ℕ) (t : Transcript fleet known items out) (names : AreNames fleet.names) where
-  abbrev pub grounds : ℕ → ℕ → Ground
-  grounds = grounds_of fleet known
+module _ (fleet : FleetShape) (known : ℕ → Option Known) (items : List Item) (out : List ℕ) (t : Transcript fleet known items out) (names : AreNames fleet.names) where
+  abbrev pub base_states : ℕ → ℕ → BaseState
+  base_states = base_states_of fleet known
 
   abbrev pub Stands : List PlayedItem → ℕ → Follower → Type 0
   Stands before i f = StandsAt fleet known items out t before i f
 
   abbrev pub Does : PlayedItem → List Follower → List Follower → Type 0
-  Does x fs mids = DoesItself fleet grounds t.histories x fs mids
+  Does x fs mids = DoesItself fleet base_states t.histories x fs mids
 
   -- what one is before it follows the lines of an item: as it was; made fresh at its last entry; or new
   pub data Mid (before : List PlayedItem) (x : PlayedItem) (fs : List Follower) (i : ℕ) (mid : Follower) : Type 0 where
     kept : slice_get fs i ≡ Some mid → (mid.standing.stale ≡ true → has_told i x ≡ false) → Mid before x fs i mid
     now : (old : Follower) → slice_get fs i ≡ Some old → old.standing.stale ≡ true → mid.standing.stale ≡ false → Stands (before ++ x ∷ []) i mid
-        → AllByRecursion (λ (h : Heard). h.number ≤ mid.standing.upto) (heard (place_of mid) [] (item_lines x)) → Mid before x fs i mid
+        → AllByRecursion (λ (h : Heard). h.number ≤ mid.standing.upto) (heard (table_place_of mid) [] (item_lines x)) → Mid before x fs i mid
     new : length fs ≤ i → Stands (before ++ x ∷ []) i mid → Mid before x fs i mid
 
   module _ (before : List PlayedItem) (c : Command) (pieces : List Piece) (behind : List PlayedItem) where
@@ -184,13 +184,13 @@ module _ (fleet : Fleet) (known : ℕ → Option Known) (items : List Item) (out
       -- it holds behind it
       pub record IsNow (f : Follower) (number : ℕ) (gs : List Group) : Type 0 where
         pub last_is : number ≡ last_number (shown f.leaf f.table (all_pieces (before ++ x ∷ [])))
-        pub knows : Knows (grounds f.leaf f.table) (t.histories f.leaf f.table) number (settled number gs f).standing
+        pub knows : Knows (base_states f.leaf f.table) (t.histories f.leaf f.table) number (settled number gs f).standing
 
       pub is_now : (i : ℕ) (f : Follower) (number : ℕ) (gs : List Group) (told : Line) → Stands before i f → pieces ≡ Called f.leaf f.table (call.Ask (spread f.standing.query)) number Asked ∷ Says told ∷ []
-          → AreAsked fleet grounds t.histories f number gs → IsNow f number gs
+          → AreAsked fleet base_states t.histories f number gs → IsNow f number gs
       is_now i f number gs told stands are asked =
           let q : Query = spread f.standing.query in
-          let g : Ground = grounds f.leaf f.table in
+          let g : BaseState = base_states f.leaf f.table in
           let es : List Entry = t.histories f.leaf f.table in
           let low : ℕ = last_number (shown f.leaf f.table (all_pieces before)) in
           let high : ℕ = last_number (shown f.leaf f.table (all_pieces (before ++ x ∷ []))) in
@@ -215,7 +215,7 @@ module _ (fleet : Fleet) (known : ℕ → Option Known) (items : List Item) (out
           ap (λ (ss : List Shown). list_any (λ (e : Shown). ends_state e.call e.said) ss) (asked_shown f.leaf f.table number (spread f.standing.query) told (pieces ++ []) (append-nil pieces ∙ are))
 
       stands_now : (i : ℕ) (f : Follower) (number : ℕ) (gs : List Group) (told : Line) → Stands before i f → f.standing.stale ≡ true
-          → pieces ≡ Called f.leaf f.table (call.Ask (spread f.standing.query)) number Asked ∷ Says told ∷ [] → AreAsked fleet grounds t.histories f number gs → has_told i x ≡ true
+          → pieces ≡ Called f.leaf f.table (call.Ask (spread f.standing.query)) number Asked ∷ Says told ∷ [] → AreAsked fleet base_states t.histories f number gs → has_told i x ≡ true
           → Stands (before ++ x ∷ []) i (settled number gs f)
       stands_now i f number gs told stands stale are asked tells =
           let n = is_now i f number gs told stands are asked in
@@ -224,7 +224,7 @@ module _ (fleet : Fleet) (known : ℕ → Option Known) (items : List Item) (out
             named = stands.named;
             fresh = fresh_more fleet known items out t before x behind cut i (standing_of f)
                 ∙ ap₂ (λ (a b : Bool). a && not b) (ap₂ (λ (a b : Bool). a || b) (stands.fresh ∙ ap not stale) tells) (not_ended f number told are);
-            knows = λ fresh. (n.last_is, subst (λ (m : ℕ). Knows (grounds f.leaf f.table) (t.histories f.leaf f.table) m (settled number gs f).standing) n.last_is n.knows);
+            knows = λ fresh. (n.last_is, subst (λ (m : ℕ). Knows (base_states f.leaf f.table) (t.histories f.leaf f.table) m (settled number gs f).standing) n.last_is n.knows);
           }
 
       told_rows : (i number : ℕ) (f : Follower) (told : Line) (standing upto : ℕ) (rows : List (List ℕ)) → told ≡ line.Told standing upto rows
@@ -237,7 +237,7 @@ module _ (fleet : Fleet) (known : ℕ → Option Known) (items : List Item) (out
 
   -- one that was declared
   standing_mid : (before : List PlayedItem) (leaf : ℕ) (q : Query) (pieces : List Piece) (behind : List PlayedItem) → t.played ≡ before ++ alone (command.Standing leaf q) pieces ∷ behind → (fs mids : List Follower)
-      → AllStand fleet known items out t before fs → DeclaresOne fleet grounds t.histories leaf q pieces fs mids → (i : ℕ) (mid : Follower) → slice_get mids i ≡ Some mid → Mid before (alone (command.Standing leaf q) pieces) fs i mid
+      → AllStand fleet known items out t before fs → DeclaresOne fleet base_states t.histories leaf q pieces fs mids → (i : ℕ) (mid : Follower) → slice_get mids i ≡ Some mid → Mid before (alone (command.Standing leaf q) pieces) fs i mid
   standing_mid before leaf q pieces behind cut fs mids all d i mid at = by (nat_lt i (length fs)) refl
     where
       there : slice_get (fs ++ new_follower leaf (place_among q.table fleet.names) q ∷ []) i ≡ Some mid
@@ -258,7 +258,7 @@ module _ (fleet : Fleet) (known : ℕ → Option Known) (items : List Item) (out
 
   -- one that told, or another
   tell_mid : (before : List PlayedItem) (standing : ℕ) (pieces : List Piece) (behind : List PlayedItem) → t.played ≡ before ++ alone (command.Tell standing) pieces ∷ behind → (fs mids : List Follower)
-      → AllStand fleet known items out t before fs → TellsOne fleet grounds t.histories standing pieces fs mids → (i : ℕ) (mid : Follower) → slice_get mids i ≡ Some mid → Mid before (alone (command.Tell standing) pieces) fs i mid
+      → AllStand fleet known items out t before fs → TellsOne fleet base_states t.histories standing pieces fs mids → (i : ℕ) (mid : Follower) → slice_get mids i ≡ Some mid → Mid before (alone (command.Tell standing) pieces) fs i mid
   tell_mid before standing pieces behind cut fs mids all d i mid at = by (standing == i) refl
     where
       there : slice_get (slice_set fs standing d.new) i ≡ Some mid
@@ -268,7 +268,7 @@ module _ (fleet : Fleet) (known : ℕ → Option Known) (items : List Item) (out
       kept_here : standing ≡ i → d.new ≡ mid → d.new ≡ d.old → (mid.standing.stale ≡ true → has_told i (alone (command.Tell standing) pieces) ≡ false) → Mid before (alone (command.Tell standing) pieces) fs i mid
       kept_here here is same untold = Mid.kept (subst (λ (n : ℕ). slice_get fs n ≡ Some mid) here (d.at ∙ ap (λ (f : Follower). Some f) (sym same ∙ is))) untold
 
-      itself : standing ≡ i → d.new ≡ mid → TellsItself fleet grounds t.histories standing d.old pieces d.new → Mid before (alone (command.Tell standing) pieces) fs i mid
+      itself : standing ≡ i → d.new ≡ mid → TellsItself fleet base_states t.histories standing d.old pieces d.new → Mid before (alone (command.Tell standing) pieces) fs i mid
       itself here is (TellsItself.fresh told fresh are tells same) =
           kept_here here is same (λ stale. absurd (apart (sym fresh ∙ (ap (λ (f : Follower). f.standing.stale) (sym same ∙ is) ∙ stale))))
         where
@@ -289,9 +289,9 @@ module _ (fleet : Fleet) (known : ℕ → Option Known) (items : List Item) (out
           Mid.now d.old (subst (λ (n : ℕ). slice_get fs n ≡ Some d.old) here d.at) stale (ap (λ (f : Follower). f.standing.stale) (sym settled_is))
           (subst (λ (f : Follower). Stands (before ++ alone (command.Tell standing) pieces ∷ []) i f) settled_is
           (stands_now before (command.Tell standing) pieces behind cut i d.old number gs told stands stale are asked is_told))
-          (subst (λ (f : Follower). AllByRecursion (λ (h : Heard). h.number ≤ f.standing.upto) (heard (place_of f) [] (lines_in pieces))) settled_is
-          (subst (λ (ps : List Piece). AllByRecursion (λ (h : Heard). h.number ≤ number) (heard (place_of d.old) [] (lines_in ps))) (sym are)
-          (asked_heard (place_of d.old) d.old.leaf d.old.table number told tells.0 standing number tells.1)))
+          (subst (λ (f : Follower). AllByRecursion (λ (h : Heard). h.number ≤ f.standing.upto) (heard (table_place_of f) [] (lines_in pieces))) settled_is
+          (subst (λ (ps : List Piece). AllByRecursion (λ (h : Heard). h.number ≤ number) (heard (table_place_of d.old) [] (lines_in ps))) (sym are)
+          (asked_heard (table_place_of d.old) d.old.leaf d.old.table number told tells.0 standing number tells.1)))
 
       by : (b : Bool) → (standing == i) ≡ b → Mid before (alone (command.Tell standing) pieces) fs i mid
       by true e =

@@ -8,7 +8,7 @@ use Rattle.std.proofs.lemmas.List.Elements.{All-from_recursion, recursion_from_A
 use Rattle.std.proofs.lemmas.List.Sorted.{All-permutation, IsPermutation-map, IsPermutation-sym}
 use Rattle.leaf_history.specs.History.{Entry}
 use Rattle.transcript.specs.Pieces.{Piece, Played, PlayedItem, One, Burst, all_pieces, pieces_in, plays_in, plays_of}
-use Rattle.transcript.specs.Histories.{Ground, InOrder, IsHistoryOf, ItemRises, Rises, Shown, Shows, Tells, shown, shown_in}
+use Rattle.transcript.specs.Histories.{BaseState, InOrder, IsHistoryOf, ItemRises, Rises, Shown, ShowsEntry, Tells, shown, shown_in}
 use Rattle.transcript.specs.Telling.{last_number}
 use Rattle.transcript_standing.proofs.Counting.{all_weaken, all_front, all_back, times, times_same, of_each, same_from_times, range_has, cut_at}
 
@@ -18,7 +18,7 @@ numbers ss = map (λ (s : Shown). s.number) ss
 
 -- the entry of that number is what the line says
 abbrev pub ShowsIn : List Entry → Shown → Type 0
-ShowsIn entries s = (0 < s.number) × ((e : Entry) × (slice_get entries (s.number - 1) ≡ Some e) × Shows s.call s.said e)
+ShowsIn entries s = (0 < s.number) × ((e : Entry) × (slice_get entries (s.number - 1) ≡ Some e) × ShowsEntry s.call s.said e)
 
 -- What is known of lines behind others: they have the numbers above `low` and up to `high`, each once, and each shows
 -- its entry.
@@ -140,7 +140,7 @@ told_numbers n (s ∷ ss) (e ∷ es) t =
 
 -- the same of entries from the one behind the n-th on
 abbrev ShowsFrom : ℕ → List Entry → Shown → Type 0
-ShowsFrom n es s = (n < s.number) × ((e : Entry) × (slice_get es (s.number - suc n) ≡ Some e) × Shows s.call s.said e)
+ShowsFrom n es s = (n < s.number) × ((e : Entry) × (slice_get es (s.number - suc n) ≡ Some e) × ShowsEntry s.call s.said e)
 
 one_before : (n : ℕ) (e : Entry) (es : List Entry) (s : Shown) → ShowsFrom (suc n) es s → ShowsFrom n (e ∷ es) s
 one_before n e es s h =
@@ -157,7 +157,7 @@ told_each n (s ∷ ss) (e ∷ es) t =
       all_weaken (ShowsFrom (suc n) es) (ShowsFrom n (e ∷ es)) (one_before n e es) ss (told_each (suc n) ss es t.2),
     )
 
-module _ (g : Ground) (entries : List Entry) (lines : List Shown) (history : IsHistoryOf g lines entries) where
+module _ (g : BaseState) (entries : List Entry) (lines : List Shown) (history : IsHistoryOf g lines entries) where
   all_counted : (k : ℕ) → times k (numbers lines) ≡ times k (range_with_len 1 (length entries))
   all_counted k =
       times_same (numbers lines) (numbers history.placed) (IsPermutation-map (λ (s : Shown). s.number) lines history.placed history.same) k
@@ -204,7 +204,7 @@ next_stretch entries front here middle below above whole =
     }
 
 -- of the items that a run began with: their lines have the first numbers
-pub stretch_before : (leaf table : ℕ) (g : Ground) (entries : List Entry) (before behind : List PlayedItem) → IsHistoryOf g (shown leaf table (all_pieces (before ++ behind))) entries
+pub stretch_before : (leaf table : ℕ) (g : BaseState) (entries : List Entry) (before behind : List PlayedItem) → IsHistoryOf g (shown leaf table (all_pieces (before ++ behind))) entries
     → InOrder leaf table 0 (before ++ behind) (length entries) → IsStretch entries 0 (last_number (shown leaf table (all_pieces before))) (shown leaf table (all_pieces before))
 stretch_before leaf table g entries before behind history order =
     let front = shown leaf table (all_pieces before) in
@@ -221,7 +221,7 @@ stretch_before leaf table g entries before behind history order =
     (subst (AllByRecursion (ShowsIn entries)) same (all_show g entries lines history))
 
 -- of one item: its lines have the numbers behind those of all items before it
-pub stretch_of_item : (leaf table : ℕ) (g : Ground) (entries : List Entry) (before : List PlayedItem) (x : PlayedItem) (behind : List PlayedItem)
+pub stretch_of_item : (leaf table : ℕ) (g : BaseState) (entries : List Entry) (before : List PlayedItem) (x : PlayedItem) (behind : List PlayedItem)
     → IsHistoryOf g (shown leaf table (all_pieces (before ++ x ∷ behind))) entries → InOrder leaf table 0 (before ++ x ∷ behind) (length entries)
     → IsStretch entries (last_number (shown leaf table (all_pieces before))) (last_number (shown leaf table (all_pieces (before ++ x ∷ [])))) (shown leaf table (pieces_in (plays_of x)))
 stretch_of_item leaf table g entries before x behind history order =

@@ -11,7 +11,7 @@ use Rattle.leaf_history.specs.Calls as call
 use Rattle.region_layout.specs.Names.{AreNames}
 use Rattle.script_text.specs.declared.command.Command.{Command}
 use Rattle.script_text.specs.declared.command.Command.TheVariants as command
-use Rattle.script_text.specs.declared.fleet.Fleet.{Fleet}
+use Rattle.script_text.specs.declared.fleet.FleetShape.{FleetShape}
 use Rattle.script_text.specs.declared.item.Item.{Item}
 use Rattle.printed_lines.specs.declared.line.Said.TheVariants.{Asked}
 use Rattle.printed_lines.specs.declared.line.Line.{Line}
@@ -22,11 +22,11 @@ use Rattle.standing_feed.specs.declared.follower.Follower.{Follower}
 use Rattle.standing_feed.specs.declared.heard.Heard.{Heard}
 use Rattle.standing_feed.specs.declared.meant.Meant.{Meant}
 use Rattle.standing_feed.specs.Hearing.{TablePlace, heard, meant_in}
-use Rattle.standing_feed.specs.Following.{FollowAll, Follows, HeedsInOrder, new_follower, noted, place_of}
+use Rattle.standing_feed.specs.Following.{FollowAll, Follows, HeedsInOrder, new_follower, meant_for, table_place_of}
 use Rattle.transcript.specs.Pieces.{Piece, Called, Says, Played, PlayedItem, One, Burst, all_pieces, item_lines, item_of, pieces_in, place_among, plays_in, plays_of}
-use Rattle.transcript.specs.Histories.{Ground, Shown, rows_before, shown, shown_in}
-use Rattle.transcript.specs.Transcript.{Known, Transcript, grounds_of}
-use Rattle.transcript.specs.Telling.{AsksFirst, IsTold, Standing, Tells, declared, has_told, is_ended, is_fresh, last_number, line_behind, tells_rows, told_line}
+use Rattle.transcript.specs.Histories.{BaseState, Shown, rows_before, shown, shown_in}
+use Rattle.transcript.specs.Transcript.{Known, Transcript, base_states_of}
+use Rattle.transcript.specs.Telling.{AsksFirst, IsTold, StandingQuery, TellsStanding, declared, has_told, is_ended, is_fresh, last_number, line_behind, tells_rows, told_line}
 use Rattle.transcript_standing.specs.Followed.{DoesItself, FollowedAll, IsPlayable, TellsItself}
 use Rattle.transcript_standing.specs.Laws.{TellRight}
 use Rattle.transcript_standing.proofs.Lists.{get_mapped, get_unmapped, length_of_set, place_within, same_some}
@@ -34,15 +34,15 @@ use Rattle.transcript_standing.proofs.HeardPieces.{PrintsOwn}
 use Rattle.transcript_standing.proofs.Mids.{Mid, apart_places, burst_declares, declared_more, is_now, item_own, map_set, mids_at, same_follower}
 use Rattle.transcript_standing.proofs.Standing.{AllStand, StandsAt, as_many, followed_at, fresh_more, hears_item, last, order_known, standing_of, standings_same, stays_stale}
 
-module _ (fleet : Fleet) (known : ℕ → Option Known) (items : List Item) (out : List ℕ) (t : Transcript fleet known items out) (names : AreNames fleet.names) where
-  abbrev grounds : ℕ → ℕ → Ground
-  grounds = grounds_of fleet known
+module _ (fleet : FleetShape) (known : ℕ → Option Known) (items : List Item) (out : List ℕ) (t : Transcript fleet known items out) (names : AreNames fleet.names) where
+  abbrev base_states : ℕ → ℕ → BaseState
+  base_states = base_states_of fleet known
 
   abbrev Stands : List PlayedItem → ℕ → Follower → Type 0
   Stands before i f = StandsAt fleet known items out t before i f
 
   abbrev Does : PlayedItem → List Follower → List Follower → Type 0
-  Does x fs mids = DoesItself fleet grounds t.histories x fs mids
+  Does x fs mids = DoesItself fleet base_states t.histories x fs mids
 
   abbrev alone : Command → List Piece → PlayedItem
   alone c pieces = One (record { command = c; pieces = pieces })
@@ -50,20 +50,20 @@ module _ (fleet : Fleet) (known : ℕ → Option Known) (items : List Item) (out
   -- ---- behind it
 
   module _ (before : List PlayedItem) (x : PlayedItem) (behind : List PlayedItem) (cut : t.played ≡ before ++ x ∷ behind) (fs mids news : List Follower) (all : AllStand fleet known items out t before fs)
-      (may : IsPlayable x) (does : Does x fs mids) (follow : FollowAll (map (noted (item_of x)) fs) (item_lines x) mids news) where
+      (may : IsPlayable x) (does : Does x fs mids) (follow : FollowAll (map (meant_for (item_of x)) fs) (item_lines x) mids news) where
     own : AllByRecursion PrintsOwn (plays_of x)
-    own = item_own fleet grounds t.histories x fs mids may does
+    own = item_own fleet base_states t.histories x fs mids may does
 
     -- whether notes were taken of one
-    hears_noted : (b : Bool) (f : Follower) (calls : List Meant) → f.standing.stale ≡ b → calls ≡ noted (item_of x) f → calls ≡ (if b then [] else meant_in (place_of f) (item_of x))
-    hears_noted b f calls is same = same ∙ ap (λ (s : Bool). if s then [] else meant_in (place_of f) (item_of x)) is
+    hears_noted : (b : Bool) (f : Follower) (calls : List Meant) → f.standing.stale ≡ b → calls ≡ meant_for (item_of x) f → calls ≡ (if b then [] else meant_in (table_place_of f) (item_of x))
+    hears_noted b f calls is same = same ∙ ap (λ (s : Bool). if s then [] else meant_in (table_place_of f) (item_of x)) is
 
     -- one that was there and did nothing
-    kept_stands : (i : ℕ) (f g : Follower) (calls : List Meant) → slice_get fs i ≡ Some f → (f.standing.stale ≡ true → has_told i x ≡ false) → calls ≡ noted (item_of x) f → Follows calls (item_lines x) f g
+    kept_stands : (i : ℕ) (f g : Follower) (calls : List Meant) → slice_get fs i ≡ Some f → (f.standing.stale ≡ true → has_told i x ≡ false) → calls ≡ meant_for (item_of x) f → Follows calls (item_lines x) f g
         → Stands (before ++ x ∷ []) i g
     kept_stands i f g calls at untold noted_is follows = by f.standing.stale refl
       where
-        stale_hears : (b : Bool) → b ≡ true → MatchBool b (g ≡ f) (HeedsInOrder f.standing (heard (place_of f) calls (item_lines x)) g.standing) → g ≡ f
+        stale_hears : (b : Bool) → b ≡ true → MatchBool b (g ≡ f) (HeedsInOrder f.standing (heard (table_place_of f) calls (item_lines x)) g.standing) → g ≡ f
         stale_hears true is hears = hears
         stale_hears false is hears = absurd cc
 
@@ -77,48 +77,48 @@ module _ (fleet : Fleet) (known : ℕ → Option Known) (items : List Item) (out
 
     -- one that was made fresh knows what it hears
     now_stands : (i : ℕ) (old mid g : Follower) (calls : List Meant) → old.standing.stale ≡ true → mid.standing.stale ≡ false → Stands (before ++ x ∷ []) i mid
-        → AllByRecursion (λ (h : Heard). h.number ≤ mid.standing.upto) (heard (place_of mid) [] (item_lines x)) → calls ≡ noted (item_of x) old → Follows calls (item_lines x) mid g → Stands (before ++ x ∷ []) i g
+        → AllByRecursion (λ (h : Heard). h.number ≤ mid.standing.upto) (heard (table_place_of mid) [] (item_lines x)) → calls ≡ meant_for (item_of x) old → Follows calls (item_lines x) mid g → Stands (before ++ x ∷ []) i g
     now_stands i old mid g calls stale fresh stands knows noted_is follows =
         let none : calls ≡ [] = hears_noted true old calls stale noted_is in
-        let hears : HeedsInOrder mid.standing (heard (place_of mid) [] (item_lines x)) g.standing =
-        subst (λ (cs : List Meant). HeedsInOrder mid.standing (heard (place_of mid) cs (item_lines x)) g.standing) none (fresh_hears mid.standing.stale fresh follows.hears) in
-        let state : g.standing ≡ mid.standing = order_known mid.standing (heard (place_of mid) [] (item_lines x)) g.standing knows hears in
+        let hears : HeedsInOrder mid.standing (heard (table_place_of mid) [] (item_lines x)) g.standing =
+        subst (λ (cs : List Meant). HeedsInOrder mid.standing (heard (table_place_of mid) cs (item_lines x)) g.standing) none (fresh_hears mid.standing.stale fresh follows.hears) in
+        let state : g.standing ≡ mid.standing = order_known mid.standing (heard (table_place_of mid) [] (item_lines x)) g.standing knows hears in
         let same : g ≡ mid = same_follower g mid (ap (λ (p : TablePlace). p.leaf) follows.place) (ap (λ (p : TablePlace). p.table) follows.place) state in
         subst (λ (h : Follower). Stands (before ++ x ∷ []) i h) (sym same) stands
       where
-        fresh_hears : (b : Bool) → b ≡ false → MatchBool b (g ≡ mid) (HeedsInOrder mid.standing (heard (place_of mid) calls (item_lines x)) g.standing)
-            → HeedsInOrder mid.standing (heard (place_of mid) calls (item_lines x)) g.standing
+        fresh_hears : (b : Bool) → b ≡ false → MatchBool b (g ≡ mid) (HeedsInOrder mid.standing (heard (table_place_of mid) calls (item_lines x)) g.standing)
+            → HeedsInOrder mid.standing (heard (table_place_of mid) calls (item_lines x)) g.standing
         fresh_hears true is hears = absurd cc
         fresh_hears false is hears = hears
 
     -- each of them
     each_stands : (i : ℕ) (g : Follower) → slice_get news i ≡ Some g → Stands (before ++ x ∷ []) i g
     each_stands i g at =
-        let f = followed_at (map (noted (item_of x)) fs) (item_lines x) mids news i g follow at in
+        let f = followed_at (map (meant_for (item_of x)) fs) (item_lines x) mids news i g follow at in
         by f.old (mids_at fleet known items out t names before x behind cut fs mids all does i f.old f.at) f.went
       where
-        noted_at : (calls : List Meant) (f : Follower) → slice_get (map (noted (item_of x)) fs) i ≡ Some calls → slice_get fs i ≡ Some f → calls ≡ noted (item_of x) f
-        noted_at calls f is has = same_some calls (noted (item_of x) f) (sym is ∙ get_mapped (noted (item_of x)) fs i f has)
+        noted_at : (calls : List Meant) (f : Follower) → slice_get (map (meant_for (item_of x)) fs) i ≡ Some calls → slice_get fs i ≡ Some f → calls ≡ meant_for (item_of x) f
+        noted_at calls f is has = same_some calls (meant_for (item_of x) f) (sym is ∙ get_mapped (meant_for (item_of x)) fs i f has)
 
-        as_many_notes : length (map (noted (item_of x)) fs) ≡ length fs
-        as_many_notes = length-map fs (noted (item_of x))
+        as_many_notes : length (map (meant_for (item_of x)) fs) ≡ length fs
+        as_many_notes = length-map fs (meant_for (item_of x))
 
-        by : (mid : Follower) → Mid fleet known items out t names before x fs i mid → ((calls : List Meant) × (slice_get (map (noted (item_of x)) fs) i ≡ Some calls) × Follows calls (item_lines x) mid g) ⊎ ((length (map (noted (item_of x)) fs) ≤ i) × (g ≡ mid))
+        by : (mid : Follower) → Mid fleet known items out t names before x fs i mid → ((calls : List Meant) × (slice_get (map (meant_for (item_of x)) fs) i ≡ Some calls) × Follows calls (item_lines x) mid g) ⊎ ((length (map (meant_for (item_of x)) fs) ≤ i) × (g ≡ mid))
             → Stands (before ++ x ∷ []) i g
         by mid (Mid.kept has untold) (inl w) = kept_stands i mid g w.0 has untold (noted_at w.0 mid w.1 has) w.2
         by mid (Mid.kept has untold) (inr w) = absurd (omega (arith, w.0, as_many_notes, place_within fs i mid has))
         by mid (Mid.now old has stale fresh stands knows) (inl w) = now_stands i old mid g w.0 stale fresh stands knows (noted_at w.0 old w.1 has) w.2
         by mid (Mid.now old has stale fresh stands knows) (inr w) = subst (λ (h : Follower). Stands (before ++ x ∷ []) i h) (sym w.1) stands
         by mid (Mid.new past stands) (inl w) =
-            let none = get_unmapped (noted (item_of x)) fs i w.0 w.1 in
+            let none = get_unmapped (meant_for (item_of x)) fs i w.0 w.1 in
             absurd (omega (arith, past, place_within fs i none.0 none.1))
         by mid (Mid.new past stands) (inr w) = subst (λ (h : Follower). Stands (before ++ x ∷ []) i h) (sym w.1) stands
 
     mids_are : (y : PlayedItem) → IsPlayable y → Does y fs mids → map standing_of fs ++ declared fleet (y ∷ []) ≡ map standing_of mids
-    mids_are (Burst lanes) plays d = ap (λ (ss : List Standing). map standing_of fs ++ ss) (burst_declares fleet lanes plays) ∙ (append-nil (map standing_of fs) ∙ ap (λ (ms : List Follower). map standing_of ms) (sym d))
+    mids_are (Burst lanes) plays d = ap (λ (ss : List StandingQuery). map standing_of fs ++ ss) (burst_declares fleet lanes plays) ∙ (append-nil (map standing_of fs) ∙ ap (λ (ms : List Follower). map standing_of ms) (sym d))
     mids_are (One p) plays d = by p.command d
       where
-        told_same : (standing : ℕ) (f g : Follower) → TellsItself fleet grounds t.histories standing f p.pieces g → standing_of g ≡ standing_of f
+        told_same : (standing : ℕ) (f g : Follower) → TellsItself fleet base_states t.histories standing f p.pieces g → standing_of g ≡ standing_of f
         told_same standing f g (TellsItself.fresh told fresh are tells same) = ap standing_of same
         told_same standing f g (TellsItself.made_fresh number gs told stale are asked tells same) = ap standing_of same
         told_same standing f g (TellsItself.stays_stale asked why stale ask untold are same) = ap standing_of same
@@ -156,12 +156,12 @@ module _ (fleet : Fleet) (known : ℕ → Option Known) (items : List Item) (out
     pub stand_behind : AllStand fleet known items out t (before ++ x ∷ []) news
     stand_behind = record {
       are = declared_more fleet before x
-          ∙ (ap (λ (ss : List Standing). ss ++ declared fleet (x ∷ [])) all.are
-          ∙ (mids_are x may does ∙ sym (standings_same (map (noted (item_of x)) fs) (item_lines x) mids news follow)));
+          ∙ (ap (λ (ss : List StandingQuery). ss ++ declared fleet (x ∷ [])) all.are
+          ∙ (mids_are x may does ∙ sym (standings_same (map (meant_for (item_of x)) fs) (item_lines x) mids news follow)));
       each = each_stands;
       none = λ i s past.
           let fewer = none_fewer x does in
-          let same = as_many (map (noted (item_of x)) fs) (item_lines x) mids news follow in
+          let same = as_many (map (meant_for (item_of x)) fs) (item_lines x) mids news follow in
           let below : length fs ≤ i = omega (arith, fewer, same, past) in
           fresh_more fleet known items out t before x behind cut i s
           ∙ ap₂ (λ (a b : Bool). (a || b) && not (is_ended s (pieces_in (plays_of x)))) (all.none i s below) (untold_past x does i below);
@@ -185,32 +185,32 @@ module _ (fleet : Fleet) (known : ℕ → Option Known) (items : List Item) (out
       ∙ sym (flat_map-append (shown_in leaf table) front (asked ∷ [])))
 
   tells_here : (before : List PlayedItem) (standing : ℕ) (pieces : List Piece) (behind : List PlayedItem) → t.played ≡ before ++ alone (command.Tell standing) pieces ∷ behind → (f g : Follower)
-      → Stands before standing f → slice_get (declared fleet before) standing ≡ Some (standing_of f) → TellsItself fleet grounds t.histories standing f pieces g → Tells fleet grounds t.histories standing before pieces
+      → Stands before standing f → slice_get (declared fleet before) standing ≡ Some (standing_of f) → TellsItself fleet base_states t.histories standing f pieces g → TellsStanding fleet base_states t.histories standing before pieces
   tells_here before standing pieces behind cut f g stands at tells = record { query = standing_of f; is = at; told = by tells }
     where
       state : (b : Bool) → f.standing.stale ≡ b → is_fresh standing (standing_of f) before ≡ not b
       state b is = stands.fresh ∙ ap not is
 
-      at_once : pieces ≡ Says (told_line fleet grounds t.histories standing (standing_of f) (all_pieces before)) ∷ [] → is_fresh standing (standing_of f) before ≡ true
-          → MatchBool (is_fresh standing (standing_of f) before) (pieces ≡ Says (told_line fleet grounds t.histories standing (standing_of f) (all_pieces before)) ∷ []) (AsksFirst fleet grounds t.histories standing (standing_of f) (all_pieces before) pieces)
-      at_once are fresh = subst (λ (b : Bool). MatchBool b (pieces ≡ Says (told_line fleet grounds t.histories standing (standing_of f) (all_pieces before)) ∷ []) (AsksFirst fleet grounds t.histories standing (standing_of f) (all_pieces before) pieces)) (sym fresh) are
+      at_once : pieces ≡ Says (told_line fleet base_states t.histories standing (standing_of f) (all_pieces before)) ∷ [] → is_fresh standing (standing_of f) before ≡ true
+          → MatchBool (is_fresh standing (standing_of f) before) (pieces ≡ Says (told_line fleet base_states t.histories standing (standing_of f) (all_pieces before)) ∷ []) (AsksFirst fleet base_states t.histories standing (standing_of f) (all_pieces before) pieces)
+      at_once are fresh = subst (λ (b : Bool). MatchBool b (pieces ≡ Says (told_line fleet base_states t.histories standing (standing_of f) (all_pieces before)) ∷ []) (AsksFirst fleet base_states t.histories standing (standing_of f) (all_pieces before) pieces)) (sym fresh) are
 
-      asks_first : AsksFirst fleet grounds t.histories standing (standing_of f) (all_pieces before) pieces → is_fresh standing (standing_of f) before ≡ false
-          → MatchBool (is_fresh standing (standing_of f) before) (pieces ≡ Says (told_line fleet grounds t.histories standing (standing_of f) (all_pieces before)) ∷ []) (AsksFirst fleet grounds t.histories standing (standing_of f) (all_pieces before) pieces)
-      asks_first asks stale = subst (λ (b : Bool). MatchBool b (pieces ≡ Says (told_line fleet grounds t.histories standing (standing_of f) (all_pieces before)) ∷ []) (AsksFirst fleet grounds t.histories standing (standing_of f) (all_pieces before) pieces)) (sym stale) asks
+      asks_first : AsksFirst fleet base_states t.histories standing (standing_of f) (all_pieces before) pieces → is_fresh standing (standing_of f) before ≡ false
+          → MatchBool (is_fresh standing (standing_of f) before) (pieces ≡ Says (told_line fleet base_states t.histories standing (standing_of f) (all_pieces before)) ∷ []) (AsksFirst fleet base_states t.histories standing (standing_of f) (all_pieces before) pieces)
+      asks_first asks stale = subst (λ (b : Bool). MatchBool b (pieces ≡ Says (told_line fleet base_states t.histories standing (standing_of f) (all_pieces before)) ∷ []) (AsksFirst fleet base_states t.histories standing (standing_of f) (all_pieces before) pieces)) (sym stale) asks
 
       -- a line that tells these rows
       line_of : ℕ → Line
-      line_of number = line.Told standing number (answer_lines f.standing.query (groups f.standing.query (rows_before (grounds f.leaf f.table) (t.histories f.leaf f.table) (number + 1))))
+      line_of number = line.Told standing number (answer_lines f.standing.query (groups f.standing.query (rows_before (base_states f.leaf f.table) (t.histories f.leaf f.table) (number + 1))))
 
-      by : TellsItself fleet grounds t.histories standing f pieces g
-          → MatchBool (is_fresh standing (standing_of f) before) (pieces ≡ Says (told_line fleet grounds t.histories standing (standing_of f) (all_pieces before)) ∷ []) (AsksFirst fleet grounds t.histories standing (standing_of f) (all_pieces before) pieces)
+      by : TellsItself fleet base_states t.histories standing f pieces g
+          → MatchBool (is_fresh standing (standing_of f) before) (pieces ≡ Says (told_line fleet base_states t.histories standing (standing_of f) (all_pieces before)) ∷ []) (AsksFirst fleet base_states t.histories standing (standing_of f) (all_pieces before) pieces)
       by (TellsItself.fresh told fresh are tells same) =
           let knows = stands.knows fresh in
           let number : ℕ = last_number (shown f.leaf f.table (all_pieces before)) in
           at_once
-          (are ∙ ap (λ (l : Line). Says l ∷ []) (tells.1 ∙ (ap (λ (ls : List (List ℕ)). line.Told standing f.standing.upto ls) (tells.2 (rows_before (grounds f.leaf f.table) (t.histories f.leaf f.table) (number + 1)) knows.1.0 knows.1.1)
-          ∙ ap (λ (n : ℕ). line.Told standing n (answer_lines f.standing.query (groups f.standing.query (rows_before (grounds f.leaf f.table) (t.histories f.leaf f.table) (number + 1))))) knows.0)))
+          (are ∙ ap (λ (l : Line). Says l ∷ []) (tells.1 ∙ (ap (λ (ls : List (List ℕ)). line.Told standing f.standing.upto ls) (tells.2 (rows_before (base_states f.leaf f.table) (t.histories f.leaf f.table) (number + 1)) knows.1.0 knows.1.1)
+          ∙ ap (λ (n : ℕ). line.Told standing n (answer_lines f.standing.query (groups f.standing.query (rows_before (base_states f.leaf f.table) (t.histories f.leaf f.table) (number + 1))))) knows.0)))
           (state false fresh)
       by (TellsItself.made_fresh number gs told stale are asked tells same) =
           let q : Query = spread f.standing.query in
@@ -221,48 +221,48 @@ module _ (fleet : Fleet) (known : ℕ → Option Known) (items : List Item) (out
             asked = Called f.leaf f.table (call.Ask q) number Asked;
             ask = inl (number, Asked, refl);
             are = are ∙ ap (λ (l : Line). Called f.leaf f.table (call.Ask q) number Asked ∷ Says l ∷ [])
-                (tells.1 ∙ (ap (λ (ls : List (List ℕ)). line.Told standing number ls) (tells.2 (rows_before (grounds f.leaf f.table) (t.histories f.leaf f.table) (number + 1)) n.knows.0 n.knows.1) ∙ ap line_of later));
+                (tells.1 ∙ (ap (λ (ls : List (List ℕ)). line.Told standing number ls) (tells.2 (rows_before (base_states f.leaf f.table) (t.histories f.leaf f.table) (number + 1)) n.knows.0 n.knows.1) ∙ ap line_of later));
           })
           (state true stale)
       by (TellsItself.stays_stale asked why stale ask untold are same) =
           asks_first (record {
             asked = asked;
             ask = ask;
-            are = are ∙ ap (λ (o : Option WhyUntold). asked ∷ Says (line_behind fleet grounds t.histories standing (standing_of f) (all_pieces before ++ asked ∷ []) o) ∷ []) (sym untold);
+            are = are ∙ ap (λ (o : Option WhyUntold). asked ∷ Says (line_behind fleet base_states t.histories standing (standing_of f) (all_pieces before ++ asked ∷ []) o) ∷ []) (sym untold);
           })
           (state true stale)
 
   told_here : (before : List PlayedItem) (p : Played) (behind : List PlayedItem) → t.played ≡ before ++ One p ∷ behind → (fs mids : List Follower) → AllStand fleet known items out t before fs → Does (One p) fs mids
-      → IsTold fleet grounds t.histories before p
+      → IsTold fleet base_states t.histories before p
   told_here before p behind cut fs mids all does = by p.command cut does
     where
-      by : (c : Command) → t.played ≡ before ++ alone c p.pieces ∷ behind → Does (alone c p.pieces) fs mids → IsTold fleet grounds t.histories before (record { command = c; pieces = p.pieces })
+      by : (c : Command) → t.played ≡ before ++ alone c p.pieces ∷ behind → Does (alone c p.pieces) fs mids → IsTold fleet base_states t.histories before (record { command = c; pieces = p.pieces })
       by (command.Standing leaf q) is d =
-          d.pieces_are ∙ ap (λ (n : ℕ). Says (line.Declared n) ∷ []) (sym (ap (λ (ss : List Standing). length ss) all.are ∙ length-map fs standing_of))
+          d.pieces_are ∙ ap (λ (n : ℕ). Says (line.Declared n) ∷ []) (sym (ap (λ (ss : List StandingQuery). length ss) all.are ∙ length-map fs standing_of))
       by (command.Tell standing) is d =
-          tells_here before standing p.pieces behind is d.old d.new (all.each standing d.old d.at) (ap (λ (ss : List Standing). slice_get ss standing) all.are ∙ get_mapped standing_of fs standing d.old d.at) d.tells
+          tells_here before standing p.pieces behind is d.old d.new (all.each standing d.old d.at) (ap (λ (ss : List StandingQuery). slice_get ss standing) all.are ∙ get_mapped standing_of fs standing d.old d.at) d.tells
       by _ is d = tt
 
   -- ---- all of them
 
   walk_last : (before last : List PlayedItem) (fs : List Follower) → t.played ≡ before ++ last → AllStand fleet known items out t before fs → AllByRecursion (λ (x : PlayedItem). (mids : List Follower) × Does x fs mids) last
-      → length last < 2 → (front : List PlayedItem) (p : Played) (behind : List PlayedItem) → last ≡ front ++ One p ∷ behind → IsTold fleet grounds t.histories (before ++ front) p
+      → length last < 2 → (front : List PlayedItem) (p : Played) (behind : List PlayedItem) → last ≡ front ++ One p ∷ behind → IsTold fleet base_states t.histories (before ++ front) p
   walk_last before last fs cut all does few [] p behind is =
       let one : AllByRecursion (λ (x : PlayedItem). (mids : List Follower) × Does x fs mids) (One p ∷ behind) = subst (AllByRecursion (λ (x : PlayedItem). (mids : List Follower) × Does x fs mids)) is does in
-      subst (λ (b : List PlayedItem). IsTold fleet grounds t.histories b p) (sym (append-nil before))
+      subst (λ (b : List PlayedItem). IsTold fleet base_states t.histories b p) (sym (append-nil before))
       (told_here before p behind (cut ∙ ap (λ (l : List PlayedItem). before ++ l) is) fs one.0.0 all one.0.1)
   walk_last before last fs cut all does few (y ∷ front) p behind is =
       let count = ap (λ (l : List PlayedItem). length l) is ∙ ap suc (length-append front (One p ∷ behind)) in
       absurd (omega (arith, few, count))
 
-  walk : (before whole last : List PlayedItem) (fs gs : List Follower) → t.played ≡ before ++ (whole ++ last) → AllStand fleet known items out t before fs → FollowedAll fleet grounds t.histories whole fs gs
+  walk : (before whole last : List PlayedItem) (fs gs : List Follower) → t.played ≡ before ++ (whole ++ last) → AllStand fleet known items out t before fs → FollowedAll fleet base_states t.histories whole fs gs
       → AllByRecursion (λ (x : PlayedItem). (mids : List Follower) × Does x gs mids) last → length last < 2
-      → (front : List PlayedItem) (p : Played) (behind : List PlayedItem) → whole ++ last ≡ front ++ One p ∷ behind → IsTold fleet grounds t.histories (before ++ front) p
+      → (front : List PlayedItem) (p : Played) (behind : List PlayedItem) → whole ++ last ≡ front ++ One p ∷ behind → IsTold fleet base_states t.histories (before ++ front) p
   walk before [] last fs gs cut all followed does few front p behind is =
       walk_last before last gs cut (subst (λ (hs : List Follower). AllStand fleet known items out t before hs) (sym followed) all) does few front p behind is
   walk before (y ∷ whole) last fs gs cut all followed does few [] p behind is =
       let same : y ≡ One p = first y (One p) (whole ++ last) behind is in
-      subst (λ (b : List PlayedItem). IsTold fleet grounds t.histories b p) (sym (append-nil before))
+      subst (λ (b : List PlayedItem). IsTold fleet base_states t.histories b p) (sym (append-nil before))
       (told_here before p behind (cut ∙ ap (λ (l : List PlayedItem). before ++ l) is) fs followed.1.between all (subst (λ (x : PlayedItem). Does x fs followed.1.between) same followed.1.itself))
     where
       first : (a b : PlayedItem) (us vs : List PlayedItem) → a ∷ us ≡ b ∷ vs → a ≡ b
@@ -272,7 +272,7 @@ module _ (fleet : Fleet) (known : ℕ → Option Known) (items : List Item) (out
       let more : whole ++ last ≡ front ++ One p ∷ behind = rest y z (whole ++ last) (front ++ One p ∷ behind) is in
       let stands = stand_behind before y (whole ++ last) cut fs followed.1.between followed.0 all followed.1.may followed.1.itself followed.1.follow in
       let joined : (before ++ y ∷ []) ++ front ≡ before ++ z ∷ front = append_assoc before (y ∷ []) front ∙ ap (λ (w : PlayedItem). before ++ w ∷ front) same in
-      subst (λ (b : List PlayedItem). IsTold fleet grounds t.histories b p) joined
+      subst (λ (b : List PlayedItem). IsTold fleet base_states t.histories b p) joined
       (walk (before ++ y ∷ []) whole last followed.0 gs (cut ∙ sym (append_assoc before (y ∷ []) (whole ++ last))) stands followed.2 does few front p behind more)
     where
       first : (a b : PlayedItem) (us vs : List PlayedItem) → a ∷ us ≡ b ∷ vs → a ≡ b

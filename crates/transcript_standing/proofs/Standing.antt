@@ -10,7 +10,7 @@ use Rattle.std.proofs.lemmas.List.Sorted.{All-permutation, IsPermutation-map, Is
 use Rattle.std.proofs.lemmas.List.Sums.{fold-append}
 use Rattle.leaf_history.specs.History.{Entry, LegalFrom}
 use Rattle.region_layout.specs.Names.{AreNames}
-use Rattle.script_text.specs.declared.fleet.Fleet.{Fleet}
+use Rattle.script_text.specs.declared.fleet.FleetShape.{FleetShape}
 use Rattle.script_text.specs.declared.item.Item.{Item}
 use Rattle.script_text.specs.Commands.{leaf_count}
 use Rattle.printed_lines.specs.declared.line.Line.{Line}
@@ -19,13 +19,13 @@ use Rattle.standing_feed.specs.declared.follower.Follower.{Follower}
 use Rattle.standing_feed.specs.declared.heard.Heard.{Heard}
 use Rattle.standing_feed.specs.declared.meant.Meant.{Meant}
 use Rattle.standing_feed.specs.Hearing.{TablePlace, heard, meant_in}
-use Rattle.standing_feed.specs.Following.{FollowAll, Follows, Heeds, HeedsAll, HeedsInOrder, place_of}
+use Rattle.standing_feed.specs.Following.{FollowAll, Follows, Heeds, HeedsAll, HeedsInOrder, table_place_of}
 use Rattle.transcript.specs.Pieces.{Piece, Played, PlayedItem, all_pieces, item_lines, item_of, pieces_in, plays_in, plays_of}
 use Rattle.transcript.specs.Shapes.{Prints}
-use Rattle.transcript.specs.Histories.{Ground, InOrder, IsHistoryOf, Shown, shown}
+use Rattle.transcript.specs.Histories.{BaseState, InOrder, IsHistoryOf, Shown, shown}
 use Rattle.transcript.specs.Answers.{Answers}
-use Rattle.transcript.specs.Transcript.{Known, Transcript, grounds_of}
-use Rattle.transcript.specs.Telling.{Standing, declared, ends_state, has_told, is_ended, is_fresh, is_fresh_behind, last_number}
+use Rattle.transcript.specs.Transcript.{Known, Transcript, base_states_of}
+use Rattle.transcript.specs.Telling.{StandingQuery, declared, ends_state, has_told, is_ended, is_fresh, is_fresh_behind, last_number}
 use Rattle.transcript_standing.specs.Followed.{IsFollower, IsPlayable}
 use Rattle.transcript_standing.proofs.Lists.{All-back, All-front, same_some}
 use Rattle.transcript_standing.proofs.Numbers.{IsStretch, numbers, stretch_of_item}
@@ -149,16 +149,16 @@ as_many (calls ∷ notes) lines (old ∷ olds) (n ∷ news) all = ap suc (as_man
 
 -- ---- as the transcript reads them
 
-abbrev pub standing_of : Follower → Standing
+abbrev pub standing_of : Follower → StandingQuery
 standing_of f = record { leaf = f.leaf; table = f.table; query = f.standing.query }
 
 -- it is of the same table and asks the same
 hears_same : (calls : List Meant) (lines : List Line) (old new : Follower) → Follows calls lines old new → new.standing.query ≡ old.standing.query
 hears_same calls lines old new follows = by old.standing.stale follows.hears
   where
-    by : (b : Bool) → MatchBool b (new ≡ old) (HeedsInOrder old.standing (heard (place_of old) calls lines) new.standing) → new.standing.query ≡ old.standing.query
+    by : (b : Bool) → MatchBool b (new ≡ old) (HeedsInOrder old.standing (heard (table_place_of old) calls lines) new.standing) → new.standing.query ≡ old.standing.query
     by true same = ap (λ (f : Follower). f.standing.query) same
-    by false order = order_query old.standing (heard (place_of old) calls lines) new.standing order
+    by false order = order_query old.standing (heard (table_place_of old) calls lines) new.standing order
 
 pub standing_same : (calls : List Meant) (lines : List Line) (old new : Follower) → Follows calls lines old new → standing_of new ≡ standing_of old
 standing_same calls lines old new follows =
@@ -171,13 +171,13 @@ pub standings_same : (notes : List (List Meant)) (lines : List Line) (olds news 
 standings_same [] lines olds news all = ap (λ (fs : List Follower). map standing_of fs) all
 standings_same (calls ∷ notes) lines [] news all = absurd all
 standings_same (calls ∷ notes) lines (old ∷ olds) [] all = absurd all
-standings_same (calls ∷ notes) lines (old ∷ olds) (n ∷ news) all = ap₂ (λ (x : Standing) (xs : List Standing). x ∷ xs) (standing_same calls lines old n all.0) (standings_same notes lines olds news all.1)
+standings_same (calls ∷ notes) lines (old ∷ olds) (n ∷ news) all = ap₂ (λ (x : StandingQuery) (xs : List StandingQuery). x ∷ xs) (standing_same calls lines old n all.0) (standings_same notes lines olds news all.1)
 
 -- ---- behind the items of a transcript
 
-module _ (fleet : Fleet) (known : ℕ → Option Known) (items : List Item) (out : List ℕ) (t : Transcript fleet known items out) where
-  abbrev pub ground : Follower → Ground
-  ground f = grounds_of fleet known f.leaf f.table
+module _ (fleet : FleetShape) (known : ℕ → Option Known) (items : List Item) (out : List ℕ) (t : Transcript fleet known items out) where
+  abbrev pub base_state : Follower → BaseState
+  base_state f = base_states_of fleet known f.leaf f.table
 
   abbrev pub entries : Follower → List Entry
   entries f = t.histories f.leaf f.table
@@ -190,7 +190,7 @@ module _ (fleet : Fleet) (known : ℕ → Option Known) (items : List Item) (out
   abbrev pub KnowsAt : List PlayedItem → Follower → ℕ → ℕ → Type 0
   KnowsAt before f leaf table =
       let number = last_number (shown leaf table (all_pieces before)) in
-      (f.standing.upto ≡ number) × Knows (grounds_of fleet known leaf table) (t.histories leaf table) number f.standing
+      (f.standing.upto ≡ number) × Knows (base_states_of fleet known leaf table) (t.histories leaf table) number f.standing
 
   -- a standing query stands so that it tells what it should
   pub record StandsAt (before : List PlayedItem) (i : ℕ) (f : Follower) : Type 0 where
@@ -202,7 +202,7 @@ module _ (fleet : Fleet) (known : ℕ → Option Known) (items : List Item) (out
   pub record AllStand (before : List PlayedItem) (fs : List Follower) : Type 0 where
     pub are : declared fleet before ≡ map standing_of fs
     pub each : (i : ℕ) (f : Follower) → slice_get fs i ≡ Some f → StandsAt before i f
-    pub none : (i : ℕ) (s : Standing) → length fs ≤ i → is_fresh i s before ≡ false
+    pub none : (i : ℕ) (s : StandingQuery) → length fs ≤ i → is_fresh i s before ≡ false
 
   -- ---- one item of it
 
@@ -216,29 +216,29 @@ module _ (fleet : Fleet) (known : ℕ → Option Known) (items : List Item) (out
     pub prints : AllByRecursion (λ (p : Played). Prints fleet p.command p.pieces) (plays_of x)
     prints = of_item (λ (p : Played). Prints fleet p.command p.pieces) t.prints
 
-    pub answers : AllByRecursion (Answers fleet (grounds_of fleet known) t.histories) (plays_of x)
-    answers = of_item (Answers fleet (grounds_of fleet known) t.histories) t.answers
+    pub answers : AllByRecursion (Answers fleet (base_states_of fleet known) t.histories) (plays_of x)
+    answers = of_item (Answers fleet (base_states_of fleet known) t.histories) t.answers
 
-    pub fresh_more : (i : ℕ) (s : Standing) → is_fresh i s (before ++ x ∷ []) ≡ ((is_fresh i s before || has_told i x) && not (is_ended s (pieces_in (plays_of x))))
+    pub fresh_more : (i : ℕ) (s : StandingQuery) → is_fresh i s (before ++ x ∷ []) ≡ ((is_fresh i s before || has_told i x) && not (is_ended s (pieces_in (plays_of x))))
     fresh_more i s = fold-append (is_fresh_behind i s) false before (x ∷ [])
 
     -- of a table of the fleet
     module _ (leaf table : ℕ) (below : leaf < leaf_count fleet) (within : table < length fleet.names) where
-      history : IsHistoryOf (grounds_of fleet known leaf table) (shown leaf table (all_pieces (before ++ x ∷ behind))) (t.histories leaf table)
-      history = subst (λ (ps : List PlayedItem). IsHistoryOf (grounds_of fleet known leaf table) (shown leaf table (all_pieces ps)) (t.histories leaf table)) cut (t.one_history leaf table below within)
+      history : IsHistoryOf (base_states_of fleet known leaf table) (shown leaf table (all_pieces (before ++ x ∷ behind))) (t.histories leaf table)
+      history = subst (λ (ps : List PlayedItem). IsHistoryOf (base_states_of fleet known leaf table) (shown leaf table (all_pieces ps)) (t.histories leaf table)) cut (t.one_history leaf table below within)
 
       order : InOrder leaf table 0 (before ++ x ∷ behind) (length (t.histories leaf table))
       order = subst (λ (ps : List PlayedItem). InOrder leaf table 0 ps (length (t.histories leaf table))) cut (t.in_order leaf table below within)
 
-      pub legal : LegalFrom (grounds_of fleet known leaf table).founded (grounds_of fleet known leaf table).base (t.histories leaf table)
+      pub legal : LegalFrom (base_states_of fleet known leaf table).founded (base_states_of fleet known leaf table).base (t.histories leaf table)
       legal = history.legal
 
       pub stretch : IsStretch (t.histories leaf table) (last_number (shown leaf table (all_pieces before))) (last_number (shown leaf table (all_pieces (before ++ x ∷ []))))
           (shown leaf table (pieces_in (plays_of x)))
-      stretch = stretch_of_item leaf table (grounds_of fleet known leaf table) (t.histories leaf table) before x behind history order
+      stretch = stretch_of_item leaf table (base_states_of fleet known leaf table) (t.histories leaf table) before x behind history order
 
       pub proper : AllByRecursion IsProper (shown leaf table (pieces_in (plays_of x)))
-      proper = proper_lines (grounds_of fleet known leaf table).founded (grounds_of fleet known leaf table).base (t.histories leaf table) (shown leaf table (pieces_in (plays_of x))) legal stretch.show
+      proper = proper_lines (base_states_of fleet known leaf table).founded (base_states_of fleet known leaf table).base (t.histories leaf table) (shown leaf table (pieces_in (plays_of x))) legal stretch.show
 
     -- ---- a follower that hears it
 
@@ -258,18 +258,18 @@ module _ (fleet : Fleet) (known : ℕ → Option Known) (items : List Item) (out
 
     module _ (names : AreNames fleet.names) (may : IsPlayable x) (own : AllByRecursion PrintsOwn (plays_of x)) where
       -- a fresh one comes to the rows behind it, unless it ended its state
-      pub hears_item : (i : ℕ) (f g : Follower) → StandsAt before i f → f.standing.stale ≡ false → Follows (meant_in (place_of f) (item_of x)) (item_lines x) f g → StandsAt (before ++ x ∷ []) i g
+      pub hears_item : (i : ℕ) (f g : Follower) → StandsAt before i f → f.standing.stale ≡ false → Follows (meant_in (table_place_of f) (item_of x)) (item_lines x) f g → StandsAt (before ++ x ∷ []) i g
       hears_item i f g stands fresh follows =
           let pieces : List Piece = pieces_in (plays_of x) in
           let ss : List Shown = shown f.leaf f.table pieces in
           let st = stretch f.leaf f.table stands.is.0 stands.is.1 in
-          let same : heard (place_of f) (meant_in (place_of f) (item_of x)) (item_lines x) ≡ map heard_of ss =
-          heard_shown fleet (grounds_of fleet known) t.histories x (place_of f) names.distinct stands.is.0 stands.named may prints answers own (proper f.leaf f.table stands.is.0 stands.is.1) in
-          let order : HeedsInOrder f.standing (heard (place_of f) (meant_in (place_of f) (item_of x)) (item_lines x)) g.standing = fresh_hears f.standing.stale fresh follows.hears in
+          let same : heard (table_place_of f) (meant_in (table_place_of f) (item_of x)) (item_lines x) ≡ map heard_of ss =
+          heard_shown fleet (base_states_of fleet known) t.histories x (table_place_of f) names.distinct stands.is.0 stands.named may prints answers own (proper f.leaf f.table stands.is.0 stands.is.1) in
+          let order : HeedsInOrder f.standing (heard (table_place_of f) (meant_in (table_place_of f) (item_of x)) (item_lines x)) g.standing = fresh_hears f.standing.stale fresh follows.hears in
           let knows = stands.knows fresh in
-          let fed : FedBehind (ground f) (entries f) ss (last f (before ++ x ∷ [])) f.standing g.standing =
-          heeds_on (ground f) (entries f) (legal f.leaf f.table stands.is.0 stands.is.1) ss (last f before) (last f (before ++ x ∷ [])) f.standing g.standing (counts_up st) st.show
-          (item_adds fleet (grounds_of fleet known) t.histories x f.leaf f.table may prints answers own) knows.0 (λ none. knows.1)
+          let fed : FedBehind (base_state f) (entries f) ss (last f (before ++ x ∷ [])) f.standing g.standing =
+          heeds_on (base_state f) (entries f) (legal f.leaf f.table stands.is.0 stands.is.1) ss (last f before) (last f (before ++ x ∷ [])) f.standing g.standing (counts_up st) st.show
+          (item_adds fleet (base_states_of fleet known) t.histories x f.leaf f.table may prints answers own) knows.0 (λ none. knows.1)
           (subst (λ (hs : List Heard). HeedsInOrder f.standing hs g.standing) same order) in
           let leaf : g.leaf ≡ f.leaf = ap (λ (p : TablePlace). p.leaf) follows.place in
           let table : g.table ≡ f.table = ap (λ (p : TablePlace). p.table) follows.place in
@@ -277,14 +277,14 @@ module _ (fleet : Fleet) (known : ℕ → Option Known) (items : List Item) (out
           record {
             is = (subst (λ (n : ℕ). n < leaf_count fleet) (sym leaf) stands.is.0, subst (λ (n : ℕ). n < length fleet.names) (sym table) stands.is.1);
             named = ap (λ (n : ℕ). slice_get fleet.names n) table ∙ (stands.named ∙ ap (λ (p : TablePlace). Some p.name) (sym follows.place));
-            fresh = ap (λ (s : Standing). is_fresh i s (before ++ x ∷ [])) (standing_same (meant_in (place_of f) (item_of x)) (item_lines x) f g follows)
+            fresh = ap (λ (s : StandingQuery). is_fresh i s (before ++ x ∷ [])) (standing_same (meant_in (table_place_of f) (item_of x)) (item_lines x) f g follows)
                 ∙ (fresh_more i (standing_of f)
                 ∙ (ap (λ (b : Bool). (b || has_told i x) && not (is_ended (standing_of f) pieces)) (stands.fresh ∙ ap not fresh) ∙ ap not (sym stale)));
             knows = λ now. of_table (g.leaf) (g.table) leaf table (fed.upto, fed.means now);
           }
         where
-          fresh_hears : (b : Bool) → b ≡ false → MatchBool b (g ≡ f) (HeedsInOrder f.standing (heard (place_of f) (meant_in (place_of f) (item_of x)) (item_lines x)) g.standing)
-              → HeedsInOrder f.standing (heard (place_of f) (meant_in (place_of f) (item_of x)) (item_lines x)) g.standing
+          fresh_hears : (b : Bool) → b ≡ false → MatchBool b (g ≡ f) (HeedsInOrder f.standing (heard (table_place_of f) (meant_in (table_place_of f) (item_of x)) (item_lines x)) g.standing)
+              → HeedsInOrder f.standing (heard (table_place_of f) (meant_in (table_place_of f) (item_of x)) (item_lines x)) g.standing
           fresh_hears true none hears = absurd cc
           fresh_hears false none hears = hears
 

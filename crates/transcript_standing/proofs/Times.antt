@@ -2,31 +2,36 @@
 use Rattle.std.proofs.Common.{◌≡◌, ◌⊎◌, inl, inr, ℕ, zero, suc, ◌-◌, Bool, true, false, true≢false, List, [], ◌∷◌, ◌++◌, refl, sym, ap, subst, ◌∙◌, Option, Some, None}
 use Rattle.std.specs.Prelude.{IfSome, if◌then◌else◌, is_some, option_to_list, slice_get, ◌&&◌, ◌==◌, ⊤}
 use Rattle.std.specs.List.{AllByRecursion, AllZip, flat_map, range_with_len}
-use Rattle.leaf_model.specs.declared.rows.Row.{Row}
+use Rattle.row_model.specs.declared.rows.Row.{Row}
 use Rattle.leaf_model.specs.declared.queries.Query.{Query}
 use Rattle.leaf_history.specs.Calls.{Call}
 use Rattle.leaf_history.specs.Calls as call
-use Rattle.leaf_history.specs.Replies.{Reply}
+use Rattle.leaf_history.specs.Replies.{EntryReply}
 use Rattle.leaf_history.specs.Replies as reply
 use Rattle.leaf_history.specs.History.{Allowed, Entry, HistoryState, LegalFrom, after_entry}
 use Rattle.tail_picks.specs.Room.{every_row}
-use Rattle.tail_picks.specs.Tails.{Goes, IsTry, Tails, TryOf, pick_of, sent_by, words_of}
+use Rattle.tail_picks.specs.Tails.{TryGoesOn, IsTry, Tails, TryOf, pick_of, sent_by, words_of}
 use Rattle.script_text.specs.declared.command.Command.{Command}
 use Rattle.script_text.specs.declared.command.Command.TheVariants as command
-use Rattle.script_text.specs.declared.fleet.Fleet.{Fleet}
+use Rattle.script_text.specs.declared.order.Order.{Order}
+use Rattle.script_text.specs.declared.order.Order.TheVariants as order
+use Rattle.script_text.specs.declared.order.TableRequest.{TableRequest}
+use Rattle.script_text.specs.declared.order.TableRequest.TheVariants as request
+use Rattle.script_text.specs.Orders.{part_of}
+use Rattle.script_text.specs.declared.fleet.FleetShape.{FleetShape}
 use Rattle.script_text.specs.Commands.{leaf_count}
 use Rattle.printed_lines.specs.declared.line.Said.{Said}
 use Rattle.printed_lines.specs.declared.line.Said.TheVariants.{Added, Removed, Asked, RefusedShut, RefusedFull, RefusedMemory, Opened, Took, Flushed, Closed, Handed}
-use Rattle.printed_lines.specs.declared.line.Deed.TheVariants.{Start, Flush, Drain, Kill}
+use Rattle.printed_lines.specs.declared.line.Deed.TheVariants.{Start}
 use Rattle.transcript.specs.Pieces.{Piece, Called, Worn, Acted, Says, Noted, Played, PlayedItem, One, Burst, pieces_in, plays_of}
-use Rattle.transcript.specs.Shapes.{CallPiece, OnePiece, Prints, QueryPieces}
-use Rattle.transcript.specs.Histories.{Ground, Shown, Shows, shown, shown_if, shown_in, shown_notes}
-use Rattle.transcript.specs.Answers.{Answers}
+use Rattle.transcript.specs.Shapes.{CallPiece, OnePiece, Prints, PrintsOrder, QueryPieces, call_of}
+use Rattle.transcript.specs.Histories.{BaseState, Shown, ShowsEntry, shown, shown_if, shown_in, shown_notes}
+use Rattle.transcript.specs.Answers.{Answers, AnswersOrder}
 use Rattle.transcript.specs.Tails.{TryPieces, free_then, pieces_of_try, tells_added}
-use Rattle.transcript_standing.specs.Followed.{AreTimes, HasTimes, IsOfLane, IsPlayable}
+use Rattle.transcript_standing.specs.Followed.{AreTimes, HasTimes, IsOfLane, IsPlayable, OrderTimes, RequestTimes}
 use Rattle.transcript_standing.proofs.Lists.{All-joined, All-therefore, same_some}
 use Rattle.transcript_standing.proofs.HeardPieces.{AsksOnce, IsCalm, IsProper, IsSaidOf, PrintsOwn, PrintsOwnOf, TellsOnce}
-use Rattle.transcript_standing.proofs.Heard.{AreCalm, each_calm, one_calm, roll_calm}
+use Rattle.transcript_standing.proofs.Heard.{AreCalm, each_calm, one_calm, order_in, roll_calm}
 use Rattle.transcript_standing.proofs.Feeding.{AddsTimes, CallTimes}
 use Rattle.transcript_standing.proofs.Numbers.{ShowsIn}
 
@@ -59,14 +64,14 @@ asks_times table q [] (p ∷ asks) each = absurd each
 asks_times table q (leaf ∷ leaves) [] each = absurd each
 asks_times table q (leaf ∷ leaves) (p ∷ asks) each = (call_times leaf table (call.Ask q) p tt each.0, asks_times table q leaves asks each.1)
 
-query_times : (fleet : Fleet) (q : Query) (pieces : List Piece) → QueryPieces fleet q pieces → HaveTimes pieces
+query_times : (fleet : FleetShape) (q : Query) (pieces : List Piece) → QueryPieces fleet q pieces → HaveTimes pieces
 query_times fleet q pieces a = subst HaveTimes (sym a.are) (All-joined PieceTimes a.asks (Says _ ∷ []) (asks_times _ q (range_with_len 0 (leaf_count fleet)) a.asks a.each) (tt, tt))
 
 -- ---- those of a tail
 
-module _ (grounds : ℕ → Ground) (histories : ℕ → List Entry) (table : ℕ) (rows : List Row) (times : AreTimes rows) where
+module _ (base_states : ℕ → BaseState) (histories : ℕ → List Entry) (table : ℕ) (rows : List Row) (times : AreTimes rows) where
   abbrev free : Piece → Option ℕ
-  free = free_then grounds histories
+  free = free_then base_states histories
 
   also_times : (leaf : ℕ) (o : Option Piece) → IfSome o (CallPiece leaf table (call.Ask every_row)) → HaveTimes (option_to_list o)
   also_times leaf None is = tt
@@ -92,41 +97,44 @@ module _ (grounds : ℕ → Ground) (histories : ℕ → List Entry) (table : �
       All-joined PieceTimes (pieces_of_try t) (flat_map pieces_of_try ts) (try_times n u v t tails.0 all.0)
       (by (sent_by free tells_added t) tails.1 (λ goes. tries_times n words ts sent goes all.1))
     where
-      by : (o : Option ℕ) → Goes free tells_added o ts sent (Tails free tells_added n words ts sent) → (Tails free tells_added n words ts sent → HaveTimes (flat_map pieces_of_try ts)) → HaveTimes (flat_map pieces_of_try ts)
+      by : (o : Option ℕ) → TryGoesOn free tells_added o ts sent (Tails free tells_added n words ts sent) → (Tails free tells_added n words ts sent → HaveTimes (flat_map pieces_of_try ts)) → HaveTimes (flat_map pieces_of_try ts)
       by (Some leaf) goes further = subst (λ (rest : List (TryOf Piece)). HaveTimes (flat_map pieces_of_try rest)) (sym goes.0) tt
       by None goes further = further goes
 
 -- ---- commands
 
-command_times : (fleet : Fleet) (grounds : ℕ → ℕ → Ground) (histories : ℕ → ℕ → List Entry) (c : Command) (pieces : List Piece) → Prints fleet c pieces
-    → Answers fleet grounds histories (record { command = c; pieces = pieces }) → PrintsOwnOf c pieces → HasTimes c → HaveTimes pieces
-command_times fleet grounds histories (command.Fleet machines per_machine tables) pieces prints answers own times = calm_times pieces (each_calm Start (range_with_len 0 (leaf_count fleet)) pieces prints)
-command_times fleet grounds histories (command.Add leaf table rows) pieces prints answers own times = one_times leaf table (call.Add rows) pieces times prints
-command_times fleet grounds histories (command.Expire leaf table horizon) pieces prints answers own times = one_times leaf table (call.Expire horizon) pieces tt prints
-command_times fleet grounds histories (command.Keep leaf table n) pieces prints answers own times = one_times leaf table (call.Keep n) pieces tt prints
-command_times fleet grounds histories (command.Query q) pieces prints answers own times = query_times fleet q pieces prints
-command_times fleet grounds histories (command.Tail key table rows) pieces prints answers own times =
+request_times : (r : TableRequest) → RequestTimes r → CallTimes (Some (call_of r))
+request_times (request.Add rows) times = times
+request_times _ times = tt
+
+order_times : (fleet : FleetShape) (base_states : ℕ → ℕ → BaseState) (histories : ℕ → ℕ → List Entry) (o : Order) (pieces : List Piece) → PrintsOrder fleet o pieces
+    → AnswersOrder fleet base_states histories o pieces → OrderTimes o → HaveTimes pieces
+order_times fleet base_states histories order.Start pieces prints answers times = calm_times pieces (each_calm Start (range_with_len 0 (leaf_count fleet)) pieces prints)
+order_times fleet base_states histories (order.Call leaf table r) pieces prints answers times = one_times leaf table (call_of r) pieces (request_times r times) prints
+order_times fleet base_states histories (order.Deed leaf d) pieces prints answers times = calm_times pieces (one_calm leaf d pieces prints)
+order_times fleet base_states histories (order.Query q) pieces prints answers times = query_times fleet q pieces prints
+order_times fleet base_states histories (order.Tail key table rows) pieces prints answers times =
     subst HaveTimes (sym answers.are)
     (All-joined PieceTimes (flat_map pieces_of_try answers.tries) (Says _ ∷ [])
-    (tries_times (λ leaf. grounds leaf table) (λ leaf. histories leaf table) table rows times (leaf_count fleet) (words_of key) answers.tries answers.sent answers.tails answers.calls) (tt, tt))
-command_times fleet grounds histories (command.Flush leaf table) pieces prints answers own times = calm_times pieces (one_calm leaf (Flush table) pieces prints)
-command_times fleet grounds histories (command.Drain leaf stop) pieces prints answers own times = calm_times pieces (one_calm leaf (Drain stop) pieces prints)
-command_times fleet grounds histories (command.Kill leaf) pieces prints answers own times = calm_times pieces (one_calm leaf Kill pieces prints)
-command_times fleet grounds histories (command.Start leaf) pieces prints answers own times = calm_times pieces (one_calm leaf Start pieces prints)
-command_times fleet grounds histories (command.Rollover percent) pieces prints answers own times = calm_times pieces (roll_calm fleet percent pieces prints)
-command_times fleet grounds histories (command.Standing leaf q) pieces prints answers own times = subst HaveTimes (sym own.2) (tt, tt)
-command_times fleet grounds histories (command.Tell standing) pieces prints answers own times = by own
+    (tries_times (λ leaf. base_states leaf table) (λ leaf. histories leaf table) table rows times (leaf_count fleet) (words_of key) answers.tries answers.sent answers.tails answers.calls) (tt, tt))
+order_times fleet base_states histories (order.Rollover percent) pieces prints answers times = calm_times pieces (roll_calm fleet percent pieces prints)
+
+command_times : (fleet : FleetShape) (base_states : ℕ → ℕ → BaseState) (histories : ℕ → ℕ → List Entry) (c : Command) (pieces : List Piece) → Prints fleet c pieces
+    → Answers fleet base_states histories (record { command = c; pieces = pieces }) → PrintsOwnOf c pieces → HasTimes c → HaveTimes pieces
+command_times fleet base_states histories (command.Standing leaf q) pieces prints answers own times = subst HaveTimes (sym own.2) (tt, tt)
+command_times fleet base_states histories (command.Tell standing) pieces prints answers own times = by own
   where
     by : TellsOnce pieces ⊎ AsksOnce pieces → HaveTimes pieces
     by (inl t) = subst HaveTimes (sym t.2) (tt, tt)
     by (inr t) = subst HaveTimes (sym t.are) (call_times t.leaf t.table (call.Ask t.query) t.asked tt t.ask, (tt, tt))
+command_times fleet base_states histories c pieces prints answers own times = order_times fleet base_states histories (order_in (part_of c)) pieces prints answers times
 
-module _ (fleet : Fleet) (grounds : ℕ → ℕ → Ground) (histories : ℕ → ℕ → List Entry) where
-  plays_times : (ps : List Played) → AllByRecursion (λ (q : Played). Prints fleet q.command q.pieces) ps → AllByRecursion (Answers fleet grounds histories) ps → AllByRecursion PrintsOwn ps
+module _ (fleet : FleetShape) (base_states : ℕ → ℕ → BaseState) (histories : ℕ → ℕ → List Entry) where
+  plays_times : (ps : List Played) → AllByRecursion (λ (q : Played). Prints fleet q.command q.pieces) ps → AllByRecursion (Answers fleet base_states histories) ps → AllByRecursion PrintsOwn ps
       → AllByRecursion (λ (q : Played). HasTimes q.command) ps → HaveTimes (pieces_in ps)
   plays_times [] prints answers own times = tt
   plays_times (q ∷ ps) prints answers own times =
-      All-joined PieceTimes q.pieces (pieces_in ps) (command_times fleet grounds histories q.command q.pieces prints.0 answers.0 own.0 times.0) (plays_times ps prints.1 answers.1 own.1 times.1)
+      All-joined PieceTimes q.pieces (pieces_in ps) (command_times fleet base_states histories q.command q.pieces prints.0 answers.0 own.0 times.0) (plays_times ps prints.1 answers.1 own.1 times.1)
 
 -- ---- items
 
@@ -175,11 +183,11 @@ pieces_add leaf table [] times = tt
 pieces_add leaf table (p ∷ ps) times = All-joined AddsTimes (shown_in leaf table p) (shown leaf table ps) (piece_adds leaf table p times.0) (pieces_add leaf table ps times.1)
 
 -- the rows of an item's adds have times
-pub item_adds : (fleet : Fleet) (grounds : ℕ → ℕ → Ground) (histories : ℕ → ℕ → List Entry) (x : PlayedItem) (leaf table : ℕ) → IsPlayable x
-    → AllByRecursion (λ (q : Played). Prints fleet q.command q.pieces) (plays_of x) → AllByRecursion (Answers fleet grounds histories) (plays_of x) → AllByRecursion PrintsOwn (plays_of x)
+pub item_adds : (fleet : FleetShape) (base_states : ℕ → ℕ → BaseState) (histories : ℕ → ℕ → List Entry) (x : PlayedItem) (leaf table : ℕ) → IsPlayable x
+    → AllByRecursion (λ (q : Played). Prints fleet q.command q.pieces) (plays_of x) → AllByRecursion (Answers fleet base_states histories) (plays_of x) → AllByRecursion PrintsOwn (plays_of x)
     → AllByRecursion AddsTimes (shown leaf table (pieces_in (plays_of x)))
-item_adds fleet grounds histories x leaf table may prints answers own =
-    pieces_add leaf table (pieces_in (plays_of x)) (plays_times fleet grounds histories (plays_of x) prints answers own (play_times x may))
+item_adds fleet base_states histories x leaf table may prints answers own =
+    pieces_add leaf table (pieces_in (plays_of x)) (plays_times fleet base_states histories (plays_of x) prints answers own (play_times x may))
 
 -- ---- what lines say
 
@@ -210,9 +218,9 @@ by_add founded t caller (call.Open n contents) kept late allowed = absurd (noted
     noted : reply.Added kept late ≡ reply.Noted → ⊥
     noted e = cc
 
-said_proper : (founded : Bool) (t : HistoryState) (e : Entry) (c : Option Call) (told : Said) → Allowed founded t e.caller e.call e.reply → Shows c told e → IsSaidOf c told
+said_proper : (founded : Bool) (t : HistoryState) (e : Entry) (c : Option Call) (told : Said) → Allowed founded t e.caller e.call e.reply → ShowsEntry c told e → IsSaidOf c told
 said_proper founded t e c (Added kept late) allowed is =
-    let add = by_add founded t e.caller e.call kept late (subst (λ (r : Reply). Allowed founded t e.caller e.call r) is.1 allowed) in
+    let add = by_add founded t e.caller e.call kept late (subst (λ (r : EntryReply). Allowed founded t e.caller e.call r) is.1 allowed) in
     (add.0, is.0 ∙ ap (λ (k : Call). Some k) add.1)
 said_proper founded t e c (Removed rows) allowed is = (e.call, is.0)
 said_proper founded t e c Asked allowed is = (e.call, is.0)

@@ -1,18 +1,25 @@
 -- How the standing queries of a run followed its items, over these histories of the tables.
 use Rattle.std.specs.Prelude.{◌≡◌, ℕ, ◌-◌, ◌<◌, int_le, true, false, List, [], ◌∷◌, ◌++◌, length, map, take, Some, slice_get, slice_set, ⊤}
 use Rattle.std.specs.List.{AllByRecursion}
-use Rattle.leaf_model.specs.declared.rows.Row.{Row}
+use Rattle.row_model.specs.declared.rows.Row.{Row}
 use Rattle.leaf_model.specs.declared.queries.Query.{Query}
 use Rattle.leaf_model.specs.declared.groups.Group.{Group}
 use Rattle.leaf_model.specs.Groups.{groups}
-use Rattle.leaf_model.specs.Values.{IsTime}
+use Rattle.row_model.specs.Values.{IsTime}
 use Rattle.answer_text.specs.Answer.{answer_lines}
 use Rattle.leaf_history.specs.Calls as call
 use Rattle.leaf_model.specs.Content.{Contents}
-use Rattle.leaf_history.specs.History.{Entry, after, held}
+use Rattle.leaf_history.specs.History.{Entry, after, contents_held}
 use Rattle.script_text.specs.declared.command.Command.{Command}
 use Rattle.script_text.specs.declared.command.Command.TheVariants as command
-use Rattle.script_text.specs.declared.fleet.Fleet.{Fleet}
+use Rattle.script_text.specs.declared.order.Order.{Order}
+use Rattle.script_text.specs.declared.order.Order.TheVariants as order
+use Rattle.script_text.specs.declared.order.Part.{Part}
+use Rattle.script_text.specs.declared.order.Part.TheVariants as part
+use Rattle.script_text.specs.declared.order.TableRequest.{TableRequest}
+use Rattle.script_text.specs.declared.order.TableRequest.TheVariants as request
+use Rattle.script_text.specs.Orders.{part_of}
+use Rattle.script_text.specs.declared.fleet.FleetShape.{FleetShape}
 use Rattle.script_text.specs.Commands.{leaf_count}
 use Rattle.printed_lines.specs.declared.line.Said.TheVariants.{Asked}
 use Rattle.printed_lines.specs.declared.line.WhyUntold.{WhyUntold}
@@ -21,10 +28,10 @@ use Rattle.printed_lines.specs.declared.line.Line.TheVariants as line
 use Rattle.standing_query.specs.Spread.{spread}
 use Rattle.standing_query.specs.States.{Means}
 use Rattle.standing_feed.specs.declared.follower.Follower.{Follower}
-use Rattle.standing_feed.specs.Following.{FollowAll, new_follower, noted, settled}
+use Rattle.standing_feed.specs.Following.{FollowAll, new_follower, meant_for, settled}
 use Rattle.transcript.specs.Pieces.{Piece, Called, Says, Played, PlayedItem, One, Burst, item_lines, item_of, place_among, plays_of}
 use Rattle.transcript.specs.Shapes.{CallPiece}
-use Rattle.transcript.specs.Histories.{Ground}
+use Rattle.transcript.specs.Histories.{BaseState}
 use Rattle.transcript.specs.Telling.{why_untold}
 
 -- ---- commands that may be played
@@ -33,16 +40,29 @@ use Rattle.transcript.specs.Telling.{why_untold}
 abbrev pub AreTimes : List Row → Type 0
 AreTimes rows = AllByRecursion (λ (row : Row). IsTime row.time) rows
 
+abbrev pub RequestTimes : TableRequest → Type 0
+RequestTimes (request.Add rows) = AreTimes rows
+RequestTimes _ = ⊤
+
+abbrev pub OrderTimes : Order → Type 0
+OrderTimes (order.Call leaf table r) = RequestTimes r
+OrderTimes (order.Tail key table rows) = AreTimes rows
+OrderTimes _ = ⊤
+
+abbrev pub PartTimes : Part → Type 0
+PartTimes (part.Leaves o) = OrderTimes o
+PartTimes (part.Run o) = ⊤
+
 abbrev pub HasTimes : Command → Type 0
-HasTimes (command.Add leaf table rows) = AreTimes rows
-HasTimes (command.Tail key table rows) = AreTimes rows
-HasTimes _ = ⊤
+HasTimes c = PartTimes (part_of c)
 
 -- a command of a lane: it neither declares nor tells a standing query
+abbrev pub LanePart : Part → Type 0
+LanePart (part.Leaves o) = OrderTimes o
+LanePart (part.Run o) = ⊥
+
 abbrev pub IsOfLane : Command → Type 0
-IsOfLane (command.Standing leaf q) = ⊥
-IsOfLane (command.Tell standing) = ⊥
-IsOfLane c = HasTimes c
+IsOfLane c = LanePart (part_of c)
 
 abbrev pub IsPlayable : PlayedItem → Type 0
 IsPlayable (One p) = HasTimes p.command
@@ -51,10 +71,10 @@ IsPlayable (Burst lanes) = AllByRecursion (λ (p : Played). IsOfLane p.command) 
 -- ---- standing queries of the fleet
 
 -- a standing query of a table of the fleet
-abbrev pub IsFollower : Fleet → Follower → Type 0
+abbrev pub IsFollower : FleetShape → Follower → Type 0
 IsFollower fleet f = (f.leaf < leaf_count fleet) × (f.table < length fleet.names)
 
-abbrev pub AreFollowers : Fleet → List Follower → Type 0
+abbrev pub AreFollowers : FleetShape → List Follower → Type 0
 AreFollowers fleet followers = AllByRecursion (IsFollower fleet) followers
 
 -- ---- what the queries did themselves
@@ -64,10 +84,10 @@ abbrev pub TellsState : ℕ → Follower → Line → Type 0
 TellsState standing f told = (lines : List (List ℕ)) × (told ≡ line.Told standing f.standing.upto lines)
     × ((rows : List Row) → Means f.standing rows → AreTimes rows → lines ≡ answer_lines f.standing.query (groups f.standing.query rows))
 
-module _ (fleet : Fleet) (grounds : ℕ → ℕ → Ground) (histories : ℕ → ℕ → List Entry) where
+module _ (fleet : FleetShape) (base_states : ℕ → ℕ → BaseState) (histories : ℕ → ℕ → List Entry) where
   -- the contents of its table before that entry
   abbrev pub held_before : Follower → ℕ → Contents
-  held_before f number = held (after (grounds f.leaf f.table).founded (grounds f.leaf f.table).base (take (number - 1) (histories f.leaf f.table)))
+  held_before f number = contents_held (after (base_states f.leaf f.table).founded (base_states f.leaf f.table).base (take (number - 1) (histories f.leaf f.table)))
 
   -- the groups of its spread over the rows of its table before that entry; these have times, and none is below the
   -- horizon
@@ -132,7 +152,7 @@ module _ (fleet : Fleet) (grounds : ℕ → ℕ → Ground) (histories : ℕ →
     pub between : List Follower
     pub may : IsPlayable x
     pub itself : DoesItself x olds between
-    pub follow : FollowAll (map (noted (item_of x)) olds) (item_lines x) between news
+    pub follow : FollowAll (map (meant_for (item_of x)) olds) (item_lines x) between news
 
   -- they did these items, one after another
   abbrev pub FollowedAll : List PlayedItem → List Follower → List Follower → Type 0

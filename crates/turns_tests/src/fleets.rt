@@ -20,7 +20,7 @@ use std::sync::atomic::{AtomicU64, Ordering};
 use std::test::*;
 use std::thread::{Threads, yield_now};
 
-/// How often a caller looks for the other one before it gives up: some seconds.
+/// The number of looks for the other caller before a caller gives up: some seconds.
 const LOOKS: u64 = 4_000_000;
 
 /// A gate that holds a caller inside a turn of leaf 0 until another is inside one of leaf 1, and the other way round.
@@ -87,7 +87,7 @@ fn two_leaves(alloc: Global) -> Result<(FleetTables, StewardSeats, Vec<Seat>), A
     Ok((fleet, stewards, rows.swap_remove(0)))
 }
 
-/// Opens the first table of a leaf, empty: the number of that entry.
+/// Opens the first table of a leaf, empty. Gives the number of that entry.
 fn open_leaf<R: Threads + Wait + Sync>(
     rt: &R,
     alloc: Global,
@@ -120,7 +120,7 @@ fn open_first<R: Threads + Wait + Sync>(
     }
 }
 
-/// Opens the first tables of two leaves, empty: the numbers of both entries.
+/// Opens the first tables of two leaves, empty. Gives the numbers of both entries.
 fn open_both<R: Threads + Wait + Sync>(
     rt: &R,
     alloc: Global,
@@ -139,7 +139,7 @@ fn open_both<R: Threads + Wait + Sync>(
     }
 }
 
-/// Asks both leaves, once their tables are open, which they were as their first entries.
+/// Asks both leaves, whose first entries opened their tables.
 fn ask_both<R: Threads + Wait + Sync>(
     rt: &R,
     alloc: Global,

@@ -1,7 +1,7 @@
 // A row, from its bytes, and a query that counts rows.
 ghost use Rattle.std.specs.Prelude.{IfOk};
 ghost use Rattle.std.specs.List.{AllByRecursion};
-ghost use Rattle.leaf_model.specs.Values.{IsRow};
+ghost use Rattle.row_model.specs.Values.{IsRow};
 
 use leaf_model::{Agg, Aggs, Conds, Names, PackedRows, Query, Rows, Text};
 use row_records::read_rows;

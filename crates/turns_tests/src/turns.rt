@@ -2,7 +2,7 @@
 ghost use Rattle.std.specs.Prelude.{◌≡◌, ◌+◌, ◌<◌, ◌≤◌, None, IfOk, IfSome};
 ghost use Rattle.std.specs.List.{AllByRecursion};
 ghost use Rattle.std.specs.Thread.{IsSync};
-ghost use Rattle.leaf_model.specs.Values.{IsRow};
+ghost use Rattle.row_model.specs.Values.{IsRow};
 ghost use Rattle.turnstile.specs.Seats.{IsSeatOf};
 ghost use Rattle.leaf_table.specs.Calls.{base_seen, IsCaller, IsSteward, SeesOpen, SeesShut};
 
@@ -30,7 +30,7 @@ fn new_table(alloc: Global) -> Result<(SharedTable, Seat, Seat), AllocError>
     SharedTable::new::<Brand>(alloc, 0, 0, &name, 2)
 }
 
-/// Opens a table, empty: the number of that entry.
+/// Opens a table, empty. Gives the number of that entry.
 #[tactic(auto, using(crate::proofs::NewSeats::may_open))]
 pub fn open<R: Wait + Threads + Sync>(
     rt: &R,
@@ -54,7 +54,7 @@ pub fn open<R: Wait + Threads + Sync>(
     }
 }
 
-/// Takes the writes of an open table, and notes that the disk holds them: how many there are, and the numbers of both
+/// Takes the writes of an open table, and notes that the disk holds them. Gives their number, and the numbers of both
 /// entries.
 fn take_and_flush<R: Wait + Threads + Sync>(
     rt: &R,
@@ -79,7 +79,7 @@ fn take_and_flush<R: Wait + Threads + Sync>(
     }
 }
 
-/// Shuts an open table: how many writes it had, and the number of that entry.
+/// Shuts an open table. Gives its number of writes, and the number of that entry.
 fn shut<R: Wait + Threads + Sync>(
     rt: &R,
     table: &SharedTable,
@@ -143,7 +143,7 @@ fn a_split_seat_gives_its_last_ids_away(rt: HostRuntime) -> Result<(), Fail> {
     Ok(())
 }
 
-/// Adds a copy of rows: the number of that entry, where they were added.
+/// Adds a copy of rows. Gives the number of that entry, if they were added.
 fn add<R: Wait + Threads + Sync>(
     rt: &R,
     table: &SharedTable,
@@ -181,7 +181,8 @@ fn add_at_once<R: Wait + Threads + Sync>(
         ensures { IsSeatOf one.exit.now table.entry.now.site × IsCaller one.exit.now }
     { add(rt, table, one, rows) };
     let mut there = || -> Option<u64>
-        requires { IsSync R.row × IsSeatOf other.now table.now.site × IsCaller other.now × AllByRecursion IsRow rows.now }
+        requires { IsSync R.row × IsSeatOf other.now table.now.site × IsCaller other.now
+            × AllByRecursion IsRow rows.now }
         ensures { IsSeatOf other.exit.now table.entry.now.site × IsCaller other.exit.now }
     { add(rt, table, other, rows) };
     join_mut(rt, &mut here, &mut there)
@@ -207,7 +208,7 @@ fn split_and_add<R: Wait + Threads + Sync>(
     Ok(numbers)
 }
 
-/// How many rows the groups of a reply are of.
+/// The number of rows in the groups of a reply.
 fn rows_in(reply: &Reply) -> Option<u64> {
     match reply {
         Reply::Groups { groups, .. } => groups.as_slice().first().map(|group| group.count),

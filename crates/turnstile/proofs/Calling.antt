@@ -5,13 +5,13 @@ use Rattle.std.specs.Option.{IsSome}
 use Rattle.atomic_table.specs.Table.{Me, rest}
 use Rattle.atomic_table.specs.Seated.{TableId}
 use Rattle.turnstile.specs.Ids.{run_of, LongerOf}
-use Rattle.turnstile.specs.declared.object.Entry.{Entry}
+use Rattle.turnstile.specs.declared.object.TurnEntry.{TurnEntry}
 use Rattle.turnstile.specs.declared.view.View.{View}
 use Rattle.turnstile.specs.declared.view.Stage.TheVariants.{Rests, Waits}
-use Rattle.turnstile.specs.Views.{staged, joined}
+use Rattle.turnstile.specs.Views.{staged, view_joined}
 use Rattle.turnstile.specs.Plays.{Comes, Met}
 use Rattle.turnstile.specs.Objects.{Ready}
-use Rattle.turnstile.specs.Seats.{Standing, MayCall, HasRoom, AreIds, given, Joined, LearnsOthers, Told}
+use Rattle.turnstile.specs.Seats.{SeatStanding, MayCall, HasRoom, AreIds, given, Joined, LearnsOthers, SeesAlso}
 use Rattle.turnstile.specs.Places.{standing, Rested, Entered}
 use Rattle.turnstile.proofs.Prefixes.{prefix_trans, prefix_whole, prefix_length}
 
@@ -39,7 +39,7 @@ longer_again xs ys zs ws l m =
 
 module _ {B C R : Type 0} where
   -- a seat that was given no id leaves only what it had seen
-  pub told_of : (s u note s' : Standing B C R) → note ≡ given 0 u → Joined s note s' → Told s u s'
+  pub told_of : (s u note s' : SeatStanding B C R) → note ≡ given 0 u → Joined s note s' → SeesAlso s u s'
   told_of s u note s' is j = let a : s.room + note.room ≡ s.room = (let z : note.room ≡ 0 = ap (λ x. x.room) is in omega arith) in
       let b : s.taken ++ (run_of note.id note.share ++ note.taken) ≡ s.taken = ap (λ x. s.taken ++ (run_of x.id x.share ++ x.taken)) is ∙ append-nil s.taken in record {
         seen = j.seen;
@@ -48,7 +48,7 @@ module _ {B C R : Type 0} where
       }
 
   -- two seats of which each was told what the other had seen
-  pub met_both : (a b a' b' : Standing B C R) → Told b a b' → Told a b' a' → Told a b a' × (a'.seen ≡ b'.seen)
+  pub met_both : (a b a' b' : SeatStanding B C R) → SeesAlso b a b' → SeesAlso a b' a' → SeesAlso a b a' × (a'.seen ≡ b'.seen)
   met_both a b a' b' t u =
       let is : b'.seen ≡ t.seen = ap (λ x. x.seen) t.view in
       let is' : a'.seen ≡ u.seen = ap (λ x. x.seen) u.view in
@@ -61,7 +61,7 @@ module _ {B C R : Type 0} where
         is' ∙ (both.1 ∙ sym is),
       )
 
-module _ {B C R O : Type 0} (legal : B → List (Entry C R) → Type 0) (stands : B → List (Entry C R) → O → Type 0) where
+module _ {B C R O : Type 0} (legal : B → List (TurnEntry C R) → Type 0) (stands : B → List (TurnEntry C R) → O → Type 0) where
   abbrev M : Type 0
   M = Me (Option O) (View B C R)
 
@@ -83,7 +83,7 @@ module _ {B C R O : Type 0} (legal : B → List (Entry C R) → Type 0) (stands 
         room = room;
       }
 
-  pub ready : (may : B → List (Entry C R) → ℕ → C → Type 0) (b : B) (at : TableId) (v : View B C R) (t : ℕ) (o : O) (m : M) (call : C) → MayCall legal may b (standing at v) call → (e : Entered legal stands b v t o m) → t < 2 ^ 63 → Ready legal stands may b (v.seen ++ e.between) v.id o call (t + 1)
+  pub ready : (may : B → List (TurnEntry C R) → ℕ → C → Type 0) (b : B) (at : TableId) (v : View B C R) (t : ℕ) (o : O) (m : M) (call : C) → MayCall legal may b (standing at v) call → (e : Entered legal stands b v t o m) → t < 2 ^ 63 → Ready legal stands may b (v.seen ++ e.between) v.id o call (t + 1)
   ready may b at v t o m call may_call e small = record {
     is_legal = e.is_legal;
     value = e.stands_for;
@@ -92,23 +92,23 @@ module _ {B C R O : Type 0} (legal : B → List (Entry C R) → Type 0) (stands 
     small = omega (arith, small);
   }
 
-  pub joined_of : (now was theirs : TableId) (v u : View B C R) (m m' : M) → now ≡ was → m.0 ≡ joined v u → Met m m' → Joined (standing was v) (standing theirs u) (standing now m'.0)
+  pub joined_of : (now was theirs : TableId) (v u : View B C R) (m m' : M) → now ≡ was → m.0 ≡ view_joined v u → Met m m' → Joined (standing was v) (standing theirs u) (standing now m'.0)
   joined_of now was theirs v u m m' same is met =
-      let met' : Met {O = O} (joined v u, m.1) m' = subst (λ (z : View B C R). Met {O = O} (z, m.1) m') is met in record {
+      let met' : Met {O = O} (view_joined v u, m.1) m' = subst (λ (z : View B C R). Met {O = O} (z, m.1) m') is met in record {
         seen = met'.seen;
         view = λ i. standing (same i) (met'.view i);
         longer = met'.longer;
       }
 
-  pub learned_of : (at : TableId) (v u : View B C R) (m m' : M) → m.0 ≡ joined v u → Met m m' → LearnsOthers (standing at v) (standing at m'.0)
+  pub learned_of : (at : TableId) (v u : View B C R) (m m' : M) → m.0 ≡ view_joined v u → Met m m' → LearnsOthers (standing at v) (standing at m'.0)
   learned_of at v u m m' is met =
-      let met' : Met {O = O} (joined v u, m.1) m' = subst (λ (z : View B C R). Met {O = O} (z, m.1) m') is met in
+      let met' : Met {O = O} (view_joined v u, m.1) m' = subst (λ (z : View B C R). Met {O = O} (z, m.1) m') is met in
       λ more whole. met'.others more (sym (ap (λ (x : View B C R). x.seen) met'.view) ∙ whole)
 
   pub ids_after : (m m' : M) → Met m m' → AreIds m'.0.seen
   ids_after m m' met = subst (λ (v : View B C R). AreIds v.seen) (sym met.view) met.ids
 
-  pub rested_after : (v u : View B C R) (m m' : M) → v.stage ≡ Rests → m ≡ (joined v u, []) → Met m m' → Rested m'
+  pub rested_after : (v u : View B C R) (m m' : M) → v.stage ≡ Rests → m ≡ (view_joined v u, []) → Met m m' → Rested m'
   rested_after v u m m' rests is met = record {
     stage = ap (λ x. x.stage) met.view ∙ (ap (λ (x : M). x.0.stage) is ∙ rests);
     other = ap (λ x. x.other) met.view;

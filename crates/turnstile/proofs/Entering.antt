@@ -8,20 +8,20 @@ use lib.ListN.{get_elem?}
 use lib.Seq.{set-get_or}
 use Rattle.atomic_table.specs.Table.{State, Me, step, Act, keeps, takes, stepped, carried_after, Valid, Allows}
 use Rattle.atomic_table.proofs.Lists.{set_again}
-use Rattle.turnstile.specs.declared.object.Entry.{Entry}
+use Rattle.turnstile.specs.declared.object.TurnEntry.{TurnEntry}
 use Rattle.turnstile.specs.declared.view.View.{View}
 use Rattle.turnstile.specs.declared.view.Stage.{Stage}
 use Rattle.turnstile.specs.declared.view.Stage.TheVariants.{Rests, Waits, Inside, Posted}
-use Rattle.turnstile.specs.Views.{ticketed, Owns, holds_ticket, staged}
+use Rattle.turnstile.specs.Views.{ticketed, ViewOwns, holds_ticket, staged}
 use Rattle.turnstile.specs.Rule.{Stands, Knows, Homes, Turned}
 use Rattle.turnstile.specs.Plays.{drew, looked}
 use Rattle.turnstile.proofs.Prefixes.{at_behind, at_inside, each_all}
 use Rattle.turnstile.proofs.Ids.{put, put_here, put_else}
 use Rattle.turnstile.proofs.Views.{each_after, sums, moved, few}
 
-module _ {B C R O : Type 0} (legal : B → List (Entry C R) → Type 0) (stands : B → List (Entry C R) → O → Type 0) (base : B) where
+module _ {B C R O : Type 0} (legal : B → List (TurnEntry C R) → Type 0) (stands : B → List (TurnEntry C R) → O → Type 0) (base : B) where
   abbrev E : Type 0
-  E = Entry C R
+  E = TurnEntry C R
 
   abbrev V : Type 0
   V = View B C R
@@ -174,7 +174,7 @@ module _ {B C R O : Type 0} (legal : B → List (Entry C R) → Type 0) (stands 
             value = house.0;
             seen = refl;
             slot = ap (λ cs. (0, Some house.0) ∷ cs) bare;
-            others = each_all (λ (e : E). ¬ Owns me.0 e.by) between (λ i e a. k.apart (length me.0.seen + i) e (omega arith) (let z : length me.0.other ≡ 0 = ap length alone in omega arith) (subst (λ l. get_elem? l (length me.0.seen + i) ≡ some e) whole (at_behind me.0.seen between i ∙ a)));
+            others = each_all (λ (e : E). ¬ ViewOwns me.0 e.by) between (λ i e a. k.apart (length me.0.seen + i) e (omega arith) (let z : length me.0.other ≡ 0 = ap length alone in omega arith) (subst (λ l. get_elem? l (length me.0.seen + i) ≡ some e) whole (at_behind me.0.seen between i ∙ a)));
             count = ap length whole ∙ (let n : length r.log ≡ found = omega arith in n);
             is_legal = subst (λ (x : B × List E). legal x.0 x.1) (λ i. (sym (k.based b told) i, sym whole i)) r.is_legal;
             stands_for = subst (λ (x : B × List E). stands x.0 x.1 house.0) (λ i. (sym (k.based b told) i, sym whole i)) house.2;

@@ -4,11 +4,11 @@ use mathlib.Core.Option.{none}
 use mathlib.Core.List.{append-nil}
 use Rattle.atomic_table.specs.Table.{State, Me, step, keeps, gives, put_back, rest, Allows}
 use Rattle.turnstile.specs.Ids.{total_of}
-use Rattle.turnstile.specs.declared.object.Entry.{Entry}
+use Rattle.turnstile.specs.declared.object.TurnEntry.{TurnEntry}
 use Rattle.turnstile.specs.declared.view.View.{View}
 use Rattle.turnstile.specs.declared.view.Stage.{Stage}
 use Rattle.turnstile.specs.declared.view.Stage.TheVariants.{Rests, Waits, Inside, Posted}
-use Rattle.turnstile.specs.Views.{ticketed, InRange, Owns, holds_ticket, room_of, staged}
+use Rattle.turnstile.specs.Views.{ticketed, InRange, ViewOwns, holds_ticket, room_of, staged}
 use Rattle.turnstile.specs.Rule.{Stands, Knows, Homes, Turned}
 use Rattle.turnstile.specs.Plays.{posted, left}
 use Rattle.turnstile.specs.Seats.{AreIds}
@@ -16,9 +16,9 @@ use Rattle.turnstile.proofs.Totals.{total_at}
 use Rattle.turnstile.proofs.Prefixes.{prefix_trans, at_inside, at_push, all_push}
 use Rattle.turnstile.proofs.Views.{each_after, sums, moved, still_owns, few}
 
-module _ {B C R O : Type 0} (legal : B → List (Entry C R) → Type 0) (stands : B → List (Entry C R) → O → Type 0) (base : B) where
+module _ {B C R O : Type 0} (legal : B → List (TurnEntry C R) → Type 0) (stands : B → List (TurnEntry C R) → O → Type 0) (base : B) where
   abbrev E : Type 0
-  E = Entry C R
+  E = TurnEntry C R
 
   abbrev V : Type 0
   V = View B C R
@@ -130,7 +130,7 @@ module _ {B C R O : Type 0} (legal : B → List (Entry C R) → Type 0) (stands 
       ticket_or (Inside t) = t
       ticket_or _ = 0
 
-      foreign : {log : List E} {serving tickets out id j : ℕ} {owner holder : ℕ → ℕ} {v d : V} {x : ℕ} → K log serving tickets out owner holder j d → K log serving tickets out owner holder id v → j ≢ id → x ≡ v.id → InRange v v.id → Owns d x → ⊥
+      foreign : {log : List E} {serving tickets out id j : ℕ} {owner holder : ℕ → ℕ} {v d : V} {x : ℕ} → K log serving tickets out owner holder j d → K log serving tickets out owner holder id v → j ≢ id → x ≡ v.id → InRange v v.id → ViewOwns d x → ⊥
       foreign {holder = holder} kj k other is own own_x = other (sym (kj.holder_is _ own_x) ∙ (ap holder is ∙ k.holder_is _ (inl own)))
 
       after : (log log' : List E) (serving tickets out : ℕ) (owner : ℕ → ℕ) (id j : ℕ) (d : V) → j ≢ id → owner serving ≡ id → (stage : Stage) → Stands log serving tickets out owner j d stage → Stands log' serving tickets 2 owner j d stage

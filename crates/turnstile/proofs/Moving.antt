@@ -9,12 +9,12 @@ use lib.Seq.{set-get_or}
 use Rattle.atomic_table.specs.Table.{State, Me, step, Act, keeps, stepped, carried_after, Valid, Allows, Splits, Joins, opening}
 use Rattle.atomic_table.proofs.Lists.{set_else}
 use Rattle.turnstile.specs.Ids.{Among, run_of, InShare, OwnsId}
-use Rattle.turnstile.specs.declared.object.Entry.{Entry}
+use Rattle.turnstile.specs.declared.object.TurnEntry.{TurnEntry}
 use Rattle.turnstile.specs.declared.view.View.{View}
 use Rattle.turnstile.specs.declared.view.Start.{Start}
 use Rattle.turnstile.specs.declared.view.Stage.{Stage}
 use Rattle.turnstile.specs.declared.view.Stage.TheVariants.{Rests, Waits, Inside, Posted}
-use Rattle.turnstile.specs.Views.{keeps_all_but, given, joined, spent, ticketed, InRange, Owns, Owned, holds_ticket, share_of, room_of, first_view}
+use Rattle.turnstile.specs.Views.{view_keeps_all_but, view_given, view_joined, spent, ticketed, InRange, ViewOwns, Owned, holds_ticket, share_of, room_of, first_view}
 use Rattle.turnstile.specs.Rule.{Stands, Knows, Turned}
 use Rattle.turnstile.specs.Plays.{met}
 use Rattle.turnstile.proofs.Totals.{total_snoc}
@@ -22,9 +22,9 @@ use Rattle.turnstile.proofs.Prefixes.{prefix_shorter, at_between, at_inside, at_
 use Rattle.turnstile.proofs.Ids.{hand, hand_in, hand_out, dec_both, among_append, among_front, among_run}
 use Rattle.turnstile.proofs.Views.{each_after, sums, same_ids, few}
 
-module _ {B C R O : Type 0} (legal : B → List (Entry C R) → Type 0) (stands : B → List (Entry C R) → O → Type 0) (base : B) where
+module _ {B C R O : Type 0} (legal : B → List (TurnEntry C R) → Type 0) (stands : B → List (TurnEntry C R) → O → Type 0) (base : B) where
   abbrev E : Type 0
-  E = Entry C R
+  E = TurnEntry C R
 
   abbrev V : Type 0
   V = View B C R
@@ -41,13 +41,13 @@ module _ {B C R O : Type 0} (legal : B → List (Entry C R) → Type 0) (stands 
   abbrev K : List E → ℕ → ℕ → ℕ → (ℕ → ℕ) → (ℕ → ℕ) → ℕ → V → Type 0
   K = Knows base
 
-  pub splits : (id n : ℕ) (v : V) → v.stage ≡ Rests → n < v.share → v.other ≡ [] → Splits Rule id v (keeps_all_but n v) (given n v)
+  pub splits : (id n : ℕ) (v : V) → v.stage ≡ Rests → n < v.share → v.other ≡ [] → Splits Rule id v (view_keeps_all_but n v) (view_given n v)
   splits id n v is low alone s r at =
       let k = r.each id v at in
       let k_room = k.room in
       let k_within = k.within in
-      let left : V = keeps_all_but n v in
-      let right : V = given n v in
+      let left : V = view_keeps_all_but n v in
+      let right : V = view_given n v in
       let fresh_seat : ℕ = length (set s.views id left) in
       let p : (x : ℕ) → Dec ((right.id ≤ x) × (x < right.id + right.share)) = λ x. dec_both (dec_le right.id x) (dec_le (suc x) (right.id + right.share)) in
       let holder : ℕ → ℕ = hand p r.holder fresh_seat in
@@ -122,13 +122,13 @@ module _ {B C R O : Type 0} (legal : B → List (Entry C R) → Type 0) (stands 
       widens : (n id share : ℕ) (taken : List ℕ) (x : ℕ) → OwnsId id (share - n) taken x → OwnsId id share taken x
       widens n id share taken x own = ⊎_elim (λ (t : InShare id (share - n) x). let a = t.1 in inl (t.0, omega arith)) (λ t. inr t) own
 
-  pub joins : (id : ℕ) (v : V) (other : ℕ) (u : V) → u.stage ≡ Rests → u.other ≡ [] → v.other ≡ [] → Joins Rule id v other u (joined v u) spent
+  pub joins : (id : ℕ) (v : V) (other : ℕ) (u : V) → u.stage ≡ Rests → u.other ≡ [] → v.other ≡ [] → Joins Rule id v other u (view_joined v u) spent
   joins id v other u is alone bare s r at apart there' =
-      let there : get_elem? s.views other ≡ some u = sym (set_else s.views id other (joined v u) apart) ∙ there' in
+      let there : get_elem? s.views other ≡ some u = sym (set_else s.views id other (view_joined v u) apart) ∙ there' in
       let k = r.each id v at in
       let ku = r.each other u there in
       let k_room = k.room in
-      let w : V = joined v u in
+      let w : V = view_joined v u in
       let p : (x : ℕ) → Dec (r.holder x ≡ other) = λ x. ℕ_discrete (r.holder x) other in
       let holder : ℕ → ℕ = hand p r.holder id in
       let P : ℕ → V → Type 0 = K r.log r.serving r.tickets r.out r.owner holder in
@@ -196,10 +196,10 @@ module _ {B C R O : Type 0} (legal : B → List (Entry C R) → Type 0) (stands 
         rooms = omega arith;
       }
     where
-      theirs : (u : V) (x : ℕ) → Among x (run_of u.id u.share ++ u.taken) → Owns u x
+      theirs : (u : V) (x : ℕ) → Among x (run_of u.id u.share ++ u.taken) → ViewOwns u x
       theirs u x a = ⊎_elim (λ t. inl (among_run u.id u.share x t)) (λ t. inr t) (among_append (run_of u.id u.share) u.taken x a)
 
-      parts : (v u : V) (x : ℕ) → Owns (joined v u) x → Owns v x ⊎ Owns u x
+      parts : (v u : V) (x : ℕ) → ViewOwns (view_joined v u) x → ViewOwns v x ⊎ ViewOwns u x
       parts v u x own = ⊎_elim (λ t. inl (inl t)) (λ a. ⊎_elim (λ t. inl (inr t)) (λ t. inr (theirs u x t)) (among_append v.taken (run_of u.id u.share ++ u.taken) x a)) own
 
       re_view : (log : List E) (serving tickets out : ℕ) (owner : ℕ → ℕ) (id : ℕ) (v w : V) (stage : Stage) → w.seen ≡ v.seen → Stands log serving tickets out owner id v stage → Stands log serving tickets out owner id w stage

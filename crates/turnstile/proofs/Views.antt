@@ -5,9 +5,9 @@ use lib.ListN.{get_elem?}
 use Rattle.atomic_table.specs.Table.{State}
 use Rattle.atomic_table.proofs.Lists.{at_set}
 use Rattle.turnstile.specs.Ids.{total_of}
-use Rattle.turnstile.specs.declared.object.Entry.{Entry}
+use Rattle.turnstile.specs.declared.object.TurnEntry.{TurnEntry}
 use Rattle.turnstile.specs.declared.view.View.{View}
-use Rattle.turnstile.specs.Views.{Owns, Owned, holds_ticket, share_of, room_of}
+use Rattle.turnstile.specs.Views.{ViewOwns, Owned, holds_ticket, share_of, room_of}
 use Rattle.turnstile.specs.Rule.{Stands, Knows, Turned}
 use Rattle.turnstile.proofs.Totals.{total_set, total_below}
 
@@ -26,7 +26,7 @@ module _ {B C R : Type 0} where
 
 module _ {B C R : Type 0} (base : B) where
   -- what a seat knows when no entry is added and its ids stay
-  pub moved : (log : List (Entry C R)) (serving tickets out serving' tickets' out' : ℕ) (owner owner' holder : ℕ → ℕ) (j : ℕ) (d : View B C R)
+  pub moved : (log : List (TurnEntry C R)) (serving tickets out serving' tickets' out' : ℕ) (owner owner' holder : ℕ → ℕ) (j : ℕ) (d : View B C R)
       → (Stands log serving tickets out owner j d d.stage → Stands log serving' tickets' out' owner' j d d.stage) → Knows base log serving tickets out owner holder j d → Knows base log serving' tickets' out' owner' holder j d
   moved log serving tickets out serving' tickets' out' owner owner' holder j d f k = record {
     based = k.based;
@@ -46,7 +46,7 @@ module _ {B C R : Type 0} (base : B) where
   }
 
   -- the ids of other seats stay
-  pub same_ids : {log : List (Entry C R)} {serving tickets out j : ℕ} {owner holder holder' : ℕ → ℕ} {d : View B C R} → Knows base log serving tickets out owner holder j d → ((x : ℕ) → Owns d x → holder' x ≡ holder x) → Knows base log serving tickets out owner holder' j d
+  pub same_ids : {log : List (TurnEntry C R)} {serving tickets out j : ℕ} {owner holder holder' : ℕ → ℕ} {d : View B C R} → Knows base log serving tickets out owner holder j d → ((x : ℕ) → ViewOwns d x → holder' x ≡ holder x) → Knows base log serving tickets out owner holder' j d
   same_ids k f = record {
     based = k.based;
     begins = k.begins;
@@ -65,9 +65,9 @@ module _ {B C R : Type 0} (base : B) where
   }
 
   -- what was one of its ids still is
-  pub still_owns : {log : List (Entry C R)} {serving tickets out j x : ℕ} {owner holder : ℕ → ℕ} {d : View B C R} → Knows base log serving tickets out owner holder j d → Owned d x → Owns d x
+  pub still_owns : {log : List (TurnEntry C R)} {serving tickets out j x : ℕ} {owner holder : ℕ → ℕ} {d : View B C R} → Knows base log serving tickets out owner holder j d → Owned d x → ViewOwns d x
   still_owns {x = x} k was = ⊎_elim (λ t. inl t) (λ t. inr (k.older_is x t)) was
 
 -- no more tickets than ids
-pub few : {B C R O : Type 0} (legal : B → List (Entry C R) → Type 0) (stands : B → List (Entry C R) → O → Type 0) (base : B) (s : State (Option O) (View B C R)) → Turned legal stands base s → total_of holds_ticket s.views ≤ total_of share_of s.views
+pub few : {B C R O : Type 0} (legal : B → List (TurnEntry C R) → Type 0) (stands : B → List (TurnEntry C R) → O → Type 0) (base : B) (s : State (Option O) (View B C R)) → Turned legal stands base s → total_of holds_ticket s.views ≤ total_of share_of s.views
 few legal stands base s r = total_below holds_ticket share_of s.views (λ j d e. (r.each j d e).turn)

@@ -3,11 +3,11 @@ use Rattle.std.specs.Prelude.{◌≡◌, ℕ, ◌+◌, ◌<◌, ◌≤◌, List,
 use Rattle.atomic_table.specs.Table.{Me}
 use Rattle.atomic_table.specs.Seated.{TableId}
 use Rattle.atomic_table.specs.declared.shared.Seat.{Seat}
-use Rattle.turnstile.specs.declared.object.Entry.{Entry}
+use Rattle.turnstile.specs.declared.object.TurnEntry.{TurnEntry}
 use Rattle.turnstile.specs.declared.view.View.{View}
 use Rattle.turnstile.specs.declared.view.Stage.TheVariants.{Rests, Inside}
-use Rattle.turnstile.specs.Views.{Others}
-use Rattle.turnstile.specs.Seats.{Standing, AreIds}
+use Rattle.turnstile.specs.Views.{ViewOthers}
+use Rattle.turnstile.specs.Seats.{SeatStanding, AreIds}
 
 -- the seat's table is this one, and has three words
 abbrev pub Fits : TableId → TableId → Type 0
@@ -15,12 +15,12 @@ Fits seat table = (seat ≡ table) × (table.words ≡ 3)
 
 module _ {B C R : Type 0} where
   -- what a contract sees of a view
-  abbrev pub standing : TableId → View B C R → Standing B C R
+  abbrev pub standing : TableId → View B C R → SeatStanding B C R
   standing at v = record { at = at; base = v.base; seen = v.seen; id = v.id; share = v.share; taken = v.taken; room = v.room }
 
   module _ {O : Type 0} where
     -- what a contract sees of a seat
-    abbrev pub standing_of : Seat O (View B C R) → Standing B C R
+    abbrev pub standing_of : Seat O (View B C R) → SeatStanding B C R
     standing_of p = standing p.table_id p.me.0
 
     -- the seat has no ticket and holds no value
@@ -41,11 +41,11 @@ module _ {B C R : Type 0} where
       pub ids : AreIds p.me.0.seen
 
   -- the turn has come, and the value is out: it stands for the history that the seat has seen
-  pub record Entered {O : Type 0} (legal : B → List (Entry C R) → Type 0) (stands : B → List (Entry C R) → O → Type 0) (b : B) (v : View B C R) (ticket : ℕ) (value : O) (m : Me (Option O) (View B C R)) : Type 0 where
-    pub between : List (Entry C R)
+  pub record Entered {O : Type 0} (legal : B → List (TurnEntry C R) → Type 0) (stands : B → List (TurnEntry C R) → O → Type 0) (b : B) (v : View B C R) (ticket : ℕ) (value : O) (m : Me (Option O) (View B C R)) : Type 0 where
+    pub between : List (TurnEntry C R)
     pub view : m.0 ≡ record v { seen = v.seen ++ between; stage = Inside ticket }
     pub slot : m.1 ≡ (0, None) ∷ []
-    pub others : Others v between
+    pub others : ViewOthers v between
     pub count : length (v.seen ++ between) ≡ ticket
     pub is_legal : legal b (v.seen ++ between)
     pub stands_for : stands b (v.seen ++ between) value

@@ -6,11 +6,11 @@ use mathlib.Core.List.{IsPrefix}
 use lib.ListN.{get_elem?}
 use Rattle.atomic_table.specs.Table.{State}
 use Rattle.turnstile.specs.Ids.{total_of, Among}
-use Rattle.turnstile.specs.declared.object.Entry.{Entry}
+use Rattle.turnstile.specs.declared.object.TurnEntry.{TurnEntry}
 use Rattle.turnstile.specs.declared.view.View.{View}
 use Rattle.turnstile.specs.declared.view.Stage.{Stage}
 use Rattle.turnstile.specs.declared.view.Stage.TheVariants.{Rests, Waits, Inside, Posted}
-use Rattle.turnstile.specs.Views.{ticketed, InRange, Fresh, Owns, Owned, holds_ticket, share_of, room_of}
+use Rattle.turnstile.specs.Views.{ticketed, InRange, Fresh, ViewOwns, Owned, holds_ticket, share_of, room_of}
 use Rattle.turnstile.specs.Seats.{AreIds}
 
 -- a value at home stands for the history; while the value is out none is at home
@@ -19,7 +19,7 @@ Homes {L} {O} stands log zero hs = (o : O) × (hs ≡ some (Some o) ∷ []) × s
 Homes stands log (suc k) hs = hs ≡ none ∷ []
 
 module _ {B C R : Type 0} where
-  module _ (log : List (Entry C R)) (serving tickets out : ℕ) (owner : ℕ → ℕ) (j : ℕ) where
+  module _ (log : List (TurnEntry C R)) (serving tickets out : ℕ) (owner : ℕ → ℕ) (j : ℕ) where
     -- a ticket is its seat's alone, and only the one that is served has the value
     abbrev pub Stands : View B C R → Stage → Type 0
     Stands v Rests = Unit {0}
@@ -28,20 +28,20 @@ module _ {B C R : Type 0} where
     Stands v (Posted t) = (t ≡ serving) × (t < tickets) × (owner t ≡ j) × (out ≡ 2) × (v.seen ≡ log)
 
   -- what the seat j knows
-  pub record Knows (base : B) (log : List (Entry C R)) (serving tickets out : ℕ) (owner holder : ℕ → ℕ) (j : ℕ) (v : View B C R) : Type 0 where
+  pub record Knows (base : B) (log : List (TurnEntry C R)) (serving tickets out : ℕ) (owner holder : ℕ → ℕ) (j : ℕ) (v : View B C R) : Type 0 where
     pub based : (b : B) → v.base ≡ Some b → b ≡ base
     -- what it has seen is a prefix of the history, and so is what was handed to it
     pub begins : IsPrefix v.seen log
     pub other_begins : IsPrefix v.other log
     -- every entry of one of its ids has been seen
-    pub apart : (k : ℕ) (e : Entry C R) → length v.seen ≤ k → length v.other ≤ k → get_elem? log k ≡ some e → ¬ Owns v e.by
+    pub apart : (k : ℕ) (e : TurnEntry C R) → length v.seen ≤ k → length v.other ≤ k → get_elem? log k ≡ some e → ¬ ViewOwns v e.by
     -- those of the ids that it had before it last took over another's are in what it has seen itself
-    pub own_apart : (k : ℕ) (e : Entry C R) → length v.seen ≤ k → get_elem? log k ≡ some e → ¬ Owned v e.by
+    pub own_apart : (k : ℕ) (e : TurnEntry C R) → length v.seen ≤ k → get_elem? log k ≡ some e → ¬ Owned v e.by
     pub older_is : (x : ℕ) → Among x v.older → Among x v.taken
     -- no entry has one of its later ids, which it may give away
-    pub fresh : (k : ℕ) (e : Entry C R) → get_elem? log k ≡ some e → ¬ Fresh v e.by
+    pub fresh : (k : ℕ) (e : TurnEntry C R) → get_elem? log k ≡ some e → ¬ Fresh v e.by
     -- no id is owned by two seats, and none is owned twice
-    pub holder_is : (x : ℕ) → Owns v x → holder x ≡ j
+    pub holder_is : (x : ℕ) → ViewOwns v x → holder x ≡ j
     pub taken_is : (x : ℕ) → Among x v.taken → ¬ InRange v x
     -- its own ids are ids of a turnstile
     pub within : v.id + v.share ≤ 65537
@@ -53,8 +53,8 @@ module _ {B C R : Type 0} where
     pub caller : v.id ≢ 0 → length v.seen < 2 ^ 62 → v.share ≤ v.room
 
   -- the history is legal, its length is in word 0, and the value at home stands for it
-  pub record Turned {O : Type 0} (legal : B → List (Entry C R) → Type 0) (stands : B → List (Entry C R) → O → Type 0) (base : B) (s : State (Option O) (View B C R)) : Type 0 where
-    pub log : List (Entry C R)
+  pub record Turned {O : Type 0} (legal : B → List (TurnEntry C R) → Type 0) (stands : B → List (TurnEntry C R) → O → Type 0) (base : B) (s : State (Option O) (View B C R)) : Type 0 where
+    pub log : List (TurnEntry C R)
     pub serving : ℕ
     pub tickets : ℕ
     -- 0: the value is at home; 1: it is out, and the turn's entry is not posted; 2: the entry is posted

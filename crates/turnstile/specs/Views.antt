@@ -2,7 +2,7 @@
 use Rattle.std.specs.Prelude.{ℕ, ◌+◌, ◌-◌, ◌<◌, List, [], ◌++◌, Some, None}
 use Rattle.std.specs.List.{AllByRecursion}
 use Rattle.turnstile.specs.Ids.{run_of, InShare, OwnsId}
-use Rattle.turnstile.specs.declared.object.Entry.{Entry}
+use Rattle.turnstile.specs.declared.object.TurnEntry.{TurnEntry}
 use Rattle.turnstile.specs.declared.view.View.{View}
 use Rattle.turnstile.specs.declared.view.Start.{Start}
 use Rattle.turnstile.specs.declared.view.Stage.{Stage}
@@ -25,16 +25,16 @@ module _ {B C R : Type 0} where
   Fresh v x = (v.id < x) × (x < v.id + v.share)
 
   -- the id is one of the seat's
-  abbrev pub Owns : View B C R → ℕ → Type 0
-  Owns v x = OwnsId v.id v.share v.taken x
+  abbrev pub ViewOwns : View B C R → ℕ → Type 0
+  ViewOwns v x = OwnsId v.id v.share v.taken x
 
   -- the id was one of the seat's before it last took over another's
   abbrev pub Owned : View B C R → ℕ → Type 0
   Owned v x = OwnsId v.id v.share v.older x
 
   -- these entries are other seats'
-  abbrev pub Others : View B C R → List (Entry C R) → Type 0
-  Others v es = AllByRecursion (λ (e : Entry C R). ¬ Owns v e.by) es
+  abbrev pub ViewOthers : View B C R → List (TurnEntry C R) → Type 0
+  ViewOthers v es = AllByRecursion (λ (e : TurnEntry C R). ¬ ViewOwns v e.by) es
 
   -- what a seat counts for in the rule's three sums
   abbrev pub holds_ticket : View B C R → ℕ
@@ -55,16 +55,16 @@ module _ {B C R : Type 0} where
   staged v stage = record v { stage = stage }
 
   -- the seat gives away its last k ids
-  abbrev pub keeps_all_but : ℕ → View B C R → View B C R
-  keeps_all_but k v = record v { share = v.share - k; room = v.room - k }
+  abbrev pub view_keeps_all_but : ℕ → View B C R → View B C R
+  view_keeps_all_but k v = record v { share = v.share - k; room = v.room - k }
 
   -- the new seat has them, and has seen the same prefix
-  abbrev pub given : ℕ → View B C R → View B C R
-  given k v = record { base = v.base; seen = v.seen; other = []; id = v.id + (v.share - k); share = k; taken = []; older = []; room = k; stage = Rests }
+  abbrev pub view_given : ℕ → View B C R → View B C R
+  view_given k v = record { base = v.base; seen = v.seen; other = []; id = v.id + (v.share - k); share = k; taken = []; older = []; room = k; stage = Rests }
 
   -- the seat takes over the ids of another
-  abbrev pub joined : View B C R → View B C R → View B C R
-  joined v u = record v { other = u.seen; taken = v.taken ++ (run_of u.id u.share ++ u.taken); older = v.taken; room = v.room + u.room }
+  abbrev pub view_joined : View B C R → View B C R → View B C R
+  view_joined v u = record v { other = u.seen; taken = v.taken ++ (run_of u.id u.share ++ u.taken); older = v.taken; room = v.room + u.room }
 
   -- what is left of the other
   abbrev pub spent : View B C R

@@ -8,6 +8,6 @@ mod steps;
 mod turnstile;
 mod view;
 
-pub use object::{Clock, Entry, Object};
+pub use object::{Clock, Object, TurnEntry};
 pub use seat::Seat;
 pub use turnstile::Turnstile;

@@ -7,9 +7,9 @@ use std::marker::{Brand, PhantomData};
 /// The entry that a post makes. Each call picks it.
 pub(crate) trait Said<C, R> {
     ghost use Rattle.std.specs.Prelude.{Option};
-    ghost use Rattle.turnstile.specs.declared.object.Entry.{Entry};
+    ghost use Rattle.turnstile.specs.declared.object.TurnEntry.{TurnEntry};
 
-    ghost entry: { Option (Entry C R) };
+    ghost entry: { Option (TurnEntry C R) };
 }
 
 impl<C, R> Said<C, R> for Brand {
@@ -78,19 +78,19 @@ pub(crate) struct Cut<N> {
 }
 
 impl<B, C, R, N: Amount> Split<View<B, C, R>> for Cut<N> {
-    ghost use Rattle.turnstile.specs.Views.{keeps_all_but, given};
+    ghost use Rattle.turnstile.specs.Views.{view_keeps_all_but, view_given};
 
-    ghost left = { keeps_all_but N.amount };
+    ghost left = { view_keeps_all_but N.amount };
 
-    ghost right = { given N.amount };
+    ghost right = { view_given N.amount };
 }
 
 pub(crate) struct TakeOver;
 
 impl<B, C, R> Join<View<B, C, R>> for TakeOver {
-    ghost use Rattle.turnstile.specs.Views.{joined, spent};
+    ghost use Rattle.turnstile.specs.Views.{view_joined, spent};
 
-    ghost both = { joined };
+    ghost both = { view_joined };
 
     ghost spent = { spent };
 }

@@ -3,23 +3,23 @@ ghost use Rattle.std.specs.Prelude.{◌≡◌, ◌+◌, ◌<◌, ◌≤◌, leng
 ghost use Rattle.turnstile.specs.Seats.{AreIds};
 
 use crate::object::Object;
-use crate::view::Place;
+use crate::view::SeatToken;
 use std::marker::Model;
 
 /// A caller's place at a turnstile: the ids that it owns, and the prefix of the history that it has seen.
 #[derive(Drop)]
 pub struct Seat<O: Object> {
-    pub(crate) place: Place<O>,
+    pub(crate) place: SeatToken<O>,
     pub(crate) id: u64,
     pub(crate) share: u64,
     pub(crate) seen: u64,
 }
 
 impl<O: Object> Model for Seat<O> {
-    ghost use Rattle.turnstile.specs.Seats.{Standing};
+    ghost use Rattle.turnstile.specs.Seats.{SeatStanding};
     ghost use Rattle.turnstile.specs.Places.{standing_of, Kept};
 
-    ghost Value = { Standing O.Base O.Call O.Reply };
+    ghost Value = { SeatStanding O.Base O.Call O.Reply };
 
     ghost view = { λ s. standing_of s.place };
 

@@ -1,16 +1,16 @@
 // The steps of a turn, and of seats that split and meet, on the table itself.
 ghost use Rattle.std.specs.Prelude.{◌≡◌, ◌≢◌, ℕ, ◌+◌, ◌<◌, ◌≤◌, ◌^◌, [], ◌∷◌, ◌++◌, length, Some, None, IfOk};
-ghost use Rattle.turnstile.specs.declared.object.Entry.{Entry};
+ghost use Rattle.turnstile.specs.declared.object.TurnEntry.{TurnEntry};
 ghost use Rattle.turnstile.specs.declared.view.Stage.TheVariants.{Rests, Waits, Inside, Posted};
-ghost use Rattle.turnstile.specs.Views.{staged, keeps_all_but, given, first_view};
+ghost use Rattle.turnstile.specs.Views.{staged, view_keeps_all_but, view_given, first_view};
 ghost use Rattle.turnstile.specs.Plays.{Comes};
 ghost use Rattle.turnstile.specs.Objects.{entry_of};
-ghost use Rattle.turnstile.specs.Seats.{AreIds, MayCall, HasRoom, Called, Joined, LearnsOthers, Told};
+ghost use Rattle.turnstile.specs.Seats.{AreIds, MayCall, HasRoom, Called, Joined, LearnsOthers, SeesAlso};
 ghost use Rattle.turnstile.specs.Places.{Fits, standing_of, Rested, Entered};
 
 use crate::object::{Clock, Object};
 use crate::plays::{Amount, Cut, Draw, Leave, Look, Meet, Post, Said, TakeOver};
-use crate::view::{Place, Start, TurnTable, Turns};
+use crate::view::{SeatToken, Start, TurnTable, Turns};
 use atomic_table::Table;
 use berth_face::Gate;
 use crossbeam_utils::Backoff;
@@ -21,7 +21,7 @@ use std::sync::Wait;
 use std::thread::Threads;
 
 // Draws a ticket.
-fn draw<O: Object>(turns: &Turns<O>, place: &mut Place<O>) -> u64
+fn draw<O: Object>(turns: &Turns<O>, place: &mut SeatToken<O>) -> u64
     requires table { Fits place.old.table_id turns.now.table_id }
     requires rests { (place.old.me.0.stage ≡ Rests) × (0 < place.old.me.0.share) }
     ensures same { place.new.table_id ≡ place.old.table_id }
@@ -38,7 +38,7 @@ fn draw<O: Object>(turns: &Turns<O>, place: &mut Place<O>) -> u64
 const SPINS: u32 = 7;
 
 // Looks until the turn has come, and takes the value. After some looks it sleeps until a turn is passed on.
-fn wait<O: Object, R: Wait>(rt: &R, turns: &Turns<O>, place: &mut Place<O>, ticket: u64)
+fn wait<O: Object, R: Wait>(rt: &R, turns: &Turns<O>, place: &mut SeatToken<O>, ticket: u64)
     requires table { Fits place.old.table_id turns.now.table_id }
     requires waits { (place.old.me.0.stage ≡ Waits ticket) × (place.old.me.1 ≡ []) × (place.old.me.0.other ≡ []) }
     ensures same { place.new.table_id ≡ place.old.table_id }
@@ -63,7 +63,7 @@ fn wait<O: Object, R: Wait>(rt: &R, turns: &Turns<O>, place: &mut Place<O>, tick
 }
 
 // Takes a turn and the value.
-fn enter<O: Object, R: Wait>(rt: &R, turns: &Turns<O>, place: &mut Place<O>) -> (u64, O)
+fn enter<O: Object, R: Wait>(rt: &R, turns: &Turns<O>, place: &mut SeatToken<O>) -> (u64, O)
     requires table { Fits place.old.table_id turns.now.table_id }
     requires rests { Rested place.old.me }
     requires base { place.old.me.0.base ≡ Some turns.now.key.base }
@@ -80,7 +80,7 @@ fn enter<O: Object, R: Wait>(rt: &R, turns: &Turns<O>, place: &mut Place<O>) -> 
 // Posts the entry that N says. Its parts are for the pick alone.
 fn post<O: Object, N: Said<O::Call, O::Reply>>(
     turns: &Turns<O>,
-    place: &mut Place<O>,
+    place: &mut SeatToken<O>,
     ticket: u64,
     _id: u64,
     _call: &Snapshot<O::Call>,
@@ -89,12 +89,15 @@ fn post<O: Object, N: Said<O::Call, O::Reply>>(
     requires table { Fits place.old.table_id turns.now.table_id }
     requires turn { (place.old.me.0.stage ≡ Inside ticket) × (place.old.me.0.share ≤ place.old.me.0.room)
         × (place.old.me.0.base ≡ Some turns.now.key.base) }
-    requires said { (e : Entry O.Call O.Reply) × (N.entry ≡ Some e) × (e.by ≡ place.old.me.0.id)
+    requires said { (e : TurnEntry O.Call O.Reply) × (N.entry ≡ Some e) × (e.by ≡ place.old.me.0.id)
         × O.legal turns.now.key.base (place.old.me.0.seen ++ e ∷ []) }
     ensures same { place.new.table_id ≡ place.old.table_id }
-    ensures posted { (e : Entry O.Call O.Reply) → N.entry ≡ Some e → (room : ℕ)
+    ensures posted { (e : TurnEntry O.Call O.Reply) → N.entry ≡ Some e → (room : ℕ)
         × (place.new.me
-        ≡ (record place.old.me.0 { seen = place.old.me.0.seen ++ e ∷ []; room = room; stage = Posted ticket }, place.old.me.1))
+        ≡ (
+          record place.old.me.0 { seen = place.old.me.0.seen ++ e ∷ []; room = room; stage = Posted ticket },
+          place.old.me.1,
+        ))
         × (room ≤ place.old.me.0.room) × (place.old.me.0.room ≤ room + 1)
         × (length place.old.me.0.seen < 2 ^ 62 → room ≡ place.old.me.0.room) }
     ensures ids { AreIds place.new.me.0.seen }
@@ -105,7 +108,7 @@ fn post<O: Object, N: Said<O::Call, O::Reply>>(
 // Posts the entry of this call.
 fn post_call<O: Object, C: Clock>(
     turns: &Turns<O>,
-    place: &mut Place<O>,
+    place: &mut SeatToken<O>,
     ticket: u64,
     call: &Snapshot<O::Call>,
     reply: &O::Reply,
@@ -119,7 +122,14 @@ fn post_call<O: Object, C: Clock>(
     ensures same { place.new.table_id ≡ place.old.table_id }
     ensures posted { (room : ℕ)
         × (place.new.me
-        ≡ (record place.old.me.0 { seen = place.old.me.0.seen ++ entry_of id C.now call.now.value reply.now ∷ []; room = room; stage = Posted ticket }, place.old.me.1))
+        ≡ (
+          record place.old.me.0 {
+            seen = place.old.me.0.seen ++ entry_of id C.now call.now.value reply.now ∷ [];
+            room = room;
+            stage = Posted ticket;
+          },
+          place.old.me.1,
+        ))
         × (room ≤ place.old.me.0.room) × (place.old.me.0.room ≤ room + 1)
         × (length place.old.me.0.seen < 2 ^ 62 → room ≡ place.old.me.0.room) }
     ensures ids { AreIds place.new.me.0.seen }
@@ -128,7 +138,7 @@ fn post_call<O: Object, C: Clock>(
 }
 
 // Gives the value back, and the turn on.
-fn leave<O: Object>(turns: &Turns<O>, place: &mut Place<O>, ticket: u64, value: O)
+fn leave<O: Object>(turns: &Turns<O>, place: &mut SeatToken<O>, ticket: u64, value: O)
     requires table { Fits place.old.table_id turns.now.table_id }
     requires turn { (place.old.me.0.stage ≡ Posted ticket) × (place.old.me.0.base ≡ Some turns.now.key.base)
         × (place.old.me.1 ≡ (0, None) ∷ []) }
@@ -149,7 +159,7 @@ fn leave<O: Object>(turns: &Turns<O>, place: &mut Place<O>, ticket: u64, value: 
 pub(crate) fn take_turn<O: Object, C: Clock, R: Wait + Threads + Sync, G: Gate>(
     rt: &R,
     turns: &Turns<O>,
-    place: &mut Place<O>,
+    place: &mut SeatToken<O>,
     id: u64,
     call: O::Call,
     gate: &G,
@@ -189,7 +199,7 @@ pub(crate) fn lay<O: Object>(
     alloc: Global,
     value: O,
     start: Start<O::Base>,
-) -> Result<(TurnTable<O>, Place<O>), AllocError>
+) -> Result<(TurnTable<O>, SeatToken<O>), AllocError>
     requires share { start.share ≤ 65536 }
     requires value { O.legal start.base [] × O.stands start.base [] value }
     ensures table { IfOk result (λ t.
@@ -204,31 +214,39 @@ pub(crate) fn lay<O: Object>(
 }
 
 // Moves as many of the seat's last ids as N says to a new seat.
-fn cut<O: Object, N: Amount>(turns: &Turns<O>, place: &mut Place<O>, _share: u64) -> Place<O>
+fn cut<O: Object, N: Amount>(
+    turns: &Turns<O>,
+    place: &mut SeatToken<O>,
+    _share: u64,
+) -> SeatToken<O>
     requires table { Fits place.old.table_id turns.now.table_id }
     requires rests { (place.old.me.0.stage ≡ Rests) × (place.old.me.0.other ≡ []) }
     requires share { N.amount < place.old.me.0.share }
     ensures same { (place.new.table_id ≡ place.old.table_id) × (result.table_id ≡ place.old.table_id) }
-    ensures left { place.new.me ≡ (keeps_all_but N.amount place.old.me.0, place.old.me.1) }
-    ensures right { result.me ≡ (given N.amount place.old.me.0, []) }
+    ensures left { place.new.me ≡ (view_keeps_all_but N.amount place.old.me.0, place.old.me.1) }
+    ensures right { result.me ≡ (view_given N.amount place.old.me.0, []) }
 {
     turns.split_seat::<Cut<N>>(place)
 }
 
 // Moves the seat's last `share` ids to a new seat.
-pub(crate) fn cut_off<O: Object>(turns: &Turns<O>, place: &mut Place<O>, share: u64) -> Place<O>
+pub(crate) fn cut_off<O: Object>(
+    turns: &Turns<O>,
+    place: &mut SeatToken<O>,
+    share: u64,
+) -> SeatToken<O>
     requires table { Fits place.old.table_id turns.now.table_id }
     requires rests { (place.old.me.0.stage ≡ Rests) × (place.old.me.0.other ≡ []) }
     requires share { share < place.old.me.0.share }
     ensures same { (place.new.table_id ≡ place.old.table_id) × (result.table_id ≡ place.old.table_id) }
-    ensures left { place.new.me ≡ (keeps_all_but share place.old.me.0, place.old.me.1) }
-    ensures right { result.me ≡ (given share place.old.me.0, []) }
+    ensures left { place.new.me ≡ (view_keeps_all_but share place.old.me.0, place.old.me.1) }
+    ensures right { result.me ≡ (view_given share place.old.me.0, []) }
 {
     cut::<O, Brand>(turns, place, share)
 }
 
 // Takes over the ids of another seat, and what it has seen.
-pub(crate) fn take_over<O: Object>(turns: &Turns<O>, place: &mut Place<O>, other: Place<O>)
+pub(crate) fn take_over<O: Object>(turns: &Turns<O>, place: &mut SeatToken<O>, other: SeatToken<O>)
     requires table { Fits place.old.table_id turns.now.table_id × Fits other.table_id turns.now.table_id }
     requires rests { Rested place.old.me × Rested other.me }
     ensures rests { Rested place.new.me }
@@ -241,13 +259,13 @@ pub(crate) fn take_over<O: Object>(turns: &Turns<O>, place: &mut Place<O>, other
 }
 
 // Lets the seat `to` see what the seat `from` has seen.
-pub(crate) fn tell<O: Object>(turns: &Turns<O>, from: &mut Place<O>, to: &mut Place<O>)
+pub(crate) fn tell<O: Object>(turns: &Turns<O>, from: &mut SeatToken<O>, to: &mut SeatToken<O>)
     requires table { Fits from.old.table_id turns.now.table_id × Fits to.old.table_id turns.now.table_id }
     requires rests { Rested from.old.me × Rested to.old.me }
     requires share { 0 < from.old.me.0.share }
     ensures from { (from.new.table_id ≡ from.old.table_id) × (from.new.me ≡ from.old.me) }
     ensures rests { Rested to.new.me }
-    ensures told { Told (standing_of to.old) (standing_of from.old) (standing_of to.new) }
+    ensures told { SeesAlso (standing_of to.old) (standing_of from.old) (standing_of to.new) }
     ensures learned { LearnsOthers (standing_of to.old) (standing_of to.new) }
     ensures ids { AreIds to.new.me.0.seen }
 {

@@ -1,6 +1,6 @@
 // The calls.
 ghost use Rattle.std.specs.Prelude.{◌≡◌, ◌<◌, ◌≤◌, [], IfOk, IsOk};
-ghost use Rattle.turnstile.specs.Seats.{IsSeatOf, unused_seat, MayCall, HasRoom, Called, keeps_all_but, given, Joined, LearnsOthers, Told};
+ghost use Rattle.turnstile.specs.Seats.{IsSeatOf, unused_seat, MayCall, HasRoom, Called, keeps_all_but, given, Joined, LearnsOthers, SeesAlso};
 
 use crate::object::{Clock, Object};
 use crate::seat::Seat;
@@ -138,8 +138,8 @@ impl<O: Object> Turnstile<O> {
     pub fn meet(&self, a: &mut Seat<O>, b: &mut Seat<O>) -> Result<(), AllocError>
         requires seats { IsSeatOf a.old self.now × IsSeatOf b.old self.now }
         ensures seats { IsSeatOf a.new self.now × IsSeatOf b.new self.now }
-        ensures a { Told a.old b.old a.new }
-        ensures b { Told b.old a.old b.new }
+        ensures a { SeesAlso a.old b.old a.new }
+        ensures b { SeesAlso b.old a.old b.new }
         ensures others { LearnsOthers a.old a.new × LearnsOthers b.old b.new }
         ensures same { a.new.seen ≡ b.new.seen }
         ensures done { IsOk result }

@@ -1,7 +1,7 @@
 // What each seat knows, and the rule of the table. Word 0 is the number of entries, word 1 the next ticket, and word 2
 // the ticket that is served. The slot has the value. These types are specification only: of them `Start` alone is ever
 // constructed.
-use crate::object::{Entry, Object};
+use crate::object::{Object, TurnEntry};
 use atomic_table::{Seat, Shared, Table, TableRule};
 use std::alloc::Global;
 use std::collections::LinkedList;
@@ -15,13 +15,13 @@ pub enum Stage {
     Posted(u64),
 }
 
-/// What a seat knows.
+/// The knowledge of a seat.
 pub struct View<B, C, R> {
     pub base: Option<B>,
     /// The prefix of the history that the seat has seen.
-    pub seen: LinkedList<Entry<C, R>>,
+    pub seen: LinkedList<TurnEntry<C, R>>,
     /// The prefix that a seat had seen which was joined to this one, until the next look at the number of entries.
-    pub other: LinkedList<Entry<C, R>>,
+    pub other: LinkedList<TurnEntry<C, R>>,
     pub id: u64,
     pub share: u64,
     /// The ids that it took over. A clause reads an array as a list, of any length.
@@ -33,7 +33,7 @@ pub struct View<B, C, R> {
     pub stage: Stage,
 }
 
-/// What a table is made with.
+/// The arguments that a table is made with.
 #[derive(Drop)]
 pub struct Start<B> {
     pub base: B,
@@ -64,7 +64,7 @@ pub type Turns<O: Object> = Shared<
 >;
 
 /// A seat's token in it.
-pub type Place<O: Object> = Seat<Option<O>, View<O::Base, O::Call, O::Reply>>;
+pub type SeatToken<O: Object> = Seat<Option<O>, View<O::Base, O::Call, O::Reply>>;
 
 /// The table as its owner has it.
 pub type TurnTable<O: Object> = Table<

@@ -4,8 +4,8 @@ use Rattle.leaf_history.proofs.histories_go_on.Goals as goal
 pub returns-clause-fronts : goal.returns-clause-fronts
 returns-clause-fronts c = λ founded s xs ys h. LegalFrom-front founded s xs ys h
 
-pub returns-clause-on : goal.returns-clause-on
-returns-clause-on c = λ founded s xs ys g h. LegalFrom-append founded s xs ys g h
+pub returns-clause-goes_on : goal.returns-clause-goes_on
+returns-clause-goes_on c = λ founded s xs ys g h. LegalFrom-append founded s xs ys g h
 
 pub returns-clause-shut : goal.returns-clause-shut
 returns-clause-shut c = λ founded s e shut h a. shut_call founded s e.caller e.call e.reply shut h a

@@ -1,7 +1,7 @@
 use Rattle.std.proofs.Common.{ℕ, List, Option, Result, Err, IsTrue, sym, ap, subst, ◌∙◌, arith}
 use Rattle.std.proofs.lemmas.Result.{err_from_is_err_and}
-use Rattle.adopt.specs.declared.found.AdoptFault.{AdoptFault}
-use Rattle.adopt.specs.declared.found.Drained.{Drained}
+use Rattle.region_reading.specs.declared.fault.AdoptFault.{AdoptFault}
+use Rattle.adopt.specs.declared.found.ImageTables.{ImageTables}
 use Rattle.adopt.specs.Adopting.{Adopting, KeepsOn}
 use Rattle.adopt.specs.Starting.{TakesAll}
 use Rattle.adopt.proofs.Started.{all_drained, all_made, disks_on, moments_on, more_taken, none_made, none_taken, step_fails}
@@ -28,7 +28,7 @@ returns-in_err-more-clause-told g c =
     let new = g.B.Berth.meaning c.step.new.berth in
     let p = err_from_is_err_and c.from_residual.result c.from_residual.ensures.1 in
     let is = p.1 ∙ ap Err p.2 in
-    subst (λ (r : Result (Option Drained) AdoptFault). (region : List ℕ) → IsTrue old.tells → Adopting region c.args.image old.held.region → TakesAll region new.held.region r) (sym is)
+    subst (λ (r : Result (Option ImageTables) AdoptFault). (region : List ℕ) → IsTrue old.tells → Adopting region c.args.image old.held.region → TakesAll region new.held.region r) (sym is)
     (step_fails c.args.image c.loop-more.left old (g.B.Berth.meaning c.loop-more.berth) new c.loop-more.invariant c.in_err-more.field-0.0 c.in_err-more.ensures.told)
 
 pub returns-in_err-more-clause-disks : goal.returns-in_err-more-clause-disks

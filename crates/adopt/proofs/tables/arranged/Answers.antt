@@ -3,7 +3,7 @@ use Rattle.std.specs.List.{AllByRecursion}
 use Rattle.std.proofs.lemmas.Grind.{common_steps}
 use Rattle.std.proofs.lemmas.List.{drop_more}
 use Rattle.table_state.specs.Tables.{Table, bare, columns_most}
-use Rattle.leaf_model.specs.Names.{AreDistinct}
+use Rattle.row_model.specs.Names.{AreDistinct}
 use Rattle.region_layout.specs.Images.{TableImage, table_of}
 use Rattle.adopt.specs.Finishing.{IsMade}
 use Rattle.adopt.proofs.Arranging.{each_without, told_more}

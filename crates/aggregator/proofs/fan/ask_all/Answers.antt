@@ -1,9 +1,9 @@
 use Rattle.std.proofs.Common.{rules, ℕ, IfOk, List, length, sym, ap, ◌∙◌, subst, arith}
 use Rattle.std.specs.List.{AllByRecursion}
-use Rattle.leaf_model.specs.declared.rows.Row.{Row}
+use Rattle.row_model.specs.declared.rows.Row.{Row}
 use Rattle.leaf_table.specs.declared.replies.Reply.{Reply}
 use Rattle.aggregator.specs.Sorts.{Divides}
-use Rattle.aggregator.specs.Partial.{rows_before, bases_in}
+use Rattle.aggregator.specs.Partial.{rows_seen_before, bases_in}
 use Rattle.aggregator.specs.Merges.{IsAnswer, AreOver}
 use Rattle.aggregator.proofs.Halves.{all_may, asked_replies, told_back}
 use Rattle.aggregator.proofs.Replies.{all_answers, all_over}
@@ -40,5 +40,5 @@ returns-clause-groups g c = λ histories go.
     let then = c.ask_by_copy.new in
     let room = c.in_ok-replies.replies in
     let same = told_back fleet c.args.table q c.args.seats.now then.replies then.seats room.items room.len c.ask_by_copy.ensures c.in_ok-replies.ensures (search rules) in
-    let rows : ℕ → ℕ → List Row = λ leaf number. rows_before (bases_in fleet c.args.table leaf) (histories leaf) number in
+    let rows : ℕ → ℕ → List Row = λ leaf number. rows_seen_before (bases_in fleet c.args.table leaf) (histories leaf) number in
     c.sort_all.ensures.over q rows (subst (AreOver q rows 0) (sym same) (all_over q fleet c.args.table histories c.args.seats.now then.replies then.seats go c.ask_by_copy.ensures))

@@ -2,7 +2,7 @@ use Rattle.std.proofs.Common.{ℕ, ◌<◌, ◌≤◌, ◌||◌, Bool, [], List,
 use Rattle.std.specs.Prelude.{bytes_eq}
 use Rattle.std.proofs.lemmas.List.{take_all}
 use Rattle.std.proofs.lemmas.List.Folds.{list_any_at, list_any_more}
-use Rattle.leaf_model.specs.Names.{is_among}
+use Rattle.row_model.specs.Names.{is_among}
 use Rattle.block_scan.proofs.narrowing.is_member.Goals as goal
 
 pub loop-i-preserved : goal.loop-i-preserved

@@ -1,5 +1,5 @@
 use Rattle.std.proofs.Common.{◌≡◌, false, take}
-use Rattle.leaf_model.specs.Names.{is_among}
+use Rattle.row_model.specs.Names.{is_among}
 use Rattle.block_scan.proofs.narrowing.is_member.Given as goal
 
 abbrev pub invariant-loop-i : goal.invariant-loop-i

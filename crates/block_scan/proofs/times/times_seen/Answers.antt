@@ -3,7 +3,7 @@ use Rattle.std.specs.Prelude.{bytes_eq}
 use Rattle.std.specs.List.{list_any}
 use Rattle.std.specs.Int.{w64}
 use Rattle.std.proofs.lemmas.Int.{to_z-of_z}
-use Rattle.row_blocks.specs.Blocks.{time_of, value_in}
+use Rattle.row_blocks.specs.Blocks.{time_in_cell, value_in}
 use Rattle.block_scan.specs.Reads.{is_wanted}
 use Rattle.block_scan.specs.Scanning.{is_of_agg, is_of_cond}
 use Rattle.block_scan.specs.Timed.{StandForTimes}
@@ -26,6 +26,6 @@ returns-then-not-asks_for c =
 pub returns : goal.returns
 returns c =
     let q = c.args.query.now in let times = c.args.times.now.column.now in
-    both_ok (λ (found : Vec ℤ Global). length found.items ≡ c.args.rows) (λ (found : Vec ℤ Global). (i : ℕ) → i < c.args.rows → slice_index_or found.items i (pos 0) ≡ time_of (value_in times.bytes i))
+    both_ok (λ (found : Vec ℤ Global). length found.items ≡ c.args.rows) (λ (found : Vec ℤ Global). (i : ℕ) → i < c.args.rows → slice_index_or found.items i (pos 0) ≡ time_in_cell (value_in times.bytes i))
     (λ (found : Vec ℤ Global). StandForTimes q c.args.rows times c.args.skip c.args.horizon found.items) c.times_in.result c.times_in.ensures.length c.times_in.ensures.each
     (λ found count each. own_stand q c.args.rows times c.args.skip c.args.horizon found.items c.requires.skip count each)

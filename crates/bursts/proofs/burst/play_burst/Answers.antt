@@ -1,6 +1,6 @@
 use Rattle.std.proofs.Common.{◌≤◌, List, map, subst, sym, arith, inl}
 use Rattle.script_text.specs.declared.command.Command.{Command}
-use Rattle.bursts.specs.Needs.{commands_in}
+use Rattle.bursts.specs.Needs.{planned_commands}
 use Rattle.bursts.proofs.Items.{all_on, beside_or, lines_of_item, plans_lanes, turns_went}
 use Rattle.lane_play.specs.Went.{told_lines}
 use Rattle.script_text.specs.declared.item.Item.TheVariants as item
@@ -32,7 +32,7 @@ play_beside-requires-clause-one g c κs within =
 pub returns-then-are_spare-clause-went : goal.returns-then-are_spare-clause-went
 returns-then-are_spare-clause-went g c =
     let crew = c.args.crew.now in
-    beside_or g.B.Berth.meaning crew.fleet crew.holds c.play_beside.new.crew.holds _ _ (map commands_in c.in_ok-plans.plans.items) c.args.lanes.items (told_lines c.play_beside.result)
+    beside_or g.B.Berth.meaning crew.fleet crew.holds c.play_beside.new.crew.holds _ _ (map planned_commands c.in_ok-plans.plans.items) c.args.lanes.items (told_lines c.play_beside.result)
     (plans_lanes crew.fleet c.args.lanes.items c.in_ok-plans.plans.items c.in_ok-plans.ensures) c.play_beside.ensures.went
 
 pub returns-then-are_spare-clause-all : goal.returns-then-are_spare-clause-all
@@ -42,7 +42,7 @@ returns-then-are_spare-clause-all g c =
 pub returns-else-are_spare-clause-went : goal.returns-else-are_spare-clause-went
 returns-else-are_spare-clause-went g c =
     let crew = c.args.crew.now in
-    inl (turns_went g.B.Berth.meaning crew.fleet crew.holds c.play_in_turn.new.crew.holds _ _ (map commands_in c.in_ok-plans.plans.items) c.args.lanes.items (told_lines c.play_in_turn.result)
+    inl (turns_went g.B.Berth.meaning crew.fleet crew.holds c.play_in_turn.new.crew.holds _ _ (map planned_commands c.in_ok-plans.plans.items) c.args.lanes.items (told_lines c.play_in_turn.result)
     (plans_lanes crew.fleet c.args.lanes.items c.in_ok-plans.plans.items c.in_ok-plans.ensures) c.play_in_turn.ensures.went)
 
 pub returns-else-are_spare-clause-all : goal.returns-else-are_spare-clause-all
@@ -53,12 +53,12 @@ pub returns-then-are_spare-clause-lines_fit : goal.returns-then-are_spare-clause
 returns-then-are_spare-clause-lines_fit g c =
     let crew = c.args.crew.now in
     lines_of_item g.B.Berth.meaning crew.fleet crew.holds c.play_beside.new.crew.holds _ _ (item.Burst c.args.lanes.items) c.play_beside.result
-    (beside_or g.B.Berth.meaning crew.fleet crew.holds c.play_beside.new.crew.holds _ _ (map commands_in c.in_ok-plans.plans.items) c.args.lanes.items (told_lines c.play_beside.result)
+    (beside_or g.B.Berth.meaning crew.fleet crew.holds c.play_beside.new.crew.holds _ _ (map planned_commands c.in_ok-plans.plans.items) c.args.lanes.items (told_lines c.play_beside.result)
     (plans_lanes crew.fleet c.args.lanes.items c.in_ok-plans.plans.items c.in_ok-plans.ensures) c.play_beside.ensures.went)
 
 pub returns-else-are_spare-clause-lines_fit : goal.returns-else-are_spare-clause-lines_fit
 returns-else-are_spare-clause-lines_fit g c =
     let crew = c.args.crew.now in
     lines_of_item g.B.Berth.meaning crew.fleet crew.holds c.play_in_turn.new.crew.holds _ _ (item.Burst c.args.lanes.items) c.play_in_turn.result
-    (inl (turns_went g.B.Berth.meaning crew.fleet crew.holds c.play_in_turn.new.crew.holds _ _ (map commands_in c.in_ok-plans.plans.items) c.args.lanes.items (told_lines c.play_in_turn.result)
+    (inl (turns_went g.B.Berth.meaning crew.fleet crew.holds c.play_in_turn.new.crew.holds _ _ (map planned_commands c.in_ok-plans.plans.items) c.args.lanes.items (told_lines c.play_in_turn.result)
     (plans_lanes crew.fleet c.args.lanes.items c.in_ok-plans.plans.items c.in_ok-plans.ensures) c.play_in_turn.ensures.went))

@@ -3,7 +3,7 @@ use Rattle.std.specs.List.{AllByRecursion}
 use Rattle.script_text.specs.declared.command.Command.{Command}
 use Rattle.script_text.specs.Fits.{IsCommand}
 use Rattle.script_text.specs.Commands.{leaf_count}
-use Rattle.bursts.specs.declared.plan.Plan.{Plan}
+use Rattle.bursts.specs.declared.plan.LanePlan.{LanePlan}
 use Rattle.bursts.specs.Needs.{ArePlans}
 use Rattle.bursts.proofs.Needed.{plans_more}
 use Rattle.bursts.proofs.plans.plan_all.Goals as goal
@@ -19,6 +19,6 @@ loop-lane-preserved g c =
     record {
       done = inv.done ++ lane ∷ [];
       all = append_assoc inv.done (lane ∷ []) rest ∙ (ap (λ (ls : List (List Command)). inv.done ++ ls) (sym items) ∙ inv.all);
-      plans = subst (λ (ps : List Plan). ArePlans fleet (inv.done ++ lane ∷ []) ps) (sym pushed) (plans_more fleet inv.done c.loop-lane.plans.items lane c.in_ok-plan.field-0 inv.plans c.in_ok-plan.ensures);
+      plans = subst (λ (ps : List LanePlan). ArePlans fleet (inv.done ++ lane ∷ []) ps) (sym pushed) (plans_more fleet inv.done c.loop-lane.plans.items lane c.in_ok-plan.field-0 inv.plans c.in_ok-plan.ensures);
       may = (subst (AllByRecursion (AllByRecursion (IsCommand (leaf_count fleet) fleet.names))) items inv.may).1;
     }

@@ -1,9 +1,9 @@
 use Rattle.std.proofs.Common.{◌≡◌, List, [], ◌∷◌, ◌++◌, length, map, refl, sym, ap, subst, ◌∙◌, append_assoc, arith}
 use Rattle.std.specs.List.{AllByRecursion}
 use Rattle.script_text.specs.declared.command.Command.{Command}
-use Rattle.script_text.specs.declared.fleet.Fleet.{Fleet}
-use Rattle.bursts.specs.declared.plan.Plan.{Plan}
-use Rattle.bursts.specs.Needs.{IsPlan, commands_in}
+use Rattle.script_text.specs.declared.fleet.FleetShape.{FleetShape}
+use Rattle.bursts.specs.declared.plan.LanePlan.{LanePlan}
+use Rattle.bursts.specs.Needs.{IsLanePlan, planned_commands}
 use Rattle.lane_play.specs.Played.{MayPlayOn}
 use Rattle.bursts.proofs.Cutting.{length_snoc}
 use Rattle.lane_play.proofs.Held.{pass_none, pass_on, still_on, still_same}
@@ -20,11 +20,11 @@ loop-plan-init g c =
     let items : c.from_vec-rest.result.items ≡ c.args.plans.items = c.from_vec-rest.ensures.items in
     record {
       done = [];
-      all = ap (λ (ps : List Plan). map commands_in ps) items;
+      all = ap (λ (ps : List LanePlan). map planned_commands ps) items;
       number = refl;
-      few = let sizes : length c.from_vec-rest.result.items ≡ length c.args.plans.items = ap (λ (ps : List Plan). length ps) items in omega (arith, sizes, c.requires.few);
+      few = let sizes : length c.from_vec-rest.result.items ≡ length c.args.plans.items = ap (λ (ps : List LanePlan). length ps) items in omega (arith, sizes, c.requires.few);
       went = turns_begin g.B.Berth.meaning crew.fleet crew.holds _ c.new-lines.result.items c.new-lines.ensures.items;
-      plans = subst (AllByRecursion (IsPlan crew.fleet)) (sym items) c.requires.plans;
+      plans = subst (AllByRecursion (IsLanePlan crew.fleet)) (sym items) c.requires.plans;
       has = c.requires.all;
       fleet = refl;
       tables = refl;
@@ -36,8 +36,8 @@ pub play_lane-requires-after_bounds : goal.play_lane-requires-after_bounds
 play_lane-requires-after_bounds g c κs within =
     let inv = c.loop-plan.invariant in
     let fleet = c.args.crew.now.fleet in
-    let plans = subst (AllByRecursion (IsPlan fleet)) c.in-Some.ensures.items inv.plans in
-    subst (λ (f : Fleet). AllByRecursion (MayPlayOn f c.loop-plan.crew.holds) c.in-Some.plan.commands.items) (sym inv.fleet)
+    let plans = subst (AllByRecursion (IsLanePlan fleet)) c.in-Some.ensures.items inv.plans in
+    subst (λ (f : FleetShape). AllByRecursion (MayPlayOn f c.loop-plan.crew.holds) c.in-Some.plan.commands.items) (sym inv.fleet)
     (all_may fleet c.loop-plan.crew.holds inv.has c.in-Some.plan.commands.items plans.0.commands)
 
 pub returns-in_err-own-clause-still : goal.returns-in_err-own-clause-still
@@ -59,15 +59,15 @@ loop-plan-preserved g c =
     let plan = c.in-Some.plan in
     let rest = c.pop_front.new.self.items in
     let items : c.loop-plan.rest.items ≡ plan ∷ rest = c.in-Some.ensures.items in
-    let plans = subst (AllByRecursion (IsPlan fleet)) items inv.plans in
+    let plans = subst (AllByRecursion (IsLanePlan fleet)) items inv.plans in
     let one = lane_over g.B.Berth.meaning fleet c.loop-plan.crew.fleet inv.fleet c.loop-plan.crew.holds c.play_lane.new.crew.holds _ _ plan.commands.items (Some c.in_ok-own.own.items) c.in_ok-own.ensures.went in
-    let sizes : length c.loop-plan.rest.items ≡ length (plan ∷ rest) = ap (λ (ps : List Plan). length ps) items in
+    let sizes : length c.loop-plan.rest.items ≡ length (plan ∷ rest) = ap (λ (ps : List LanePlan). length ps) items in
     record {
-      done = inv.done ++ commands_in plan ∷ [];
-      all = append_assoc inv.done (commands_in plan ∷ []) (map commands_in rest) ∙ (ap (λ (ls : List (List Command)). inv.done ++ ls) (sym (ap (λ (ps : List Plan). map commands_in ps) items)) ∙ inv.all);
-      number = omega (arith, length_snoc inv.done (commands_in plan), inv.number);
+      done = inv.done ++ planned_commands plan ∷ [];
+      all = append_assoc inv.done (planned_commands plan ∷ []) (map planned_commands rest) ∙ (ap (λ (ls : List (List Command)). inv.done ++ ls) (sym (ap (λ (ps : List LanePlan). map planned_commands ps) items)) ∙ inv.all);
+      number = omega (arith, length_snoc inv.done (planned_commands plan), inv.number);
       few = omega (arith, inv.few, sizes);
-      went = turns_go_on g.B.Berth.meaning fleet c.args.crew.now.holds c.loop-plan.crew.holds c.play_lane.new.crew.holds _ _ _ inv.done (commands_in plan) c.loop-plan.lines.items c.in_ok-own.own.items
+      went = turns_go_on g.B.Berth.meaning fleet c.args.crew.now.holds c.loop-plan.crew.holds c.play_lane.new.crew.holds _ _ _ inv.done (planned_commands plan) c.loop-plan.lines.items c.in_ok-own.own.items
           c.put_lane.new.lines.items c.loop-plan.number inv.went one inv.number c.in_ok-put_lane.ensures;
       plans = plans.1;
       has = all_on fleet fleet c.loop-plan.crew.holds c.play_lane.new.crew.holds refl c.play_lane.ensures.still inv.has;
@@ -83,8 +83,8 @@ returns-in_err-own-clause-went g c =
     let fleet = c.args.crew.now.fleet in
     let e = err_from_is_err_and c.from_residual.result c.from_residual.ensures.1 in
     let one = lane_over g.B.Berth.meaning fleet c.loop-plan.crew.fleet inv.fleet c.loop-plan.crew.holds c.play_lane.new.crew.holds _ _ c.in-Some.plan.commands.items _ c.play_lane.ensures.went in
-    turns_stop g.B.Berth.meaning fleet c.args.crew.now.holds c.loop-plan.crew.holds c.play_lane.new.crew.holds _ _ _ inv.done (commands_in c.in-Some.plan) (map commands_in c.pop_front.new.self.items) (map commands_in c.args.plans.items) _ _
-    inv.went one (sym inv.all ∙ ap (λ (ps : List Plan). inv.done ++ map commands_in ps) c.in-Some.ensures.items) _ (no_lines _ e.0 e.1)
+    turns_stop g.B.Berth.meaning fleet c.args.crew.now.holds c.loop-plan.crew.holds c.play_lane.new.crew.holds _ _ _ inv.done (planned_commands c.in-Some.plan) (map planned_commands c.pop_front.new.self.items) (map planned_commands c.args.plans.items) _ _
+    inv.went one (sym inv.all ∙ ap (λ (ps : List LanePlan). inv.done ++ map planned_commands ps) c.in-Some.ensures.items) _ (no_lines _ e.0 e.1)
 
 pub returns-in_err-put_lane-clause-went : goal.returns-in_err-put_lane-clause-went
 returns-in_err-put_lane-clause-went g c =
@@ -92,5 +92,5 @@ returns-in_err-put_lane-clause-went g c =
     let fleet = c.args.crew.now.fleet in
     let e = err_from_is_err_and c.from_residual-in_err-put_lane.result c.from_residual-in_err-put_lane.ensures.1 in
     let one = lane_over g.B.Berth.meaning fleet c.loop-plan.crew.fleet inv.fleet c.loop-plan.crew.holds c.play_lane.new.crew.holds _ _ c.in-Some.plan.commands.items _ c.play_lane.ensures.went in
-    turns_stop g.B.Berth.meaning fleet c.args.crew.now.holds c.loop-plan.crew.holds c.play_lane.new.crew.holds _ _ _ inv.done (commands_in c.in-Some.plan) (map commands_in c.pop_front.new.self.items) (map commands_in c.args.plans.items) _ _
-    inv.went one (sym inv.all ∙ ap (λ (ps : List Plan). inv.done ++ map commands_in ps) c.in-Some.ensures.items) _ (no_lines _ e.0 e.1)
+    turns_stop g.B.Berth.meaning fleet c.args.crew.now.holds c.loop-plan.crew.holds c.play_lane.new.crew.holds _ _ _ inv.done (planned_commands c.in-Some.plan) (map planned_commands c.pop_front.new.self.items) (map planned_commands c.args.plans.items) _ _
+    inv.went one (sym inv.all ∙ ap (λ (ps : List LanePlan). inv.done ++ map planned_commands ps) c.in-Some.ensures.items) _ (no_lines _ e.0 e.1)

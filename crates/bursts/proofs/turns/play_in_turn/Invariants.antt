@@ -3,7 +3,7 @@ use Rattle.std.specs.List.{AllByRecursion}
 use Rattle.std.specs.VecDeque.{deque_len}
 use Rattle.script_text.specs.declared.command.Command.{Command}
 use Rattle.player.specs.Crew.{AllPass, HasAll, StillHas}
-use Rattle.bursts.specs.Needs.{IsPlan, commands_in}
+use Rattle.bursts.specs.Needs.{IsLanePlan, planned_commands}
 use Rattle.lane_play.specs.Went.{TurnsWent}
 use Rattle.bursts.proofs.turns.play_in_turn.Given as goal
 
@@ -11,12 +11,12 @@ use Rattle.bursts.proofs.turns.play_in_turn.Given as goal
 abbrev pub invariant-loop-plan : goal.invariant-loop-plan
 invariant-loop-plan g l = record {
   done : List (List Command);
-  all : done ++ map commands_in l.rest.items ≡ map commands_in l.fn.plans.items;
+  all : done ++ map planned_commands l.rest.items ≡ map planned_commands l.fn.plans.items;
   number : length done ≡ l.number;
   few : l.number + length l.rest.items ≤ 16;
   went : TurnsWent g.B.Berth.meaning l.initial.crew.fleet done l.initial.crew.holds (map (λ b. (goal.Watch-dyn g (b.vtable, b.value)).held b.value) l.initial.watches.items) (Some l.lines.items) l.crew.holds
       (map (λ b. (goal.Watch-dyn g (b.vtable, b.value)).held b.value) l.watches.items);
-  plans : AllByRecursion (IsPlan l.initial.crew.fleet) l.rest.items;
+  plans : AllByRecursion (IsLanePlan l.initial.crew.fleet) l.rest.items;
   has : HasAll l.initial.crew.fleet l.crew.holds;
   fleet : l.crew.fleet ≡ l.initial.crew.fleet;
   tables : l.crew.tables ≡ l.initial.crew.tables;

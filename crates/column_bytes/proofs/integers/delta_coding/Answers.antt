@@ -3,7 +3,7 @@ use Rattle.std.specs.Int.{div_ceil}
 use Rattle.std.proofs.lemmas.List.FromFn.{fill_by_all}
 use Rattle.delta_codes.specs.Slots.{slot}
 use Rattle.delta_codes.proofs.Slots.{slots_at}
-use Rattle.leaf_model.specs.declared.rows.Value.TheVariants as values
+use Rattle.row_model.specs.declared.rows.Value.TheVariants as values
 use Rattle.dictionaries.specs.Fields.{i64_at}
 use Rattle.column_bytes.specs.Cells.{anchors_at}
 use Rattle.column_bytes.proofs.integers.delta_coding.Goals as goal

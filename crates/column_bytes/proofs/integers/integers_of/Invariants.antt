@@ -1,6 +1,6 @@
 use Rattle.std.proofs.Common.{◌≡◌, ℕ, ◌<◌, vec_len, Some, None, option_map, slice_index_or, pos}
-use Rattle.leaf_model.specs.declared.rows.Value.{Value}
-use Rattle.leaf_model.specs.declared.rows.Value.TheVariants.{Int}
+use Rattle.row_model.specs.declared.rows.Value.{Value}
+use Rattle.row_model.specs.declared.rows.Value.TheVariants.{Int}
 use Rattle.leaf_model.specs.Lent.{lent_value}
 use Rattle.column_bytes.proofs.integers.integers_of.Given as goal
 

@@ -1,6 +1,6 @@
 use Rattle.std.proofs.Common.{rules, ◌≡◌, ◌+ℤ◌, pos, slice_index, slice_index_or, w64, FitsSigned, subst, sym, ap, ◌∙◌, arith}
 use Rattle.std.proofs.lemmas.Int.{to_z-of_z}
-use Rattle.leaf_model.specs.declared.rows.Value.TheVariants as values
+use Rattle.row_model.specs.declared.rows.Value.TheVariants as values
 use Rattle.dictionaries.specs.Fields.{i64_at}
 use Rattle.column_bytes.proofs.integers.offset_coding.Goals as goal
 

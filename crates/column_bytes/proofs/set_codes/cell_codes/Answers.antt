@@ -1,8 +1,8 @@
 use Rattle.std.proofs.Common.{◌≡◌, ℕ, List, [], length, slice_index, Option, None, IfSome, option_map, sym, ap, subst, ◌∙◌, arith}
 use Rattle.leaf_model.specs.declared.lent_cells.LentValue.{LentValue}
 use Rattle.std.proofs.lemmas.List.{get_or_default, get_or-map, length_push, length-map}
-use Rattle.leaf_model.specs.Values.{bytes_in}
-use Rattle.leaf_model.specs.declared.rows.Value.TheVariants as values
+use Rattle.row_model.specs.Values.{bytes_in}
+use Rattle.row_model.specs.declared.rows.Value.TheVariants as values
 use Rattle.leaf_model.specs.Lent.{each_value, lent_value}
 use Rattle.column_bytes.specs.Coding.{IsOfKind}
 use Rattle.dictionaries.specs.Dictionary.{texts_by}

@@ -1,7 +1,7 @@
 use Rattle.std.proofs.Common.{◌≡◌, ℕ, ◌*◌, ◌<◌, ◌≤◌, [], length, Some, None, slice_index, slice_index_or}
-use Rattle.leaf_model.specs.Values.{bytes_in}
-use Rattle.leaf_model.specs.declared.rows.Value.{Value}
-use Rattle.leaf_model.specs.declared.rows.Value.TheVariants.{Set}
+use Rattle.row_model.specs.Values.{bytes_in}
+use Rattle.row_model.specs.declared.rows.Value.{Value}
+use Rattle.row_model.specs.declared.rows.Value.TheVariants.{Set}
 use Rattle.leaf_model.specs.Lent.{each_value}
 use Rattle.dictionaries.specs.Dictionary.{texts_by}
 use Rattle.dictionaries.specs.Sets.{AreSetCodes}

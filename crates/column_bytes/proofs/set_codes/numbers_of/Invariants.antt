@@ -1,6 +1,6 @@
 use Rattle.std.proofs.Common.{◌≡◌, ◌+◌, ◌≤◌, ◌++◌, length}
 use Rattle.leaf_model.specs.Lent.{lent_texts}
-use Rattle.leaf_model.specs.Values.{bytes_in}
+use Rattle.row_model.specs.Values.{bytes_in}
 use Rattle.dictionaries.specs.Dictionary.{AreKept, AreTexts, texts_by}
 use Rattle.dictionaries.specs.Sets.{AreNumbers}
 use Rattle.column_bytes.proofs.set_codes.numbers_of.Given as goal

@@ -1,7 +1,7 @@
 use Rattle.std.proofs.Common.{sym, subst}
 use Rattle.leaf_model.specs.declared.lent_cells.LentValue.{LentValue}
 use Rattle.leaf_model.specs.Lent.{lent_value}
-use Rattle.leaf_model.specs.Values.{IsSet}
+use Rattle.row_model.specs.Values.{IsSet}
 use Rattle.column_bytes.specs.declared.kind.Kind.TheVariants as kinds
 use Rattle.column_bytes.specs.Coding.{IsOfKind}
 use Rattle.dictionaries.specs.Sets.{AreSetCodes}

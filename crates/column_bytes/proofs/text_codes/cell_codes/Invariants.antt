@@ -1,6 +1,6 @@
 use Rattle.std.proofs.Common.{◌≡◌, ℕ, ◌<◌, ◌≤◌, [], length, Some, None, slice_index, slice_index_or}
-use Rattle.leaf_model.specs.declared.rows.Value.{Value}
-use Rattle.leaf_model.specs.declared.rows.Value.TheVariants.{Text}
+use Rattle.row_model.specs.declared.rows.Value.{Value}
+use Rattle.row_model.specs.declared.rows.Value.TheVariants.{Text}
 use Rattle.leaf_model.specs.Lent.{each_value}
 use Rattle.dictionaries.specs.Dictionary.{AreTexts}
 use Rattle.column_bytes.proofs.text_codes.cell_codes.Given as goal

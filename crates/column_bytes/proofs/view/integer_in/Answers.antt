@@ -1,7 +1,7 @@
 use Rattle.std.proofs.Common.{rules, ◌≡◌, ◌-◌, ◌+ℤ◌, pos, sym, ap, ap₂, ◌∙◌, subst, w64, FitsSigned}
 use Rattle.std.proofs.lemmas.Int.{to_z-of_z}
 use Rattle.bit_columns.specs.Bits.{codes}
-use Rattle.leaf_model.specs.declared.rows.Value.TheVariants as values
+use Rattle.row_model.specs.declared.rows.Value.TheVariants as values
 use Rattle.delta_codes.specs.Slots.{slot}
 use Rattle.column_bytes.specs.declared.form.Form.{Form}
 use Rattle.column_bytes.specs.Cells.{anchors_at, book_of, value_at}

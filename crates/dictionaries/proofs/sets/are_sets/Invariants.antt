@@ -1,5 +1,5 @@
 use Rattle.std.proofs.Common.{ℕ, ◌<◌}
-use Rattle.leaf_model.specs.Values.{IsSet}
+use Rattle.row_model.specs.Values.{IsSet}
 use Rattle.dictionaries.specs.Dictionary.{texts_at}
 use Rattle.dictionaries.specs.Sets.{set_at}
 use Rattle.dictionaries.proofs.sets.are_sets.Given as goal

@@ -1,9 +1,9 @@
 use Rattle.std.proofs.Common.{◌+◌, ◌<◌, [], length, slice_index_or, refl, sym, ap, subst, below_more, ◌∙◌, arith}
 use Rattle.std.specs.Str.{IsUtf8}
 use Rattle.std.proofs.lemmas.List.{take_all}
-use Rattle.leaf_model.specs.Values.{bytes_in}
-use Rattle.leaf_model.specs.Sets.{GoesUp}
-use Rattle.leaf_model.proofs.SetLaws.{bytes_more, bytes_upto, set_goes_up, set_is}
+use Rattle.row_model.specs.Values.{bytes_in}
+use Rattle.row_model.specs.Sets.{GoesUp}
+use Rattle.row_model.proofs.SetLaws.{bytes_more, bytes_upto, set_goes_up, set_is}
 use Rattle.dictionaries.specs.Dictionary.{texts_at}
 use Rattle.dictionaries.specs.Sets.{set_at}
 use Rattle.dictionaries.proofs.SetParts.{set_count_is}

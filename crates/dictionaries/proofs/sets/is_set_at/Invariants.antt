@@ -1,7 +1,7 @@
 use Rattle.std.proofs.Common.{◌≡◌, ℕ, ◌+◌, ◌<◌, [], take, slice_index_or}
 use Rattle.std.specs.Str.{IsUtf8}
-use Rattle.leaf_model.specs.Values.{bytes_in}
-use Rattle.leaf_model.specs.Sets.{GoesUp}
+use Rattle.row_model.specs.Values.{bytes_in}
+use Rattle.row_model.specs.Sets.{GoesUp}
 use Rattle.dictionaries.specs.Dictionary.{texts_at}
 use Rattle.dictionaries.specs.Sets.{set_at}
 use Rattle.dictionaries.proofs.sets.is_set_at.Given as goal

@@ -1,5 +1,5 @@
 use Rattle.std.proofs.Common.{◌≡◌, List, ℕ, ◌<◌, take, drop, refl, sym, ap, subst, ◌∙◌}
-use Rattle.leaf_model.specs.Values.{IsSet}
+use Rattle.row_model.specs.Values.{IsSet}
 use Rattle.dictionaries.specs.Dictionary.{text_count, texts_at}
 use Rattle.dictionaries.specs.Sets.{AreNumbered, set_at, sets_part, texts_part}
 use Rattle.dictionaries.proofs.sets.is_set_dictionary.Goals as goal

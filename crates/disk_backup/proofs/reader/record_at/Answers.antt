@@ -3,7 +3,7 @@ use Rattle.std.proofs.lemmas.Result.{err_from_is_err_and}
 use Rattle.disk_backup.specs.declared.fault.LogFault.{LogFault}
 use Rattle.disk_backup.specs.declared.fault.LogFault.TheVariants as fault
 use Rattle.berth_face.specs.Berth.{Pair}
-use Rattle.row_records.specs.Records.{record_is}
+use Rattle.row_records.specs.Records.{record_read}
 use Rattle.disk_backup.specs.Scanning.{size_at}
 use Rattle.disk_backup.proofs.Scanned.{writes_within, err_is, short_of, not_one, unread}
 use Rattle.disk_backup.proofs.reader.record_at.Goals as goal
@@ -29,7 +29,7 @@ returns-in-None-clause-damaged g c =
     let room = c.in_ok-size.ensures.room in
     let fits : at + c.in_ok-size.size ≤ length mid.held.disk = subst (λ (i : Pair). at + c.in_ok-size.size ≤ length i.disk) (sym held) (omega (arith, room, len)) in
     let bytes : c.deref.result.now ≡ take (size_at tail) tail = c.deref.ensures.value ∙ (c.in_ok-bytes.ensures.told told_mid fits).1 ∙ ap (λ (i : Pair). take c.in_ok-size.size (drop at i.disk)) held ∙ ap (λ (n : ℕ). take n tail) size in
-    not_one tail (λ r is same. unread (option_map record_is c.in_ok-read_record.field-0) r (ap (λ o. option_map record_is o) c.in-None.is) (c.in_ok-read_record.ensures.only r is (bytes ∙ same)))
+    not_one tail (λ r is same. unread (option_map record_read c.in_ok-read_record.field-0) r (ap (λ o. option_map record_read o) c.in-None.is) (c.in_ok-read_record.ensures.only r is (bytes ∙ same)))
 
 pub returns-clause-writes : goal.returns-clause-writes
 returns-clause-writes g c =

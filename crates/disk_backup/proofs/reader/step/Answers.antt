@@ -2,7 +2,7 @@ use Rattle.std.proofs.Common.{◌≡◌, ◌+◌, ◌∙◌, ◌∷◌, length, 
 use Rattle.std.proofs.lemmas.Result.{err_from_is_err_and}
 use Rattle.disk_backup.specs.declared.fault.LogFault.{LogFault}
 use Rattle.disk_backup.specs.declared.fault.LogFault.TheVariants as fault
-use Rattle.disk_backup.specs.Scanning.{NoRecord, Found, Scanned, record_is}
+use Rattle.disk_backup.specs.Scanning.{NoRecord, FoundRecord, Scanned, record_is}
 use Rattle.berth_face.specs.Berth.{Pair}
 use Rattle.disk_backup.proofs.Scanned.{err_is, opened_at, inside, further}
 use Rattle.disk_backup.proofs.reader.step.Goals as goal
@@ -34,6 +34,6 @@ returns-clause-step g c =
     let is_one : eqb (get_or old.held.disk at 0) 1 ≡ true = sym (c.in_ok-is_open.ensures.told told lt).1 ∙ c.if-not-branch.false in
     let flush = record_is c.in_ok-flush.flush in
     let found = c.in_ok-flush.ensures.told told_mid (len ∙ ap (λ (i : Pair). length i.disk) (sym held)) in
-    let here = subst (λ (i : Pair). Found (drop (at + 1) i.disk) flush) held found.0 in
+    let here = subst (λ (i : Pair). FoundRecord (drop (at + 1) i.disk) flush) held found.0 in
     let next = further old.held.disk records at flush (drop (at + 1) old.held.disk) scanned (opened_at old.held.disk at lt is_one) here.is here.front here.more in
     (subst (Scanned old.held.disk (records ++ flush ∷ [])) (sym found.1) next, refl)

@@ -1,5 +1,5 @@
 use Rattle.std.proofs.Common.{◌≡◌, ◌++◌, take, map}
-use Rattle.leaf_model.specs.declared.rows.Row.{Row}
+use Rattle.row_model.specs.declared.rows.Row.{Row}
 use Rattle.leaf_model.specs.Looks.{sought_in}
 use Rattle.group_table.specs.Reads.{values_in}
 use Rattle.group_table.proofs.seen.look_for_keys.Given as goal

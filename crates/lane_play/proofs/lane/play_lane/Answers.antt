@@ -1,7 +1,7 @@
 use Rattle.std.proofs.Common.{◌≡◌, [], ◌∷◌, ◌++◌, refl, sym, ap, subst, ◌∙◌, append_assoc}
 use Rattle.std.specs.List.{AllByRecursion}
 use Rattle.script_text.specs.Fits.{IsCommand}
-use Rattle.script_text.specs.declared.fleet.Fleet.{Fleet}
+use Rattle.script_text.specs.declared.fleet.FleetShape.{FleetShape}
 use Rattle.script_text.specs.Commands.{leaf_count}
 use Rattle.player.specs.Crew.{HasFor}
 use Rattle.lane_play.specs.Played.{MayPlayOn}
@@ -63,13 +63,13 @@ pub play_command-requires-clause-may : goal.play_command-requires-clause-may
 play_command-requires-clause-may g c κs within =
     let inv = c.loop-command.invariant in
     let may = subst (AllByRecursion (MayPlayOn c.args.crew.now.fleet c.loop-command.crew.holds)) c.in-Some.ensures.items inv.may in
-    may_play c.loop-command.crew.fleet c.in-Some.command (subst (λ (f : Fleet). IsCommand (leaf_count f) f.names c.in-Some.command) (sym inv.fleet) may.0.0)
+    may_play c.loop-command.crew.fleet c.in-Some.command (subst (λ (f : FleetShape). IsCommand (leaf_count f) f.names c.in-Some.command) (sym inv.fleet) may.0.0)
 
 pub play_command-requires-clause-has : goal.play_command-requires-clause-has
 play_command-requires-clause-has g c κs within =
     let inv = c.loop-command.invariant in
     let may = subst (AllByRecursion (MayPlayOn c.args.crew.now.fleet c.loop-command.crew.holds)) c.in-Some.ensures.items inv.may in
-    subst (λ (f : Fleet). HasFor f c.loop-command.crew.holds c.in-Some.command) (sym inv.fleet) may.0.1
+    subst (λ (f : FleetShape). HasFor f c.loop-command.crew.holds c.in-Some.command) (sym inv.fleet) may.0.1
 
 pub returns-in_err-more-clause-went : goal.returns-in_err-more-clause-went
 returns-in_err-more-clause-went g c =

@@ -72,7 +72,7 @@ returns-in-Stopped-clause-drains g c =
     let down = c.killed-down.result in
     let last = c.killed-down.new.notes in
     let y = c.in-Stopped.leaf in
-    let here = subst (λ b. move.IsKilled y.0 down.0 last (meaning y.1) (meaning b)) c.killed-down.ensures.berth c.killed-down.ensures.killed in
+    let here = subst (λ b. move.ShuttingIsKilled y.0 down.0 last (meaning y.1) (meaning b)) c.killed-down.ensures.berth c.killed-down.ensures.killed in
     subst (λ ns. Drains m (meaning down.1) (IsPreparing x) c.args.stop ns Stopped (IsDown down.0)) (sym c.append-in-Stopped.ensures)
     (subst (λ b. Drains m (meaning b) (IsPreparing x) c.args.stop (notes ++ last) Stopped (IsDown down.0)) (sym c.killed-down.ensures.berth)
     (drain_stopped x m (meaning y.1) c.args.stop notes last y.0 down.0 stopped here))

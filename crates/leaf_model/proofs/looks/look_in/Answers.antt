@@ -1,10 +1,10 @@
 use Rattle.std.proofs.Common.{rules, List, Option, refl, sym, ap, ◌∙◌}
 use Rattle.std.specs.Int.{w64}
 use Rattle.std.proofs.lemmas.Int.{to_z-of_z}
-use Rattle.leaf_model.specs.declared.rows.Value.{Value}
+use Rattle.row_model.specs.declared.rows.Value.{Value}
 use Rattle.leaf_model.specs.Fronts.{any_cells_at, front_of}
 use Rattle.leaf_model.specs.Lent.{spelled_cells}
-use Rattle.leaf_model.specs.Looks.{begun, filled}
+use Rattle.leaf_model.specs.Looks.{looks_begun, filled}
 use Rattle.leaf_model.proofs.LentLaws.{row_parts}
 use Rattle.leaf_model.proofs.SeenLaws.{all_seen}
 use Rattle.leaf_model.proofs.looks.look_in.Goals as goal
@@ -33,5 +33,5 @@ returns-clause-seen c =
     rw fits (
     c.look_behind-after.ensures.filled
     ∙ ap (λ (vs : List (Option Value)). filled all vs (front_of (any_cells_at c.u16_in-count.result.0 c.u16_in-count.result.1.now))) (rw fits at c.begin.ensures.begun)
-    ∙ ap (filled all (begun time.0 all)) (sym c.of.ensures)
+    ∙ ap (filled all (looks_begun time.0 all)) (sym c.of.ensures)
     ∙ all_seen (record { time = time.0; cells = spelled_cells c.of.result }) all)

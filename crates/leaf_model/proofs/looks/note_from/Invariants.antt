@@ -1,6 +1,6 @@
 use Rattle.std.proofs.Common.{◌≡◌, ◌≤◌, ◌<◌, ◌-◌, List, length, slice_index_or, true}
 use Rattle.std.specs.Vec.{vec_len}
-use Rattle.leaf_model.specs.declared.rows.Cell.{Cell}
+use Rattle.row_model.specs.declared.rows.Cell.{Cell}
 use Rattle.leaf_model.specs.declared.looks.Sought.{Sought}
 use Rattle.leaf_model.specs.Lent.{lent_value}
 use Rattle.leaf_model.specs.Looks.{filled_from, is_sought}

@@ -1,5 +1,5 @@
 use Rattle.std.proofs.Common.{ap, length, arith}
-use Rattle.leaf_model.specs.declared.rows.Row.{Row}
+use Rattle.row_model.specs.declared.rows.Row.{Row}
 use Rattle.std.specs.Prelude.{List}
 use Rattle.leaf_model.proofs.packed_rows.lay_from.Goals as goal
 

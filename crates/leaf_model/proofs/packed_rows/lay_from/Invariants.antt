@@ -1,7 +1,7 @@
 use Rattle.std.proofs.Common.{◌≡◌, ◌+◌, ◌≤◌, ◌++◌, length}
 use Rattle.std.specs.List.{AllByRecursion}
 use Rattle.leaf_model.specs.Content.{rows_from}
-use Rattle.leaf_model.specs.Values.{IsRow}
+use Rattle.row_model.specs.Values.{IsRow}
 use Rattle.leaf_model.specs.Lent.{lent_rows}
 use Rattle.leaf_model.specs.Bytes.{rows_bytes, BeginsWith}
 use Rattle.leaf_model.proofs.packed_rows.lay_from.Given as goal

@@ -1,7 +1,7 @@
 use Rattle.std.proofs.Common.{◌≡◌, ◌++◌, length}
 use Rattle.std.specs.List.{flat_map, AllByRecursion}
 use Rattle.leaf_model.specs.Bytes.{cell_bytes, BeginsWith}
-use Rattle.leaf_model.specs.Values.{IsCell}
+use Rattle.row_model.specs.Values.{IsCell}
 use Rattle.leaf_model.specs.Lent.{lent_cells}
 use Rattle.leaf_model.proofs.row_writer.put_cells.Given as goal
 

@@ -6,7 +6,7 @@ use Rattle.adopt.specs.Starting.{HasTables, IsAdoption}
 use Rattle.berth_face.specs.Berth.{IsClosed}
 use Rattle.disk_backup.specs.State.{LogState}
 use Rattle.disk_backup.specs.Logs.{IsSound}
-use Rattle.disk_backup.specs.Scanning.{begun}
+use Rattle.disk_backup.specs.Scanning.{scanned_disk}
 use Rattle.log_recovery.specs.declared.fault.RecoveryFault.{RecoveryFault}
 use Rattle.leaf_opening.specs.Faults.{told_of_adopt, told_of_recovery}
 use Rattle.leaf_opening.specs.Starts.{IsWayOf}
@@ -171,7 +171,7 @@ returns-in_ok-recovered-in-NoTables-clause-told g c =
     let answer = c.in_ok-found.ensures.told told in
     let why = subst (IsAdoption names old.held.region) c.in-NoTables.is answer.0 in
     let read = recovered_as names new.held.disk (sym c.from_log.ensures.tables) (sym c.from_log.ensures.log) (said.told told_mid) in
-    let disk : new.held.disk ≡ begun old.held.disk = said.disk told_mid ∙ ap begun (c.adopt.ensures.disk told) in
+    let disk : new.held.disk ≡ scanned_disk old.held.disk = said.disk told_mid ∙ ap scanned_disk (c.adopt.ensures.disk told) in
     let region = subst (IsLeftBehind old.held.region) (sym (c.recover.ensures.region told_mid)) answer.1 in
     started_by_disk names opened.tables opened.log opened.way old new region c.in-NoTables.why (why_alone names old.held.region c.in-NoTables.why why) read c.from_log.ensures.way disk
 
@@ -271,4 +271,4 @@ returns-in_ok-recovered-in-NoTables-clause-exact g c =
     let said = c.in_ok-recovered-in-NoTables.ensures in
     let why = subst (IsAdoption names old.region) c.in-NoTables.is (c.in_ok-found.ensures.told told).0 in
     exact_ok names old.region old.disk c.from_log.result.way _ c.from_log.ensures.way
-    (recovered_exact names old.region old.disk c.in-NoTables.why new.held.disk _ _ why (said.told told_mid).0 (said.disk told_mid ∙ ap begun (c.adopt.ensures.disk told)))
+    (recovered_exact names old.region old.disk c.in-NoTables.why new.held.disk _ _ why (said.told told_mid).0 (said.disk told_mid ∙ ap scanned_disk (c.adopt.ensures.disk told)))

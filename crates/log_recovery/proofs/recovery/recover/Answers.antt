@@ -2,7 +2,7 @@ use Rattle.std.proofs.Common.{◌≡◌, ◌∙◌, List, ℕ, [], length, map, 
 use Rattle.std.proofs.lemmas.Result.{err_from_is_err_and}
 use Rattle.berth_face.specs.Berth.{Pair}
 use Rattle.berth_face.proofs.Moments.{through_stay}
-use Rattle.disk_backup.specs.Scanning.{StepsFrom, BeginsScan, begun}
+use Rattle.disk_backup.specs.Scanning.{StepsFrom, BeginsScan, scanned_disk}
 use Rattle.log_recovery.specs.declared.fault.RecoveryFault.TheVariants as fault
 use Rattle.log_recovery.specs.Recovery.{IsRecoveryRefusal}
 use Rattle.table_state.specs.Tables.{bare}
@@ -73,4 +73,4 @@ returns-in_err-log-clause-begun g c =
     let mid = g.B.Berth.meaning c.begin.new.berth in
     let new = g.B.Berth.meaning c.read_on.new.berth in
     let told_mid : IsTrue mid.tells = subst IsTrue (sym c.begin.ensures.time.tells) told in
-    err_read c.from_residual-in_err-log.result (new.held.disk ≡ begun old.held.disk) (ap (λ (p : Pair). p.disk) (c.read_on.ensures.stays told_mid).held ∙ c.in_ok-scan.ensures.disk told)
+    err_read c.from_residual-in_err-log.result (new.held.disk ≡ scanned_disk old.held.disk) (ap (λ (p : Pair). p.disk) (c.read_on.ensures.stays told_mid).held ∙ c.in_ok-scan.ensures.disk told)

@@ -1,7 +1,7 @@
 use Rattle.std.proofs.Common.{◌≡◌, ◌+◌, ◌++◌, ◌≤◌, ◌∷◌, [], length, refl, sym, ap, subst, ◌∙◌, arith, append_assoc, rules}
 use Rattle.std.specs.List.{AllByRecursion}
 use Rattle.script_text.specs.Fits.{TellAbove, declared_by, declared_in}
-use Rattle.script_text.specs.declared.fleet.Fleet.{Fleet}
+use Rattle.script_text.specs.declared.fleet.FleetShape.{FleetShape}
 use Rattle.transcript_standing.specs.Followed.{AreFollowers}
 use Rattle.play.specs.Standing.{MayRun}
 use Rattle.play.specs.Runs.{berths_in}
@@ -51,7 +51,7 @@ loop-item-preserved g c =
       omega (arith, inv.5, c.play_next.ensures.later),
       c.play_next.ensures.all,
       (λ none. absurd (some_done inv.0 c.in-Some.item none)),
-      subst (λ (f : Fleet). AreFollowers f c.play_next.new.followers.list.items) inv.3 c.play_next.ensures.followers,
+      subst (λ (f : FleetShape). AreFollowers f c.play_next.new.followers.list.items) inv.3 c.play_next.ensures.followers,
       subst (λ n. TellAbove n rest) (sym count) told.1,
       omega (arith, count, few),
     )

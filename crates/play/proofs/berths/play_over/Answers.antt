@@ -2,7 +2,7 @@ use Rattle.std.proofs.Common.{◌≡◌, ◌≤◌, ◌*◌, ◌++◌, ◌∙◌
 use Rattle.std.specs.List.{AllByRecursion}
 use Rattle.region_layout.specs.Names.{AreNames}
 use Rattle.leaf_table.specs.Fleet.{IsNewFleet}
-use Rattle.script_text.specs.declared.fleet.Fleet.{Fleet}
+use Rattle.script_text.specs.declared.fleet.FleetShape.{FleetShape}
 use Rattle.script_text.specs.Commands.{leaf_count}
 use Rattle.play.specs.Standing.{MayRun}
 use Rattle.player.specs.Crew.{new_holds}
@@ -88,7 +88,7 @@ returns-clause-done g c =
     let is : crew.fleet ≡ fleet_named plan.machines plan.per_machine plan.names = new.fleet ∙ ap (fleet_named plan.machines plan.per_machine) c.in-Ok.ensures in
     let enough : leaves ≤ length berths = subst (λ n. n ≤ length berths) (ap leaf_count c.requires.plan.is) c.requires.enough in
     let had : berths_in crew.holds ≡ take leaves berths = ap berths_in new.holds ∙ berths_of_holds c.in-Ok.copy made.tables made.stewards made.callers 0 (take leaves berths) in
-    let names : AreNames crew.fleet.names = subst (λ (f : Fleet). AreNames f.names) (sym is) c.requires.plan.are_names in
+    let names : AreNames crew.fleet.names = subst (λ (f : FleetShape). AreNames f.names) (sym is) c.requires.plan.are_names in
     λ e.
     let run : IsRun g.N.Bases.base g.B.Berth.meaning crew.fleet (berths_in crew.holds) was now _ _ c.into_inner.result.items after =
     run_ends g.N.Bases.base g.B.Berth.meaning crew.fleet (berths_in crew.holds) was now _ _ c.into_inner.result.items (c.play_all-status.ensures.done e).0 after names (c.play_all-status.ensures.done e).1 c.abandon.ensures.met in
@@ -127,6 +127,6 @@ returns-clause-short g c =
     let is : crew.fleet ≡ fleet_named plan.machines plan.per_machine plan.names = new.fleet ∙ ap (fleet_named plan.machines plan.per_machine) c.in-Ok.ensures in
     let enough : leaves ≤ length berths = subst (λ n. n ≤ length berths) (ap leaf_count c.requires.plan.is) c.requires.enough in
     let had : berths_in crew.holds ≡ take leaves berths = ap berths_in new.holds ∙ berths_of_holds c.in-Ok.copy made.tables made.stewards made.callers 0 (take leaves berths) in
-    let names : AreNames crew.fleet.names = subst (λ (f : Fleet). AreNames f.names) (sym is) c.requires.plan.are_names in
+    let names : AreNames crew.fleet.names = subst (λ (f : FleetShape). AreNames f.names) (sym is) c.requires.plan.are_names in
     crew_short g.B.Berth.meaning berths c.abandon.new.berths.items back.0 crew.holds after leaves enough had back.1 (back.2 ∙ ap (λ bs. back.0 ++ bs) new.berths) c.play_all-status.ensures.keeps.as_many
     g.N.Bases.base c.args.items c.into_inner.result.items crew.fleet was now _ _ (c.requires.plan.is ∙ sym is) (ap leaf_count is) names c.into_inner.ensures c.abandon.ensures.met _ c.play_all-status.ensures.short

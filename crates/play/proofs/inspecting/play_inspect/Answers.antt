@@ -1,5 +1,5 @@
 use Rattle.std.proofs.Common.{Some, None, Err, ap, ◌∙◌}
-use Rattle.region_reading.specs.declared.fault.LookFault.{LookFault}
+use Rattle.region_reading.specs.declared.fault.AdoptFault.{AdoptFault}
 use Rattle.play.proofs.Looked.{ends_short}
 use Rattle.play.proofs.inspecting.play_inspect.Goals as goal
 
@@ -12,9 +12,9 @@ returns-in-Ok-clause-short g c =
     (λ none. ap (λ sink. g.K.Sink.written sink) (c.tell_region.ensures.unwritten none))
 
 pub returns-in-Err-RegionFault-clause-done : goal.returns-in-Err-RegionFault-clause-done
-returns-in-Err-RegionFault-clause-done g c = λ done. record { seen = None; is = c.look_at.ensures.failed (c.in-Err-RegionFault.is ∙ ap (λ (e : LookFault). Err e) c.in-Err-RegionFault.field-0-is); written = c.tell_region-in-Err-RegionFault.ensures.done done }
+returns-in-Err-RegionFault-clause-done g c = λ done. record { seen = None; is = c.look_at.ensures.failed (c.in-Err-RegionFault.is ∙ ap (λ (e : AdoptFault). Err e) c.in-Err-RegionFault.field-0-is); written = c.tell_region-in-Err-RegionFault.ensures.done done }
 
 pub returns-in-Err-RegionFault-clause-short : goal.returns-in-Err-RegionFault-clause-short
 returns-in-Err-RegionFault-clause-short g c =
-    ends_short g.B.Berth.meaning c.args.leaf c.args.berths.now.items _ _ _ c.tell_region-in-Err-RegionFault.result None (c.look_at.ensures.failed (c.in-Err-RegionFault.is ∙ ap (λ (e : LookFault). Err e) c.in-Err-RegionFault.field-0-is)) c.tell_region-in-Err-RegionFault.ensures.cut_short
+    ends_short g.B.Berth.meaning c.args.leaf c.args.berths.now.items _ _ _ c.tell_region-in-Err-RegionFault.result None (c.look_at.ensures.failed (c.in-Err-RegionFault.is ∙ ap (λ (e : AdoptFault). Err e) c.in-Err-RegionFault.field-0-is)) c.tell_region-in-Err-RegionFault.ensures.cut_short
     (λ none. ap (λ sink. g.K.Sink.written sink) (c.tell_region-in-Err-RegionFault.ensures.unwritten none))

@@ -6,7 +6,7 @@ use Rattle.play.specs.Outcome.{play_verdict}
 use Rattle.script_text.specs.Fits.{IsScript}
 use Rattle.script_text.specs.Script.{script_of}
 use Rattle.play.proofs.Ends.{leaves_as_told}
-use Rattle.play.proofs.Short.{ends_short}
+use Rattle.play.proofs.Short.{source_done, source_short}
 use Rattle.play.specs.Played.{leaves_in}
 use Rattle.play.proofs.Own.{no_play_fault, no_more_fault, Found}
 use Rattle.play.proofs.script.play_source.Goals as goal
@@ -44,4 +44,14 @@ returns-clause-short g c =
     let read : ReadsAll before after c.in-Ok.text.items = search rules in
     let is : script_of c.in-Ok.text.items ≡ Ok script = search rules in
     let enough : leaves_in script.items ≤ length c.args.berths.now.items = search rules in
-    ends_short g.N.Bases.base g.B.Berth.meaning before after _ _ c.args.berths.now.items c.play_items.new.berths.items _ _ c.in-Ok.text.items script c.play_items.result read is enough c.play_items.ensures.short
+    source_short g.N.Bases.base g.B.Berth.meaning before after _ _ c.args.berths.now.items c.play_items.new.berths.items _ _ script c.in-Ok.text.items read is enough c.play_items.result c.play_items.ensures.short
+
+pub returns-clause-done : goal.returns-clause-done
+returns-clause-done g c = λ done.
+    let before = g.S.Source.left c.args.source.now in
+    let after = g.S.Source.left c.read_all.new.source in
+    let script = c.in-Ok-parse.script in
+    let read : ReadsAll before after c.in-Ok.text.items = search rules in
+    let is : script_of c.in-Ok.text.items ≡ Ok script = search rules in
+    let enough : leaves_in script.items ≤ length c.args.berths.now.items = search rules in
+    source_done g.N.Bases.base g.B.Berth.meaning before after _ _ c.args.berths.now.items c.play_items.new.berths.items _ _ script c.in-Ok.text.items read is enough (c.play_items.ensures.done done)

@@ -1,5 +1,5 @@
 use Rattle.std.proofs.Common.{rules}
-use Rattle.play.proofs.OwnItems.{declared_follower}
+use Rattle.play.proofs.OwnFollowers.{declared_follower}
 use Rattle.play.proofs.standing.declare.Goals as goal
 
 pub returns-clause-followers : goal.returns-clause-followers

@@ -1,12 +1,13 @@
 use Rattle.std.proofs.Common.{map, rules, subst}
 use Rattle.script_text.specs.Fits.{declared_by}
-use Rattle.standing_feed.specs.Following.{FollowAll, noted}
-use Rattle.play.proofs.OwnItems.{followed_lines, followers_stay, lost_as, notes_within}
+use Rattle.standing_feed.specs.Following.{FollowAll, meant_for}
+use Rattle.play.proofs.OwnItems.{followed_lines, lost_as}
+use Rattle.play.proofs.OwnFollowers.{followers_stay, notes_within}
 use Rattle.play.proofs.standing.play_followed.Goals as goal
 
 pub follow-requires : goal.follow-requires
 follow-requires g c = record {
-  as_many = notes_within (λ calls. calls.items) (noted c.args.item) c.in_ok-notes.notes.items c.args.followers.now.list.items _ (declared_by c.args.item) c.in_ok-notes.ensures c.in_ok-lines.ensures.count;
+  as_many = notes_within (λ calls. calls.items) (meant_for c.args.item) c.in_ok-notes.notes.items c.args.followers.now.list.items _ (declared_by c.args.item) c.in_ok-notes.ensures c.in_ok-lines.ensures.count;
 }
 
 pub returns-in_err-follow-clause-did : goal.returns-in_err-follow-clause-did

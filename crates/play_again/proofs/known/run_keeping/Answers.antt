@@ -1,4 +1,5 @@
 use Rattle.std.proofs.Common.{ap}
+use Rattle.play_again.proofs.Again.{named_bases}
 use Rattle.play_again.proofs.KeepsBase.{is_played, is_short, left_by, leaves_kept, unless_then}
 use Rattle.play_again.proofs.known.run_keeping.Goals as goal
 
@@ -17,3 +18,9 @@ keep_left-requires g c =
     (is_short _ _ _ then.result _ _ _ _ _ _ _ _ c.requires.words then.ensures.short)
     (unless_then then.result _ _ (λ same. ap written same) then.ensures.unwritten)
     (unless_then then.result _ _ (λ same. ap (λ v. v.items) same) then.ensures.unplayed))
+
+pub returns-in-Ok-clause-again : goal.returns-in-Ok-clause-again
+returns-in-Ok-clause-again g c = named_bases g.N.Bases.base g.B.Berth.meaning _ _ c.run-status.result _ _ c.run-status.ensures c.requires.bases
+
+pub returns-clause-again : goal.returns-clause-again
+returns-clause-again g c = named_bases g.N.Bases.base g.B.Berth.meaning _ _ c.run-status.result _ _ c.run-status.ensures c.requires.bases

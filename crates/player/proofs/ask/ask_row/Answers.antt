@@ -1,6 +1,6 @@
 use Rattle.std.proofs.Common.{◌≡◌, List, subst, rules}
 use Rattle.leaf_table.specs.Calls.{SeatView}
-use Rattle.aggregator.specs.Partial.{GoOn}
+use Rattle.aggregator.specs.Partial.{SeatsGoOn}
 use Rattle.player.proofs.AskRows.{asks_row, row_then}
 use Rattle.player.proofs.ask.ask_row.Goals as goal
 
@@ -17,4 +17,4 @@ returns-clause-groups g c = λ histories go.
     let same : c.deref_mut.result.now ≡ v.items = search rules in
     let then = row_then c.args.query.now c.args.tables.now c.args.table c.args.rows.now.items v c.deref_mut.result.now c.ask_all.new.seats c.ask_all.result
     c.requires.table c.index_mut-row.ensures.value same c.ask_all.ensures.asked in
-    c.ask_all.ensures.groups histories (subst (λ (seats : List SeatView). GoOn seats histories) then go)
+    c.ask_all.ensures.groups histories (subst (λ (seats : List SeatView). SeatsGoOn seats histories) then go)

@@ -1,8 +1,8 @@
 use Rattle.std.proofs.Common.{List, Option, sym, subst}
 use Rattle.leaf_table.specs.Calls.{SeatView}
 use Rattle.leaf_table.specs.Lists.{lists_in}
-use Rattle.player.specs.Rows.{Called, Calls, called_at}
-use Rattle.player.specs.Commands.{call_of}
+use Rattle.player.specs.Rows.{SeatRow, CallsTable, called_at}
+use Rattle.transcript.specs.Shapes.{call_of}
 use Rattle.player.proofs.Calling.{called_on, calls, is_called, stands_at}
 use Rattle.player.proofs.SeatRows.{column_then, is_then, only_then, there, row_wide}
 use Rattle.player.proofs.call.call_one.Goals as goal
@@ -12,28 +12,28 @@ index_mut-seat-requires g c = row_wide c.args.leaf c.args.tables.now c.args.rows
 
 pub call_by-requires-clause-seat : goal.call_by-requires-clause-seat
 call_by-requires-clause-seat g c = λ κs bounds.
-    let x : Called = called_at c.args.leaf c.args.tables.now (lists_in c.args.rows.now.items) in
+    let x : SeatRow = called_at c.args.leaf c.args.tables.now (lists_in c.args.rows.now.items) in
     let was = there c.args.leaf c.args.tables.now c.args.rows.now.items c.args.table c.index_mut-row.result.now c.requires.column c.requires.table c.requires.has c.index_mut-row.ensures.value c.index_mut-seat.result.now c.index_mut-seat.ensures.value in
     (is_called x c.args.table c.index-tables-table.result c.index_mut-seat.result.now c.requires.column.called (stands_at c.args.tables.now c.args.table c.index-tables-table.result c.requires.table c.index-tables-table.is) was).seat
 
 pub call_by-requires-clause-caller : goal.call_by-requires-clause-caller
 call_by-requires-clause-caller g c = λ κs bounds.
-    let x : Called = called_at c.args.leaf c.args.tables.now (lists_in c.args.rows.now.items) in
+    let x : SeatRow = called_at c.args.leaf c.args.tables.now (lists_in c.args.rows.now.items) in
     let was = there c.args.leaf c.args.tables.now c.args.rows.now.items c.args.table c.index_mut-row.result.now c.requires.column c.requires.table c.requires.has c.index_mut-row.ensures.value c.index_mut-seat.result.now c.index_mut-seat.ensures.value in
     (is_called x c.args.table c.index-tables-table.result c.index_mut-seat.result.now c.requires.column.called (stands_at c.args.tables.now c.args.table c.index-tables-table.result c.requires.table c.index-tables-table.is) was).caller
 
 pub returns-clause-calls : goal.returns-clause-calls
 returns-clause-calls g c =
-    let x : Called = called_at c.args.leaf c.args.tables.now (lists_in c.args.rows.now.items) in
+    let x : SeatRow = called_at c.args.leaf c.args.tables.now (lists_in c.args.rows.now.items) in
     let was = there c.args.leaf c.args.tables.now c.args.rows.now.items c.args.table c.index_mut-row.result.now c.requires.column c.requires.table c.requires.has c.index_mut-row.ensures.value c.index_mut-seat.result.now c.index_mut-seat.ensures.value in
     let then = column_then c.args.leaf c.args.tables.now c.args.rows.now.items c.args.table c.index_mut-row.result.now c.requires.column c.requires.table c.requires.has c.index_mut-row.ensures.value c.call_by.new.seat in
-    subst (λ (seats : List (Option SeatView)). Calls c.args.table (call_of c.args.request) x c.call_by.result (record { tables = c.args.tables.now; seats = seats })) (sym then)
+    subst (λ (seats : List (Option SeatView)). CallsTable c.args.table (call_of c.args.request) x c.call_by.result (record { tables = c.args.tables.now; seats = seats })) (sym then)
     (calls x c.args.table c.index-tables-table.result c.index_mut-seat.result.now c.requires.column.called (stands_at c.args.tables.now c.args.table c.index-tables-table.result c.requires.table c.index-tables-table.is) was
     (call_of c.args.request) c.call_by.result c.call_by.new.seat c.call_by.ensures.made)
 
 pub returns-clause-column : goal.returns-clause-column
 returns-clause-column g c =
-    let x : Called = called_at c.args.leaf c.args.tables.now (lists_in c.args.rows.now.items) in
+    let x : SeatRow = called_at c.args.leaf c.args.tables.now (lists_in c.args.rows.now.items) in
     let was = there c.args.leaf c.args.tables.now c.args.rows.now.items c.args.table c.index_mut-row.result.now c.requires.column c.requires.table c.requires.has c.index_mut-row.ensures.value c.index_mut-seat.result.now c.index_mut-seat.ensures.value in
     is_then c.args.leaf c.args.tables.now c.args.rows.now.items c.args.table c.index_mut-row.result.now c.requires.column c.requires.table c.requires.has c.index_mut-row.ensures.value c.call_by.new.seat
     (called_on x c.args.table c.index-tables-table.result c.index_mut-seat.result.now c.requires.column.called (stands_at c.args.tables.now c.args.table c.index-tables-table.result c.requires.table c.index-tables-table.is) was

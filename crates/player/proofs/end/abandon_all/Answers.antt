@@ -4,7 +4,7 @@ use Rattle.leaf_table.specs.Lists.{lists_in}
 use Rattle.leaf_moves.specs.Stage.{MeetAll}
 use Rattle.player.specs.Crew.{column}
 use Rattle.player.specs.Rows.{MayMeet, OnlyColumn}
-use Rattle.leaf_deeds.specs.Held.{berth_of, seats_of, state_of}
+use Rattle.leaf_deeds.specs.Held.{berth_of, seats_of, leaf_state}
 use Rattle.player.proofs.Ending.{abandoned_more, abandoned_none, last_at, longer, may_now, no_one, there}
 use Rattle.player.proofs.end.abandon_all.Goals as goal
 
@@ -52,7 +52,7 @@ loop-slot-preserved g c =
     record {
       so_far = abandoned_more meaning c.args.leaves.items first c.args.berths.now.items was.leaves.items now (lists_in was.rows.items) was.berths.items leaf was.invariant.so_far popped
           met.0 then one.new.berths.items
-          (subst (λ (n : ℕ). MeetAll (state_of leaf) (column n (lists_in was.rows.items)) met.0 (column n then) (meaning (berth_of leaf))) count met.1)
+          (subst (λ (n : ℕ). MeetAll (leaf_state leaf) (column n (lists_in was.rows.items)) met.0 (column n then) (meaning (berth_of leaf))) count met.1)
           (subst (λ (n : ℕ). OnlyColumn n (lists_in was.rows.items) then) count one.ensures.only)
           one.ensures.berths;
       few = omega (arith, was.invariant.few, size);

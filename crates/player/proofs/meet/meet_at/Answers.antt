@@ -1,7 +1,7 @@
 use Rattle.std.proofs.Common.{◌<◌, length, arith}
 use Rattle.leaf_table.specs.Lists.{lists_in}
 use Rattle.player.specs.Crew.{column}
-use Rattle.leaf_deeds.specs.Held.{seats_of, state_of}
+use Rattle.leaf_deeds.specs.Held.{seats_of, leaf_state}
 use Rattle.player.proofs.Columns.{element_at, lists_count}
 use Rattle.player.proofs.MetFirst.{meets_none}
 use Rattle.player.proofs.SeatRows.{seat_none, seat_there}
@@ -22,5 +22,5 @@ returns-else-not-is_empty-clause-met g c =
     let is = c.requires.may.column in
     let within : c.args.table < length tables = omega (arith, is.sizes.count, lists_count rows, c.requires.table) in
     let v = element_at (seats_of c.args.leaf.now).seats c.args.table (omega (arith, within, c.requires.may.seats)) in
-    meets_none c.args.table (state_of c.args.leaf.now) (column c.args.number (lists_in rows)) v.0 v.1
+    meets_none c.args.table (leaf_state c.args.leaf.now) (column c.args.number (lists_in rows)) v.0 v.1
     (seat_none c.args.number tables rows c.args.table c.index.result.now is within c.index.ensures c.is_empty.result c.is_empty.ensures c.if-not-is_empty.false)

@@ -12,7 +12,7 @@ use Rattle.berth_face.specs.Berth.{Pair}
 use Rattle.region_reading.proofs.Reading.{untouched_on}
 use Rattle.region_inspect.specs.declared.seen.BlockLine.{BlockLine}
 use Rattle.region_inspect.specs.Shows.{ShowsBlock}
-use Rattle.region_inspect.specs.Inspecting.{AllCounted, CutsInside, HasKinds, IsSmall, SoFar, blocks_in}
+use Rattle.region_inspect.specs.Inspecting.{AllBlocksTold, CutsInside, HasKinds, IsSmall, ToldSoFar, blocks_in}
 use Rattle.region_inspect.proofs.Counting.{all_counted, are_of_kinds, not_all, not_allowed, one_more, one_of_other, too_many, uncut}
 use Rattle.region_inspect.proofs.blocks.inspect_blocks.Goals as goal
 
@@ -103,7 +103,7 @@ loop-places-preserved g c =
             columns = c.line_of.ensures.columns ∙ c.size_of-size.ensures.columns;
             bytes = c.line_of.ensures.bytes ∙ c.size_of-size.ensures.bytes;
           } in
-          subst (λ (ls : List BlockLine). SoFar c.args.version region all c.args.skip h ls (c.loop-places.live + c.from-live.result) 0 c.pop_front.new.self.items) (sym c.in_ok-put.ensures)
+          subst (λ (ls : List BlockLine). ToldSoFar c.args.version region all c.args.skip h ls (c.loop-places.live + c.from-live.result) 0 c.pop_front.new.self.items) (sym c.in_ok-put.ensures)
           (one_more region c.args.version all c.args.skip h c.loop-places.lines.items c.loop-places.live cut c.loop-places.rest.items c.pop_front.new.self.items places (c.loop-places.invariant.told told) c.in-Some.ensures.items
           c.from-live.result inside count c.line_of.result is_block kinds shows);
       untouched = untouched_on old mid (g.B.Berth.meaning c.read_block.new.berth) so_far c.read_block.ensures.untouched;
@@ -138,7 +138,7 @@ loop-places-preserved-in_ok-put g c =
             columns = c.line_of.ensures.columns ∙ c.size_of-size.ensures.columns;
             bytes = c.line_of.ensures.bytes ∙ c.size_of-size.ensures.bytes;
           } in
-          subst (λ (ls : List BlockLine). SoFar c.args.version region all c.args.skip h ls (c.loop-places.live + c.from-live.result) 0 c.pop_front.new.self.items) (sym c.in_ok-put.ensures)
+          subst (λ (ls : List BlockLine). ToldSoFar c.args.version region all c.args.skip h ls (c.loop-places.live + c.from-live.result) 0 c.pop_front.new.self.items) (sym c.in_ok-put.ensures)
           (one_more region c.args.version all c.args.skip h c.loop-places.lines.items c.loop-places.live cut c.loop-places.rest.items c.pop_front.new.self.items places (c.loop-places.invariant.told told) c.in-Some.ensures.items
           c.from-live.result inside count c.line_of.result is_block kinds shows);
       untouched = untouched_on old mid (g.B.Berth.meaning c.read_block.new.berth) so_far c.read_block.ensures.untouched;
@@ -152,6 +152,6 @@ returns-clause-some g c =
     λ told.
     let region = (g.B.Berth.meaning c.args.berth.now).held.region in
     let same = to_z-of_z w64 c.args.horizon c.ranges.horizon in
-    subst (λ (h : ℤ). AllCounted c.args.version region c.args.blocks.items c.args.skip h c.loop-places.live c.of.result) same
-    (subst (λ lines. AllCounted c.args.version region c.args.blocks.items c.args.skip (to_z w64 (of_z w64 c.args.horizon)) c.loop-places.live lines) (sym c.of.ensures)
+    subst (λ (h : ℤ). AllBlocksTold c.args.version region c.args.blocks.items c.args.skip h c.loop-places.live c.of.result) same
+    (subst (λ lines. AllBlocksTold c.args.version region c.args.blocks.items c.args.skip (to_z w64 (of_z w64 c.args.horizon)) c.loop-places.live lines) (sym c.of.ensures)
     (all_counted region c.args.version c.args.blocks.items c.args.skip (to_z w64 (of_z w64 c.args.horizon)) c.loop-places.lines.items c.loop-places.live c.loop-places.cut c.loop-places.rest.items (c.loop-places.invariant.told told) (search rules)))

@@ -1,7 +1,7 @@
 use Rattle.std.proofs.Common.{option_map, sym, subst, arith}
 use Rattle.leaf_model.specs.Lent.{each_cells, lent_cell}
 use Rattle.std.proofs.Common.{◌+◌, Option, take}
-use Rattle.leaf_model.specs.declared.rows.Cell.{Cell}
+use Rattle.row_model.specs.declared.rows.Cell.{Cell}
 use Rattle.row_blocks.specs.Merging.{IsEarliest}
 use Rattle.row_blocks.proofs.Lent.{earliest_now}
 use Rattle.row_blocks.proofs.fronts.earliest_of.Goals as goal

@@ -1,7 +1,7 @@
 use Rattle.std.proofs.Common.{◌-◌, Some, rules, sym, ap, ◌∙◌, arith, w64, FitsSigned}
 use Rattle.std.proofs.lemmas.Int.{to_z-of_z}
-use Rattle.leaf_model.specs.declared.rows.Value.TheVariants as values
-use Rattle.row_blocks.specs.Blocks.{time_of}
+use Rattle.row_model.specs.declared.rows.Value.TheVariants as values
+use Rattle.row_blocks.specs.Blocks.{time_in_cell}
 use Rattle.row_blocks.specs.Live.{time_at}
 use Rattle.row_blocks.proofs.live.walked_time.Goals as goal
 
@@ -20,4 +20,4 @@ next_integer-requires-clause-before c = λ some.
 pub returns-else-place-skip : goal.returns-else-place-skip
 returns-else-place-skip c =
     let fits : FitsSigned w64 c.next_integer.result = search rules in
-    to_z-of_z w64 _ fits ∙ ap time_of (sym c.next_integer.ensures ∙ c.requires.times.each c.args.place c.requires.place)
+    to_z-of_z w64 _ fits ∙ ap time_in_cell (sym c.next_integer.ensures ∙ c.requires.times.each c.args.place c.requires.place)

@@ -1,5 +1,5 @@
 use Rattle.std.proofs.Common.{ℕ, ◌<◌, pos, false, Some, None, slice_index_or, if◌then◌else◌}
-use Rattle.leaf_model.specs.declared.rows.Value.TheVariants.{Int}
+use Rattle.row_model.specs.declared.rows.Value.TheVariants.{Int}
 use Rattle.row_blocks.specs.Blocks.{IsTimeCell}
 use Rattle.row_blocks.proofs.rules.are_times.Given as goal
 

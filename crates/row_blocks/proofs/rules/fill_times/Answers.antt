@@ -1,7 +1,7 @@
 use Rattle.std.proofs.Common.{◌<◌, length, cond, false, pos, Option, Some, None, List, slice_index_or, sym, ap, ◌∙◌, arith}
 use Rattle.std.proofs.lemmas.List.FromFn.{get_or-map-range_with_len}
-use Rattle.leaf_model.specs.declared.rows.Value.{Value}
-use Rattle.leaf_model.specs.declared.rows.Value.TheVariants.{Int}
+use Rattle.row_model.specs.declared.rows.Value.{Value}
+use Rattle.row_model.specs.declared.rows.Value.TheVariants.{Int}
 use Rattle.column_bytes.specs.Cells.{cell_at}
 use Rattle.row_blocks.proofs.rules.fill_times.Goals as goal
 

@@ -1,7 +1,7 @@
 use Rattle.std.proofs.Common.{◌≡◌, ◌+◌, ap, sym, ◌∙◌, arith, rules, ℤ, true, false, add-zero}
 use Rattle.std.specs.Int.{w64}
 use Rattle.std.proofs.lemmas.Int.{to_z-of_z}
-use Rattle.leaf_model.specs.declared.rows.Row.{Row}
+use Rattle.row_model.specs.declared.rows.Row.{Row}
 use Rattle.row_count.specs.Count.{is_in}
 use Rattle.text_lines.specs.Lines.{is_blank, without_return}
 use Rattle.row_count.proofs.Counts.{count_after, count_blank, count_start, count_row, more_by, one_line}

@@ -1,7 +1,7 @@
 use Rattle.std.proofs.Common.{◌≡◌}
 use Rattle.std.specs.List.{AllByRecursion}
 use Rattle.serde_json.specs.View.{members_view}
-use Rattle.leaf_model.specs.Values.{IsCell}
+use Rattle.row_model.specs.Values.{IsCell}
 use Rattle.row_json.specs.Row.{cells_of}
 use Rattle.row_json.proofs.Rows.{before}
 use Rattle.row_json.proofs.object.cells.Given as goal

@@ -2,7 +2,7 @@ use Rattle.std.proofs.Common.{◌≡◌, ◌≤◌, Ok, rules, arith, length, sy
 use Rattle.std.proofs.lemmas.Bool.{ltb-false}
 use Rattle.std.specs.List.{AllByRecursion}
 use Rattle.serde_json.specs.View.{members_view}
-use Rattle.leaf_model.specs.Values.{IsCell, IsTime}
+use Rattle.row_model.specs.Values.{IsCell, IsTime}
 use Rattle.row_json.specs.Row.{cells_of, cell_count}
 use Rattle.row_json.specs.QuickRow.{Ascend}
 use Rattle.row_json.proofs.Order.{at_ok, cells_counted, entries_ascend}

@@ -3,7 +3,7 @@ use Rattle.json.specs.Token.{Token}
 use Rattle.json.specs.Reads.{token_of}
 use Rattle.serde_json.specs.Data.{Data, null, number, string}
 use Rattle.row_json.specs.Row.{is_bad_name, cell_of}
-use Rattle.row_json.specs.Quick.{data_of, IsFine}
+use Rattle.row_json.specs.Quick.{data_of, HasNoFault}
 use Rattle.row_json.proofs.Seen.{fine_number, fine_string, fine_null, good_name}
 use Rattle.row_json.proofs.quick.cell_in.Goals as goal
 

@@ -3,7 +3,7 @@ use Rattle.std.specs.Int.{w64}
 use Rattle.std.proofs.lemmas.Int.{to_z-of_z}
 use Rattle.serde_json.specs.Data.{Members, put, object}
 use Rattle.row_json.specs.Row.{is_time, time_of}
-use Rattle.row_json.specs.Quick.{Knows, IsFine}
+use Rattle.row_json.specs.Quick.{Knows, HasNoFault}
 use Rattle.row_json.proofs.Seen.{knows_time, knows_other, fine_time}
 use Rattle.row_json.proofs.quick.with_member.Goals as goal
 

@@ -5,7 +5,7 @@ use Rattle.json.specs.Reads.{token_of}
 use Rattle.json.proofs.Grammar.{read_key-shorter}
 use Rattle.serde_json.specs.Data.{no_members, put}
 use Rattle.serde_json.specs.Read.{of_json, of_members, converted}
-use Rattle.leaf_model.specs.Values.{IsCell}
+use Rattle.row_model.specs.Values.{IsCell}
 use Rattle.row_json.proofs.Found.{none_ascend, put_ascending}
 use Rattle.row_json.proofs.Grown.{one_more, all_read}
 use Rattle.row_json.proofs.Made.{made_ascend, row_ends, row_fine}

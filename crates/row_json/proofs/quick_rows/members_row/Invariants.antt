@@ -3,7 +3,7 @@ use Rattle.std.specs.List.{AllByRecursion}
 use Rattle.json.specs.Json.{members, value}
 use Rattle.serde_json.specs.Data.{Members, no_members}
 use Rattle.serde_json.specs.Read.{of_members, converted}
-use Rattle.leaf_model.specs.Values.{IsCell}
+use Rattle.row_model.specs.Values.{IsCell}
 use Rattle.row_json.specs.Row.{cells_of}
 use Rattle.row_json.specs.Quick.{Knows}
 use Rattle.row_json.specs.QuickRow.{Ascending}

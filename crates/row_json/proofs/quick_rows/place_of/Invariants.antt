@@ -1,6 +1,6 @@
 use Rattle.std.proofs.Common.{◌-◌, ◌≤◌, length, drop}
 use Rattle.std.specs.List.{AllByRecursion}
-use Rattle.leaf_model.specs.declared.rows.Cell.{Cell}
+use Rattle.row_model.specs.declared.rows.Cell.{Cell}
 use Rattle.row_json.specs.QuickRow.{Below}
 use Rattle.row_json.proofs.quick_rows.place_of.Given as goal
 

@@ -1,5 +1,5 @@
 use Rattle.std.proofs.Common.{◌≡◌, ◌++◌, ◌∷◌, take, drop, subst, rules}
-use Rattle.leaf_model.specs.declared.rows.Cell.{Cell}
+use Rattle.row_model.specs.declared.rows.Cell.{Cell}
 use Rattle.row_json.specs.QuickRow.{IsPlace}
 use Rattle.row_json.proofs.Put.{puts_none, puts_some}
 use Rattle.row_json.proofs.quick_rows.put_cell.Goals as goal

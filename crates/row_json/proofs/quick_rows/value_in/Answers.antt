@@ -3,7 +3,7 @@ use Rattle.std.specs.Int.{w64}
 use Rattle.std.proofs.lemmas.Int.{to_z-of_z}
 use Rattle.json.specs.Reads.{token_of}
 use Rattle.serde_json.specs.Data.{number, string}
-use Rattle.leaf_model.specs.declared.rows.Value.TheVariants.{Int}
+use Rattle.row_model.specs.declared.rows.Value.TheVariants.{Int}
 use Rattle.row_json.specs.Quick.{data_of}
 use Rattle.row_json.proofs.Placed.{text_means}
 use Rattle.row_json.proofs.quick_rows.value_in.Goals as goal

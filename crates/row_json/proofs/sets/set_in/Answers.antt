@@ -2,8 +2,8 @@ use Rattle.std.proofs.Common.{◌≡◌, ℕ, ◌≤◌, List, [], length, map, 
 use Rattle.std.proofs.lemmas.List.{length-map}
 use Rattle.std.specs.BTreeSet.{BTreeSet}
 use Rattle.serde_json.specs.View.{items_view}
-use Rattle.leaf_model.specs.declared.rows.Value.TheVariants.{Set}
-use Rattle.leaf_model.specs.Values.{IsSet}
+use Rattle.row_model.specs.declared.rows.Value.TheVariants.{Set}
+use Rattle.row_model.specs.Values.{IsSet}
 use Rattle.row_json.specs.Row.{item_count, set_of, texts_with}
 use Rattle.row_json.proofs.SetItems.{texts_of, count_items, many_none, set_made, set_refused}
 use Rattle.row_json.proofs.sets.set_in.Goals as goal

@@ -1,6 +1,6 @@
 use Rattle.std.proofs.Common.{◌≡◌, length}
 use Rattle.std.specs.List.{list_any}
-use Rattle.leaf_model.specs.declared.rows.Cell.{Cell}
+use Rattle.row_model.specs.declared.rows.Cell.{Cell}
 use Rattle.leaf_model.specs.Lent.{lent_cells, lent_row}
 use Rattle.row_records.specs.Records.{is_set_value, row_has_set}
 use Rattle.row_records.proofs.record_reader.row_has_set.Given as goal

@@ -1,7 +1,7 @@
 use Rattle.std.proofs.Common.{◌≡◌, ◌-◌}
 use Rattle.leaf_model.specs.Reading.{rows_at}
-use Rattle.row_records.specs.Reading.{behind}
+use Rattle.row_records.specs.Reading.{bytes_left_after}
 use Rattle.row_records.proofs.row_test.behind_rows.Given as goal
 
 abbrev pub invariant-loop : goal.invariant-loop
-invariant-loop l = behind (rows_at (l.count - l.counter) l.rest) ≡ behind (rows_at l.count l.bytes)
+invariant-loop l = bytes_left_after (rows_at (l.count - l.counter) l.rest) ≡ bytes_left_after (rows_at l.count l.bytes)

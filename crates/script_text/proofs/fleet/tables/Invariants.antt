@@ -1,6 +1,6 @@
 use Rattle.std.proofs.Common.{◌≡◌, ◌++◌, ◌≤◌, length, true}
 use Rattle.std.specs.List.{list_all}
-use Rattle.leaf_model.specs.Names.{is_table_name, are_distinct}
+use Rattle.row_model.specs.Names.{is_table_name, are_distinct}
 use Rattle.script_text.specs.Words.{words_of}
 use Rattle.script_text.proofs.fleet.tables.Given as goal
 

@@ -1,5 +1,5 @@
 use Rattle.std.proofs.Common.{◌≡◌, ◌++◌, ◌∷◌, [], ap, sym, ◌∙◌, subst, false}
-use Rattle.script_text.specs.declared.reading.Step.{Step}
+use Rattle.script_text.specs.declared.reading.LineRead.{LineRead}
 use Rattle.script_text.specs.declared.reading.Position.TheVariants as position
 use Rattle.script_text.specs.Bursts.{stepped}
 use Rattle.script_text.specs.Readings.{IsReading}
@@ -15,4 +15,4 @@ returns-clause-is_reading g c =
     let lane : c.in_ok-lane.lane ≡ c.args.lane ++ found ∷ [] = c.in_ok-lane.ensures in
     let is : c.stepped.result ≡ stepped c.args.script (position.Lane c.args.earlier (c.args.lane ++ found ∷ [])) c.row_count-rows.result =
     c.stepped.ensures ∙ ap (λ commands. stepped c.args.script (position.Lane c.args.earlier commands) c.row_count-rows.result) lane in
-    subst (λ (s : Step). IsReading fleet s.reading) (sym is) (command_keeps fleet c.args.script c.args.earlier c.args.lane found c.row_count-rows.result not c.in_ok-command.ensures.is_command c.requires.reading)
+    subst (λ (s : LineRead). IsReading fleet s.reading) (sym is) (command_keeps fleet c.args.script c.args.earlier c.args.lane found c.row_count-rows.result not c.in_ok-command.ensures.is_command c.requires.reading)

@@ -1,5 +1,5 @@
 use Rattle.std.proofs.Common.{◌≡◌, ◌+◌, ◌<◌, ◌^◌, ◌∙◌, List, ap, length, arith}
-use Rattle.leaf_model.specs.declared.rows.Row.{Row}
+use Rattle.row_model.specs.declared.rows.Row.{Row}
 use Rattle.text_lines.specs.Lines.{lines_of}
 use Rattle.script_text.proofs.InParts.{alone_read, alone_fits, alone_refused}
 use Rattle.script_text.proofs.row_parts.read_alone.Goals as goal

@@ -2,8 +2,8 @@ use Rattle.std.proofs.Common.{Bor, List, ℕ, Result, ap, sym, subst, ◌∙◌}
 use Rattle.std.specs.List.{AllZip}
 use Rattle.rayon.proofs.ListFacts.{IfOk-then}
 use Rattle.rayon.proofs.ToStd.{slice-AllZip}
-use Rattle.leaf_model.specs.declared.rows.Row.{Row}
-use Rattle.text_faults.specs.declared.fault.ScriptFault.{ScriptFault}
+use Rattle.row_model.specs.declared.rows.Row.{Row}
+use Rattle.row_model.specs.declared.script_fault.ScriptFault.{ScriptFault}
 use Rattle.script_text.specs.Parts.{IsPartRead}
 use Rattle.script_text.proofs.row_parts.read_each.Goals as goal
 

@@ -1,5 +1,5 @@
 use Rattle.std.proofs.Common.{rules, ◌≡◌, ◌+◌, ◌^◌, ◌∙◌, List, [], ap, arith, length}
-use Rattle.leaf_model.specs.declared.rows.Row.{Row}
+use Rattle.row_model.specs.declared.rows.Row.{Row}
 use Rattle.script_text.proofs.InParts.{all_read, fault_fits, none_read, one_read, part_refused}
 use Rattle.script_text.proofs.row_parts.read_rows.Goals as goal
 

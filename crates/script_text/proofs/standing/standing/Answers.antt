@@ -1,6 +1,6 @@
 use Rattle.std.proofs.Common.{rules}
 use Rattle.query_text.specs.Reading.{query_of}
-use Rattle.text_faults.specs.declared.fault.Why.TheVariants as why
+use Rattle.row_model.specs.declared.script_fault.Why.TheVariants as why
 use Rattle.script_text.specs.Words.{behind_word, trimmed}
 use Rattle.script_text.specs.Commands.{on_line, standing_leaf}
 use Rattle.script_text.proofs.Standings.{standing_read}

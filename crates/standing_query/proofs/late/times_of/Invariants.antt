@@ -1,5 +1,5 @@
 use Rattle.std.proofs.Common.{◌≡◌, map, take, vec_len}
-use Rattle.leaf_model.specs.declared.rows.Row.{Row}
+use Rattle.row_model.specs.declared.rows.Row.{Row}
 use Rattle.standing_query.proofs.late.times_of.Given as goal
 
 abbrev pub invariant-loop-row : goal.invariant-loop-row

@@ -1,6 +1,6 @@
 use Rattle.std.proofs.Common.{◌≤◌, ◌++◌, List, [], ◌∷◌}
 use Rattle.std.specs.Vec.{vec_capacity, vec_len}
-use Rattle.leaf_model.specs.declared.rows.Row.{Row}
+use Rattle.row_model.specs.declared.rows.Row.{Row}
 use Rattle.leaf_model.specs.declared.queries.Query.{Query}
 use Rattle.standing_query.specs.Parts.{AreCounted, AreParts}
 use Rattle.standing_query.proofs.parts.put_part.Given as goal

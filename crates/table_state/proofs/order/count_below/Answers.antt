@@ -1,7 +1,7 @@
 use Rattle.std.proofs.Common.{◌≡◌, ℤ, List, ◌∷◌, ◌+◌, length, ap, int_le, true, false, to_z, of_z, sym, subst, rules, arith, ◌∙◌}
 use Rattle.std.specs.Int.{w64}
 use Rattle.std.proofs.lemmas.Int.{to_z-of_z}
-use Rattle.leaf_model.specs.declared.rows.Row.{Row}
+use Rattle.row_model.specs.declared.rows.Row.{Row}
 use Rattle.leaf_model.specs.Content.{rows_from}
 use Rattle.leaf_model.specs.Lent.{lent_row, lent_rows}
 use Rattle.table_state.proofs.Ascending.{first_stays, one_goes, one_behind}

@@ -1,5 +1,5 @@
 use Rattle.std.proofs.Common.{List, sym, subst}
-use Rattle.leaf_model.specs.declared.rows.Row.{Row}
+use Rattle.row_model.specs.declared.rows.Row.{Row}
 use Rattle.table_state.specs.Stored.{AreNoted}
 use Rattle.table_state.proofs.Ascending.{noted_drop}
 use Rattle.table_state.proofs.order.drop_below.Goals as goal

@@ -2,7 +2,7 @@ use Rattle.std.proofs.Common.{ℤ, List, to_z, of_z, subst}
 use Rattle.std.specs.Prelude.{IfSome}
 use Rattle.std.specs.Int.{w64}
 use Rattle.std.proofs.lemmas.Int.{to_z-of_z}
-use Rattle.leaf_model.specs.declared.rows.Row.{Row}
+use Rattle.row_model.specs.declared.rows.Row.{Row}
 use Rattle.leaf_model.specs.Content.{rows_from}
 use Rattle.table_state.specs.Stored.{AreAscending}
 use Rattle.table_state.proofs.Ascending.{noted_found}

@@ -1,6 +1,6 @@
 use Rattle.std.proofs.Common.{◌≤◌, List, length, ap, arith}
 use Rattle.std.proofs.lemmas.List.{length-drop}
-use Rattle.leaf_model.specs.declared.rows.Row.{Row}
+use Rattle.row_model.specs.declared.rows.Row.{Row}
 use Rattle.leaf_model.specs.Lent.{lent_rows}
 use Rattle.table_state.proofs.Runs.{run_length, run_more, run_rows, runs_are, runs_columns}
 use Rattle.table_state.proofs.sealing.runs_of.Goals as goal

@@ -1,6 +1,6 @@
 use Rattle.std.proofs.Common.{◌≡◌, ℤ, List, to_z, of_z, sym, subst, rules}
 use Rattle.std.specs.Int.{w64}
-use Rattle.leaf_model.specs.declared.rows.Row.{Row}
+use Rattle.row_model.specs.declared.rows.Row.{Row}
 use Rattle.leaf_model.specs.Content.{rows_from}
 use Rattle.table_state.specs.Stored.{AreFrom}
 use Rattle.table_state.proofs.Least.{from_left}

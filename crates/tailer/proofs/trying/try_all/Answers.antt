@@ -4,7 +4,7 @@ use Rattle.rand_pcg.specs.Lcg.{Lcg}
 use Rattle.rand_pcg.specs.Pcg.{pcg32}
 use Rattle.leaf_table.specs.declared.replies.Reply.{Reply}
 use Rattle.tail_picks.specs.Tails.{Tails, TryOf}
-use Rattle.tailer.specs.Calls.{CallsOn, behind_tries, calls_in, free_of, is_added, tries_seen, try_seen}
+use Rattle.tailer.specs.Calls.{CallsOn, behind_tries, calls_of_tries, free_of, is_added, tries_seen, try_seen}
 use Rattle.tailer.proofs.Going.{Trying, calls_more, drawn_last, ends, goes_on, is_next, runs_out, seen_more}
 use Rattle.tailer.proofs.trying.try_all.Goals as goal
 
@@ -35,7 +35,7 @@ returns-in-Some-clause-calls g c =
     let fleet = tail.fleet.now in
     let loop = c.loop-turn in
     let tried = c.try_once-tried in
-    subst (λ (ts : List (TryOf Reply)). CallsOn fleet tail.table c.args.seats.now (calls_in tail.rows.now ts) tried.new.seats) (sym (seen_more loop.tries.items c.push_reserved.new.self.items tried.result c.push_reserved.ensures.items))
+    subst (λ (ts : List (TryOf Reply)). CallsOn fleet tail.table c.args.seats.now (calls_of_tries tail.rows.now ts) tried.new.seats) (sym (seen_more loop.tries.items c.push_reserved.new.self.items tried.result c.push_reserved.ensures.items))
     (calls_more fleet tail.table tail.rows.now c.args.seats.now loop.seats tried.new.seats (tries_seen loop.tries.items) (try_seen tried.result) loop.invariant.2.calls tried.ensures.calls)
 
 pub loop-turn-preserved : goal.loop-turn-preserved

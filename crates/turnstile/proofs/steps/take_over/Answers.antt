@@ -1,5 +1,5 @@
 use Rattle.std.proofs.Common.{rules, ap, ◌∙◌}
-use Rattle.turnstile.specs.Views.{joined}
+use Rattle.turnstile.specs.Views.{view_joined}
 use Rattle.turnstile.proofs.Moving.{joins, meets}
 use Rattle.turnstile.proofs.Calling.{joined_of, learned_of, rested_after, ids_after}
 use Rattle.turnstile.proofs.steps.take_over.Goals as goal
@@ -12,7 +12,7 @@ load-requires g c = (search rules, search rules, meets g.O.Object.legal g.O.Obje
 
 pub returns-clause-rests : goal.returns-clause-rests
 returns-clause-rests g c = let v = c.args.place.now.me.0 in let u = c.args.other.me.0 in
-    rested_after g.O.Object.legal g.O.Object.stands v u c.join_seat.new.seat.me _ c.requires.rests.0.stage (c.join_seat.ensures.2 ∙ ap (λ cs. (joined v u, cs)) c.requires.rests.0.slots) c.load.ensures.2
+    rested_after g.O.Object.legal g.O.Object.stands v u c.join_seat.new.seat.me _ c.requires.rests.0.stage (c.join_seat.ensures.2 ∙ ap (λ cs. (view_joined v u, cs)) c.requires.rests.0.slots) c.load.ensures.2
 
 pub returns-clause-ids : goal.returns-clause-ids
 returns-clause-ids g c = ids_after g.O.Object.legal g.O.Object.stands _ _ c.load.ensures.2

@@ -1,6 +1,6 @@
 use Rattle.std.proofs.Common.{length, sym, ap, ◌∙◌}
 use Rattle.std.proofs.lemmas.List.{length-map}
-use Rattle.leaf_model.specs.declared.rows.Value.TheVariants as values
+use Rattle.row_model.specs.declared.rows.Value.TheVariants as values
 use Rattle.column_bytes.specs.declared.form.Form.{Form}
 use Rattle.dictionaries.specs.Dictionary.{texts_at}
 use Rattle.dictionaries.specs.Sets.{sets_at}

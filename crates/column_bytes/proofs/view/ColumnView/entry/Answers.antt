@@ -1,6 +1,6 @@
 use Rattle.std.proofs.Common.{◌<◌, [], length, slice_index_or, sym, ap, ◌∙◌, arith}
 use Rattle.std.proofs.lemmas.List.{get_or-map, length-map}
-use Rattle.leaf_model.specs.declared.rows.Value.TheVariants as values
+use Rattle.row_model.specs.declared.rows.Value.TheVariants as values
 use Rattle.column_bytes.specs.declared.form.Form.{Form}
 use Rattle.dictionaries.specs.Dictionary.{text_count, texts_at}
 use Rattle.dictionaries.specs.Sets.{sets_at, sets_part}

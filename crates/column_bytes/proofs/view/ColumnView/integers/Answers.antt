@@ -1,5 +1,5 @@
 use Rattle.std.proofs.Common.{◌≡◌, ℕ, ◌<◌, List, length, slice_index, slice_index_or, pos, IfSome, sym, subst, ap, ◌∙◌, arith}
-use Rattle.leaf_model.specs.declared.rows.Value.TheVariants as values
+use Rattle.row_model.specs.declared.rows.Value.TheVariants as values
 use Rattle.bit_columns.specs.Bits.{codes}
 use Rattle.column_bytes.specs.Cells.{Coded, IsCode, IsExtra, book_of, cells_of, coded_of, integer_cells, there, value_at}
 use Rattle.column_bytes.proofs.Parts.{length-codes, length-there, cells-from_integers}

@@ -1,9 +1,9 @@
 use Rattle.std.proofs.Common.{rules, ◌≡◌, ℕ, ◌-◌, ◌<◌, length, sym, ap, ◌∙◌, subst, arith, w64, FitsSigned, to_z, of_z}
 use Rattle.std.proofs.lemmas.Int.{to_z-of_z}
 use Rattle.bit_columns.specs.Bits.{code, codes}
-use Rattle.leaf_model.specs.declared.rows.Value.TheVariants as values
+use Rattle.row_model.specs.declared.rows.Value.TheVariants as values
 use Rattle.column_bytes.specs.declared.kind.Kind.TheVariants as kinds
-use Rattle.column_bytes.specs.Cells.{Coded, IsCode, book_of, cell_at, coded_of, kind_of, value_at}
+use Rattle.column_bytes.specs.Cells.{Coded, IsCode, book_of, cell_at, coded_of, kind_of_book, value_at}
 use Rattle.column_bytes.proofs.Parts.{length-codes, there_at, each-from_are_codes, holds_value, cell_holds, integer_kind}
 use Rattle.column_bytes.proofs.view.ColumnView.next_integer.Goals as goal
 
@@ -18,7 +18,7 @@ integer_in-requires-clause-kind c =
     let inside = c.self.inside in let i = c.args.i in let n = c.requires.integer.0 in
     let coded = coded_of inside.form inside.count inside.presence inside.packed inside.extra.now in
     let holds = holds_value coded i (values.Int n) (ap (λ v. cell_at v i) c.self.view_is ∙ c.requires.integer.1) in
-    subst (λ (m : ℕ). kind_of (book_of inside.form m inside.extra.now) ≡ kinds.Ints) (sym c.self.invariant.codes) (integer_kind coded.book coded.codes i n holds.is)
+    subst (λ (m : ℕ). kind_of_book (book_of inside.form m inside.extra.now) ≡ kinds.Ints) (sym c.self.invariant.codes) (integer_kind coded.book coded.codes i n holds.is)
 
 pub integer_in-requires-clause-code : goal.integer_in-requires-clause-code
 integer_in-requires-clause-code c =

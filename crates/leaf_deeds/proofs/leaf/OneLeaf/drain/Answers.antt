@@ -1,5 +1,5 @@
 use Rattle.leaf_deeds.proofs.Moved.{drain_not_up, preparing_drains, up_drains}
-use Rattle.leaf_deeds.specs.Held.{berth_of, state_of}
+use Rattle.leaf_deeds.specs.Held.{berth_of, leaf_state}
 use Rattle.leaf_deeds.proofs.leaf.OneLeaf.drain.Goals as goal
 
 pub returns-in-Down-clause-drains : goal.returns-in-Down-clause-drains
@@ -7,11 +7,11 @@ returns-in-Down-clause-drains g c = drain_not_up g.B.Berth.meaning c.args.self c
 
 pub returns-in-Up-clause-drains : goal.returns-in-Up-clause-drains
 returns-in-Up-clause-drains g c =
-    up_drains g.B.Berth.meaning c.args.self c.in-Up.up c.prepare.result (g.B.Berth.meaning (berth_of c.drain.result.0)) c.args.stop c.drain.new.notes c.drain.result.1 (state_of c.drain.result.0)
+    up_drains g.B.Berth.meaning c.args.self c.in-Up.up c.prepare.result (g.B.Berth.meaning (berth_of c.drain.result.0)) c.args.stop c.drain.new.notes c.drain.result.1 (leaf_state c.drain.result.0)
     c.in-Up.is c.prepare.ensures c.drain.ensures.drains
 
 pub returns-in-Preparing-clause-drains : goal.returns-in-Preparing-clause-drains
 returns-in-Preparing-clause-drains g c =
     let then = c.drain-in-Preparing in
-    preparing_drains g.B.Berth.meaning c.args.self c.in-Preparing.leaf (g.B.Berth.meaning (berth_of then.result.0)) c.args.stop then.new.notes then.result.1 (state_of then.result.0)
+    preparing_drains g.B.Berth.meaning c.args.self c.in-Preparing.leaf (g.B.Berth.meaning (berth_of then.result.0)) c.args.stop then.new.notes then.result.1 (leaf_state then.result.0)
     c.in-Preparing.is then.ensures.drains

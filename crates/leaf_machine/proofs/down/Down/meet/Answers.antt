@@ -1,6 +1,6 @@
 use Rattle.std.proofs.Common.{◌≡◌, ◌<◌, length, false, subst, sym, ap}
 use Rattle.leaf_history.specs.History.{LegalFrom}
-use Rattle.turnstile.specs.Seats.{IsSeatOf, LearnsOthers, Told}
+use Rattle.turnstile.specs.Seats.{IsSeatOf, LearnsOthers, SeesAlso}
 use Rattle.leaf_table.specs.Turns.{is_founded, start_of}
 use Rattle.leaf_table.specs.Calls.{SeatView, base_seen, seen_of}
 use Rattle.crash_states.specs.Standing.{Rests}
@@ -30,14 +30,14 @@ invariant_of-self g c =
 pub returns-clause-learns : goal.returns-clause-learns
 returns-clause-learns g c =
     subst (λ s. AtPlace (λ t v. (w : SeatView) × ((c.meet.new.self, c.self.inside.berth) ≡ (with_seat s.0 c.args.table w, s.1))
-    × Told v c.args.seat.now w × LearnsOthers v w × LegalFrom (is_founded (base_seen t)) (start_of (base_seen t)) (seen_of w)) s.0 c.args.table) c.self.view_is
+    × SeesAlso v c.args.seat.now w × LearnsOthers v w × LegalFrom (is_founded (base_seen t)) (start_of (base_seen t)) (seen_of w)) s.0 c.args.table) c.self.view_is
     (λ t v at sat.
     let learned = c.meet.ensures.learns t v at sat in
     (learned.0, ap (λ (s : Seated). (s, c.self.inside.berth)) learned.1, learned.2, learned.3, learned.4))
 
 pub returns-clause-seat : goal.returns-clause-seat
 returns-clause-seat g c =
-    subst (λ s. AtPlace (λ t v. IsSeatOf c.meet.new.seat t.site × Told c.args.seat.now v c.meet.new.seat × LearnsOthers c.args.seat.now c.meet.new.seat
+    subst (λ s. AtPlace (λ t v. IsSeatOf c.meet.new.seat t.site × SeesAlso c.args.seat.now v c.meet.new.seat × LearnsOthers c.args.seat.now c.meet.new.seat
     × LegalFrom (is_founded (base_seen t)) (start_of (base_seen t)) (seen_of c.meet.new.seat)) s.0 c.args.table) c.self.view_is c.meet.ensures.seat
 
 pub returns-clause-rests : goal.returns-clause-rests

@@ -5,7 +5,7 @@ use Rattle.berth_face.specs.Causes.{Rose}
 use Rattle.berth_face.specs.Berth.{Meaning}
 use Rattle.disk_backup.specs.Scanning.{BeginsScan}
 use Rattle.leaf_opening.specs.Answers.{IsAnswer}
-use Rattle.leaf_opening.specs.Starts.{IsWayOf, Started, opened_leaf}
+use Rattle.leaf_opening.specs.Starts.{IsWayOf, StartEnded, opened_leaf}
 use Rattle.leaf_table.specs.Calls.{IsFresh}
 use Rattle.crash_moments.specs.Told.{Told}
 use Rattle.crash_states.specs.Standing.{Rests, Runs, StandsNow}
@@ -127,7 +127,7 @@ returns-in-Ok-clause-came g c =
     start_opened x m n o c.names.result.now c.names.ensures opening.time stands (opening.moments told) (opening.disks told) (opening.held told) (opening.told told) (opening.durable told) in
     record {
       served = opened_leaf c.args.self.0.names o;
-      started = subst (λ l. Started l.0.names (g.B.Berth.meaning l.1) n (opened_leaf l.0.names o) o.way) c.self.view_is opened.started;
+      started = subst (λ l. StartEnded l.0.names (g.B.Berth.meaning l.1) n (opened_leaf l.0.names o) o.way) c.self.view_is opened.started;
       log = ap (λ (log : Owing). log.log) c.of.ensures;
       noted = search rules;
     }

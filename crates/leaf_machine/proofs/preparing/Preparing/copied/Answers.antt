@@ -7,7 +7,7 @@ use Rattle.region_layout.specs.Drained.{images_of}
 use Rattle.drain_copy.specs.Draining.{DrainState}
 use Rattle.crash_states.specs.Standing.{Runs}
 use Rattle.leaf_steward.specs.Seated.{AreFounded, watched_by}
-use Rattle.leaf_machine.specs.States.{Shutting, Copying, GoesOn, GoesOnCopying}
+use Rattle.leaf_machine.specs.States.{Shutting, Copying, ServingGoesOn, GoesOnCopying}
 use Rattle.leaf_machine.specs.Shut.{AreFewShut, AreTablesOf, drained_columns}
 use Rattle.leaf_machine.specs.Prepares.{CrowdsStep, IsCopyOf}
 use Rattle.leaf_machine.specs.PrepParts.{IsAllTreated}
@@ -76,7 +76,7 @@ pub returns-clause-crash : goal.returns-clause-crash
 returns-clause-crash g c =
     let x : Shutting = record { serving = record { seated = c.self.inside.seats; owing = c.self.inside.log }; closed = c.self.inside.tables.closed; waits = c.self.inside.tables.waits } in
     let m = g.B.Berth.meaning c.self.inside.berth in
-    subst (λ v. AreFounded v.0.serving.seated → GoesOn v.0.serving x.serving (g.B.Berth.meaning v.1) m) c.self.view_is (λ founded. goes_none x.serving m)
+    subst (λ v. AreFounded v.0.serving.seated → ServingGoesOn v.0.serving x.serving (g.B.Berth.meaning v.1) m) c.self.view_is (λ founded. goes_none x.serving m)
 
 pub returns-clause-crowds : goal.returns-clause-crowds
 returns-clause-crowds g c =

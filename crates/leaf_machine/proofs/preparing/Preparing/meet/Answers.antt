@@ -1,7 +1,7 @@
 use Rattle.std.proofs.Common.{◌≡◌, ◌<◌, length, sym, ap, subst}
 use Rattle.std.specs.Prelude.{take}
 use Rattle.leaf_history.specs.History.{LegalFrom}
-use Rattle.turnstile.specs.Seats.{IsSeatOf, LearnsOthers, Told}
+use Rattle.turnstile.specs.Seats.{IsSeatOf, LearnsOthers, SeesAlso}
 use Rattle.leaf_table.specs.Turns.{is_founded, start_of}
 use Rattle.leaf_table.specs.Calls.{SeatView, base_seen, seen_of}
 use Rattle.crash_states.specs.Standing.{Runs}
@@ -49,7 +49,7 @@ returns-clause-learns g c =
     let with : Seated → Shutting × g.row.B.Denot = λ s. (record { serving = record { seated = s; owing = c.self.inside.log }; closed = c.self.inside.tables.closed; waits = c.self.inside.tables.waits }, berth) in
     subst
     (λ v. AtPlace (λ t s. (w : SeatView) × (with c.meet.new.self ≡ (record { serving = record { seated = with_seat v.0.serving.seated place w; owing = v.0.serving.owing }; closed = v.0.closed; waits = v.0.waits }, v.1))
-    × Told s seat w × LearnsOthers s w × LegalFrom (is_founded (base_seen t)) (start_of (base_seen t)) (seen_of w)) v.0.serving.seated place)
+    × SeesAlso s seat w × LearnsOthers s w × LegalFrom (is_founded (base_seen t)) (start_of (base_seen t)) (seen_of w)) v.0.serving.seated place)
     c.self.view_is (λ t s at was. let l = c.meet.ensures.learns t s at was in (l.0, ap with l.1, l.2, l.3, l.4))
 
 pub returns-clause-seat : goal.returns-clause-seat
@@ -57,7 +57,7 @@ returns-clause-seat g c =
     let place = c.args.table in
     let old = c.args.seat.now in
     let new = c.meet.new.seat in
-    subst (λ v. AtPlace (λ t s. IsSeatOf new t.site × Told old s new × LearnsOthers old new × LegalFrom (is_founded (base_seen t)) (start_of (base_seen t)) (seen_of new)) v.0.serving.seated place) c.self.view_is c.meet.ensures.seat
+    subst (λ v. AtPlace (λ t s. IsSeatOf new t.site × SeesAlso old s new × LearnsOthers old new × LegalFrom (is_founded (base_seen t)) (start_of (base_seen t)) (seen_of new)) v.0.serving.seated place) c.self.view_is c.meet.ensures.seat
 
 pub returns-clause-runs : goal.returns-clause-runs
 returns-clause-runs g c = λ writes.

@@ -2,7 +2,7 @@ use Rattle.std.proofs.Common.{rules, ◌≡◌, false, length, ap, sym, ◌∙�
 use Rattle.std.specs.Prelude.{IsErr, IsOk}
 use Rattle.disk_backup.proofs.Results.{of_err, of_ok}
 use Rattle.leaf_machine.specs.States.{Shutting}
-use Rattle.leaf_machine.specs.PrepParts.{Settles}
+use Rattle.leaf_machine.specs.PrepParts.{PreparingSettles}
 use Rattle.leaf_machine.proofs.PrepJoins.{part_join}
 use Rattle.leaf_machine.proofs.PrepTreats.{failed_behind, more_open, seal_part, sealed_behind, shut_ok}
 use Rattle.leaf_machine.proofs.preparing.Preparing.treat_next.Goals as goal
@@ -17,7 +17,7 @@ returns-then-is_err-2-clause-next g c =
     let x : Shutting = c.args.self.now.0 in
     let mid : Shutting = c.settle.new.self.0 in
     let good : IsOk c.settle.result = search rules in
-    let settles : Settles x mid c.settle.new.notes = of_ok c.settle.result good c.settle.ensures.settled in
+    let settles : PreparingSettles x mid c.settle.new.notes = of_ok c.settle.result good c.settle.ensures.settled in
     let none : c.self.inside.tables.waits ≡ false = sym c.waits.ensures ∙ c.if-waits.false in
     let open_ : x.waits ≡ false = sym settles.shut ∙ ap (λ v. v.0.waits) (sym c.self.view_is) ∙ none in
     let y : Shutting = c.shut_next.new.self.0 in
@@ -35,7 +35,7 @@ returns-clause-next g c =
     let x : Shutting = c.args.self.now.0 in
     let mid : Shutting = c.settle.new.self.0 in
     let good : IsOk c.settle.result = search rules in
-    let settles : Settles x mid c.settle.new.notes = of_ok c.settle.result good c.settle.ensures.settled in
+    let settles : PreparingSettles x mid c.settle.new.notes = of_ok c.settle.result good c.settle.ensures.settled in
     let none : c.self.inside.tables.waits ≡ false = sym c.waits.ensures ∙ c.if-waits.false in
     let open_ : x.waits ≡ false = sym settles.shut ∙ ap (λ v. v.0.waits) (sym c.self.view_is) ∙ none in
     let y : Shutting = c.shut_next.new.self.0 in

@@ -1,7 +1,7 @@
 use Rattle.std.proofs.Common.{subst}
 use Rattle.std.specs.Prelude.{IsTrue}
 use Rattle.leaf_steward.specs.Seated.{AreFounded}
-use Rattle.leaf_machine.specs.States.{Serving, GoesOn}
+use Rattle.leaf_machine.specs.States.{Serving, ServingGoesOn}
 use Rattle.leaf_machine.specs.Flushes.{Flushes}
 use Rattle.leaf_machine.proofs.up.Up.flush.Goals as goal
 
@@ -13,4 +13,4 @@ returns-clause-flushes g c =
 pub returns-clause-crash : goal.returns-clause-crash
 returns-clause-crash g c =
     let now : Serving = record { seated = c.flush_table.new.seats; owing = c.flush_table.new.log } in
-    subst (λ s. IsTrue (g.B.Berth.meaning s.1).tells → AreFounded s.0.seated → GoesOn s.0 now (g.B.Berth.meaning s.1) (g.B.Berth.meaning c.flush_table.new.berth)) c.self.view_is c.flush_table.ensures.crash
+    subst (λ s. IsTrue (g.B.Berth.meaning s.1).tells → AreFounded s.0.seated → ServingGoesOn s.0 now (g.B.Berth.meaning s.1) (g.B.Berth.meaning c.flush_table.new.berth)) c.self.view_is c.flush_table.ensures.crash

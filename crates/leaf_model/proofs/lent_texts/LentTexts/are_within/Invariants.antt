@@ -1,5 +1,5 @@
 use Rattle.std.proofs.Common.{◌≡◌, length, leb}
-use Rattle.leaf_model.specs.Values.{bytes_in}
+use Rattle.row_model.specs.Values.{bytes_in}
 use Rattle.leaf_model.specs.Lent.{lent_texts}
 use Rattle.leaf_model.proofs.lent_texts.LentTexts.are_within.Given as goal
 

@@ -1,5 +1,5 @@
 use Rattle.std.proofs.Common.{◌≡◌, length}
-use Rattle.leaf_model.specs.Groups.{texts_cmp}
+use Rattle.row_model.specs.Texts.{texts_cmp}
 use Rattle.leaf_model.specs.Lent.{lent_texts}
 use Rattle.leaf_model.proofs.lent_texts.LentTexts.compare.Given as goal
 

@@ -1,5 +1,5 @@
 use Rattle.std.proofs.Common.{◌≡◌, ◌∷◌, length}
-use Rattle.leaf_model.specs.Sets.{do_ascend}
+use Rattle.row_model.specs.Sets.{do_ascend}
 use Rattle.leaf_model.specs.Lent.{lent_texts}
 use Rattle.leaf_model.proofs.lent_texts.LentTexts.do_ascend.Given as goal
 

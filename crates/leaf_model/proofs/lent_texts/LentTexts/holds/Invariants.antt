@@ -1,5 +1,5 @@
 use Rattle.std.proofs.Common.{◌≡◌, length}
-use Rattle.leaf_model.specs.Names.{is_among}
+use Rattle.row_model.specs.Names.{is_among}
 use Rattle.leaf_model.specs.Lent.{lent_texts}
 use Rattle.leaf_model.proofs.lent_texts.LentTexts.holds.Given as goal
 

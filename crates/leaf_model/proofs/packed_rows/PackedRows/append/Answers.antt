@@ -1,5 +1,5 @@
 use Rattle.std.proofs.Common.{◌≡◌, ◌+◌, ◌≤◌, ◌++◌, ◌∙◌, length, ap, sym, subst, rules, ℕ, List}
-use Rattle.leaf_model.specs.declared.rows.Row.{Row}
+use Rattle.row_model.specs.declared.rows.Row.{Row}
 use Rattle.leaf_model.specs.Packed.{packed_rows, ArePacked}
 use Rattle.leaf_model.proofs.PackedLaws.{are_packed, packed_is}
 use Rattle.leaf_model.proofs.PackedBytes.{packed_few, rows_more}

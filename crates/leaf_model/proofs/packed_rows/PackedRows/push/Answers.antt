@@ -1,5 +1,5 @@
 use Rattle.std.proofs.Common.{◌≡◌, ◌+◌, ◌≤◌, ◌∷◌, ◌++◌, [], ◌∙◌, length, ap, sym, subst, rules, ℕ, List}
-use Rattle.leaf_model.specs.declared.rows.Row.{Row}
+use Rattle.row_model.specs.declared.rows.Row.{Row}
 use Rattle.leaf_model.specs.Bytes.{rows_bytes}
 use Rattle.leaf_model.specs.Lent.{lent_row}
 use Rattle.leaf_model.specs.Packed.{packed_rows, ArePacked}

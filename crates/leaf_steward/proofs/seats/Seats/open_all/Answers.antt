@@ -1,4 +1,4 @@
-use Rattle.std.proofs.Common.{◌≡◌, ◌≤◌, ℕ, Bool, true, List, map, slice_get, Some, [], refl, ap, subst, arith, rules}
+use Rattle.std.proofs.Common.{◌≡◌, ◌+◌, ◌≤◌, ℕ, Bool, true, List, map, slice_get, Some, [], refl, ap, subst, arith, rules}
 use Rattle.std.proofs.lemmas.Grind.{common_steps}
 use Rattle.std.proofs.lemmas.List.{take_all}
 use Rattle.leaf_history.specs.History.{HistoryState, first_writes}
@@ -15,7 +15,7 @@ abbrev columns_of : Table → ℕ
 columns_of t = columns_most t.store
 
 -- what may be handed in hangs on how its rows stand by their columns alone
-handed_bare : (founded : Bool) (s : HistoryState) (t : Table) → MayHandIn founded s t.writes (bare t) → HasFewColumns founded (first_writes s t.writes) t → MayHandIn founded s t.writes t
+handed_bare : (founded : Bool) (s : HistoryState) (t : Table) → MayHandIn founded s t.writes (bare t) → HasFewColumns founded s.spare (first_writes s t.writes) t → MayHandIn founded s t.writes t
 handed_bare founded s t may columns = record { pending = may.pending; writes = may.writes; small = may.small; columns = columns; allowed = may.allowed }
 
 pub loop-content-init : goal.loop-content-init
@@ -33,7 +33,7 @@ open-requires-clause-content g c κs within =
     let counted = pop_next c.args.tables.columns (map columns_of c.loop-content.rest.items) (map columns_of c.pop_front.new.self.items) c.loop-content.table (columns_of c.in-Some.content) c.loop-content.invariant.columns (ap (map columns_of) c.in-Some.ensures.items) in
     λ t v at seat. handed_bare _ _ c.in-Some.content (still IsRunning (λ p t v. (table : Table) → slice_get c.args.tables.each p ≡ Some table → MayHandIn (is_founded (base_seen t)) (state_seen (base_seen t) v) table.writes table)
     _ 0 c.args.self.now c.loop-content.table c.loop-content.notes c.loop-content.self c.loop-content.invariant.passed (λ p t v at seat table is. c.requires.content p t v table at seat is) t v at seat (bare c.in-Some.content) next.at)
-    (still IsRunning (λ p t v. (table : Table) (n : ℕ) → slice_get c.args.tables.each p ≡ Some table → slice_get c.args.tables.columns p ≡ Some n → is_founded (base_seen t) ≡ true → n ≤ added_count (first_writes (state_seen (base_seen t) v) table.writes))
+    (still IsRunning (λ p t v. (table : Table) (n : ℕ) → slice_get c.args.tables.each p ≡ Some table → slice_get c.args.tables.columns p ≡ Some n → is_founded (base_seen t) ≡ true → n ≤ (state_seen (base_seen t) v).spare + added_count (first_writes (state_seen (base_seen t) v) table.writes))
     _ 0 c.args.self.now c.loop-content.table c.loop-content.notes c.loop-content.self c.loop-content.invariant.passed (λ p t v at seat table n is. c.requires.columns p t v table n at seat is) t v at seat (bare c.in-Some.content) (columns_of c.in-Some.content) next.at counted.at)
 
 pub open-requires-clause-room : goal.open-requires-clause-room

@@ -2,7 +2,7 @@ use Rattle.std.proofs.Common.{◌≡◌, ◌*◌, ◌<◌, ℕ, take, length, sy
 use Rattle.leaf_table.specs.Fleet.{IsNewFleet}
 use Rattle.leaf_table.specs.Lists.{lists_in}
 use Rattle.player.specs.Crew.{new_holds}
-use Rattle.player.specs.Beginning.{AreBegun, IsReady}
+use Rattle.player.specs.Beginning.{AreBegun, LeafIsReady}
 use Rattle.player.proofs.Begun.{begun_held, begun_holds, begun_stands, new_members, new_seats, ready_at}
 use Rattle.player.proofs.Columns.{lists_count}
 use Rattle.player.proofs.crew.Crew.new.Goals as goal
@@ -14,7 +14,7 @@ begin_all-requires-clause-ready g c = λ κs bounds leaf below.
     let stewards_are = c.into_inner.ensures in
     let size : length c.into_inner.result.items ≡ count = omega (arith, lists_count c.into_inner.result.items, ap (λ ls. length ls) stewards_are, new.1.counts.1) in
     let within : leaf < count = omega (arith, below, size) in
-    subst (λ ls. IsReady g.B.Berth.meaning c.args.names c.args.tables.now ls c.args.berths.now.items leaf) (sym stewards_are)
+    subst (λ ls. LeafIsReady g.B.Berth.meaning c.args.names c.args.tables.now ls c.args.berths.now.items leaf) (sym stewards_are)
     (ready_at new.0 count c.args.names c.args.tables.now c.args.stewards c.args.callers c.requires.named new.1 g.B.Berth.meaning c.args.berths.now.items leaf within
     (c.requires.alike leaf within) (λ b at founded. c.requires.ready leaf b within at founded))
 

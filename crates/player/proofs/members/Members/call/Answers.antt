@@ -3,7 +3,7 @@ use Rattle.leaf_table.specs.Turns.{Shared}
 use Rattle.leaf_table.specs.Lists.{lists_in}
 use Rattle.player.specs.Lines.{CallsWith}
 use Rattle.player.specs.Rows.{IsColumn, called_at}
-use Rattle.player.specs.Commands.{call_of}
+use Rattle.transcript.specs.Shapes.{call_of}
 use Rattle.player.proofs.CallPieces.{one_call}
 use Rattle.player.proofs.HoldLists.{seat_held}
 use Rattle.player.proofs.MemberSteps.{calls_at, members_called, tables_at}

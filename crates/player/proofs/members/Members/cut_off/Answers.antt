@@ -1,12 +1,12 @@
 use Rattle.std.proofs.Common.{◌≡◌, ◌≤◌, ℕ, List, length, refl, ap, arith}
 use Rattle.leaf_table.specs.Lists.{lists_in}
-use Rattle.script_text.specs.declared.fleet.Fleet.{Fleet}
+use Rattle.script_text.specs.declared.fleet.FleetShape.{FleetShape}
 use Rattle.player.specs.Crew.{is_set}
 use Rattle.player.proofs.Columns.{lists_count}
 use Rattle.player.proofs.CutInTwo.{cuts_off, may_split, off_members, rest_members}
 use Rattle.player.proofs.members.Members.cut_off.Goals as goal
 
-abbrev fleet_named : ℕ → ℕ → List (List ℕ) → Fleet
+abbrev fleet_named : ℕ → ℕ → List (List ℕ) → FleetShape
 fleet_named machines per_machine names = record { machines = machines; per_machine = per_machine; names = names }
 
 pub split_rows-requires-clause-may : goal.split_rows-requires-clause-may

@@ -1,6 +1,6 @@
 use Rattle.std.proofs.Common.{length, ap, arith}
 use Rattle.leaf_table.specs.Lists.{lists_in}
-use Rattle.script_text.specs.declared.fleet.Fleet.{Fleet}
+use Rattle.script_text.specs.declared.fleet.FleetShape.{FleetShape}
 use Rattle.player.specs.Members.{holds_in}
 use Rattle.player.proofs.Columns.{lists_count}
 use Rattle.player.proofs.MemberSteps.{with_parts}
@@ -19,7 +19,7 @@ take_leaves-requires-clause-members g c = λ κs bounds.
     let x = c.args.self.now in
     let y = c.args.other in
     let are = c.requires.members in
-    let names = ap (λ (f : Fleet). length f.names) c.requires.same.fleet in
+    let names = ap (λ (f : FleetShape). length f.names) c.requires.same.fleet in
     let joins = c.join_rows.ensures.joins in
     let rows = c.join_rows.new.rows in
     members_between x y are.0 are.1 c.requires.same rows joins.counts.0
@@ -31,7 +31,7 @@ take_leaves-requires-clause-free g c = λ κs bounds.
     let x = c.args.self.now in
     let y = c.args.other in
     let are = c.requires.members in
-    let names = ap (λ (f : Fleet). length f.names) c.requires.same.fleet in
+    let names = ap (λ (f : FleetShape). length f.names) c.requires.same.fleet in
     let joins = c.join_rows.ensures.joins in
     let rows = c.join_rows.new.rows in
     free_between x y are.0 are.1 c.requires.same rows joins.counts.0
@@ -44,7 +44,7 @@ take_leaves-requires-clause-own g c = λ κs bounds.
     let x = c.args.self.now in
     let y = c.args.other in
     let are = c.requires.members in
-    let names = ap (λ (f : Fleet). length f.names) c.requires.same.fleet in
+    let names = ap (λ (f : FleetShape). length f.names) c.requires.same.fleet in
     let joins = c.join_rows.ensures.joins in
     let rows = c.join_rows.new.rows in
     own_between x y are.0 are.1 c.requires.same rows joins.counts.0
@@ -56,7 +56,7 @@ returns-clause-back g c =
     let x = c.args.self.now in
     let y = c.args.other in
     let are = c.requires.members in
-    let names = ap (λ (f : Fleet). length f.names) c.requires.same.fleet in
+    let names = ap (λ (f : FleetShape). length f.names) c.requires.same.fleet in
     let joins = c.join_rows.ensures.joins in
     let rows = c.join_rows.new.rows in
     takes_back x y are.0 are.1 c.requires.same rows joins.counts.0
@@ -69,7 +69,7 @@ returns-clause-seats g c =
     let x = c.args.self.now in
     let y = c.args.other in
     let are = c.requires.members in
-    let names = ap (λ (f : Fleet). length f.names) c.requires.same.fleet in
+    let names = ap (λ (f : FleetShape). length f.names) c.requires.same.fleet in
     let joins = c.join_rows.ensures.joins in
     let rows = c.join_rows.new.rows in
     seats_on (holds_in x) (holds_in (with_parts x x.leaves rows)) (holds_in c.take_leaves.new.self)

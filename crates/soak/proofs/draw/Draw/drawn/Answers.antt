@@ -1,5 +1,5 @@
 use Rattle.std.proofs.Common.{◌≡◌, ◌+◌, ◌∙◌, sym, ap, subst, arith}
-use Rattle.leaf_model.specs.Values.{IsRow}
+use Rattle.row_model.specs.Values.{IsRow}
 use Rattle.soak.specs.Soak.{row_at, row_with, rows_between}
 use Rattle.soak.proofs.Drawn.{rows_more}
 use Rattle.soak.proofs.Fitting.{row_fits}

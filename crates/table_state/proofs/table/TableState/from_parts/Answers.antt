@@ -1,7 +1,7 @@
 use Rattle.std.proofs.Common.{◌≡◌, ◌≤◌, ℤ, List, length, to_z, of_z, sym, ap₂, subst, ◌∙◌, rules}
 use Rattle.std.specs.Int.{w64}
 use Rattle.row_blocks.specs.Blocks.{Block}
-use Rattle.table_state.specs.Stored.{Stands, sealed_rows}
+use Rattle.table_state.specs.Stored.{StoreStands, sealed_rows}
 use Rattle.table_state.specs.Tables.{IsPartsOf, most_rows}
 use Rattle.table_state.proofs.Ahead.{none_ahead}
 use Rattle.table_state.proofs.Stood.{parts_few, parts_stand, parts_told, standing}
@@ -21,7 +21,7 @@ invariant_of-result c =
     let same : to_z w64 (of_z w64 p.horizon) ≡ p.horizon = search rules in
     let slice : c.as_slice.result.now ≡ p.blocks = search rules in
     let blocks : c.of.result ≡ p.blocks = search rules in (
-      subst (λ (t : ℤ). Stands c.of.result p.skip c.new.result t c.count_live-live.result) (sym same)
+      subst (λ (t : ℤ). StoreStands c.of.result p.skip c.new.result t c.count_live-live.result) (sym same)
           (parts_stand p c.of.result c.new.result c.count_live-live.result c.requires blocks c.new.ensures
           (c.count_live-live.ensures ∙ ap₂ (λ (l : List Block) (t : ℤ). length (sealed_rows l p.skip t)) slice same)),
       none_ahead c.of.result p.skip (to_z w64 (of_z w64 p.horizon)),

@@ -1,7 +1,7 @@
 use Rattle.std.proofs.Common.{◌≡◌, ◌≤◌, ◌+◌, ◌++◌, ℕ, List, [], length, sym, ap, subst, ◌∙◌, rules}
-use Rattle.leaf_model.specs.declared.rows.Row.{Row}
+use Rattle.row_model.specs.declared.rows.Row.{Row}
 use Rattle.row_blocks.specs.Held.{columns_count, rows_and_cells}
-use Rattle.table_state.specs.Stored.{Stands, sealed_rows}
+use Rattle.table_state.specs.Stored.{StoreStands, sealed_rows}
 use Rattle.table_state.specs.Tables.{Table, bare, columns_most, no_store}
 use Rattle.table_state.proofs.Counting.{sealed_columns}
 use Rattle.table_state.proofs.Ahead.{sealed_ahead}
@@ -12,8 +12,8 @@ pub invariant_of-self-2 : goal.invariant_of-self-2
 invariant_of-self-2 c =
     let t = c.self.inside in let now = c.seal_behind.new.blocks in
     let count : c.len-2.result ≡ length t.tail = search rules in (
-      subst (λ (l : List Row). Stands now t.skip l t.horizon (t.live + c.len-2.result)) (sym c.clear.ensures)
-          (subst (λ (n : ℕ). Stands now t.skip [] t.horizon (t.live + n)) (sym count)
+      subst (λ (l : List Row). StoreStands now t.skip l t.horizon (t.live + c.len-2.result)) (sym c.clear.ensures)
+          (subst (λ (n : ℕ). StoreStands now t.skip [] t.horizon (t.live + n)) (sym count)
           (tail_stands t.blocks t.skip t.tail t.horizon t.live c.self.invariant.0 now c.in_ok-seal_behind.ensures.sealed)),
       sealed_ahead t.ahead t.blocks t.skip t.horizon t.tail now c.in_ok-seal_behind.ensures.sealed c.self.invariant.1,
     )

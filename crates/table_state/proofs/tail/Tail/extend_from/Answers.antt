@@ -1,6 +1,6 @@
 use Rattle.std.proofs.Common.{◌≡◌, ℤ, List, int_le, true, to_z, of_z, sym, subst, rules}
 use Rattle.std.specs.Int.{w64}
-use Rattle.leaf_model.specs.declared.rows.Row.{Row}
+use Rattle.row_model.specs.declared.rows.Row.{Row}
 use Rattle.leaf_model.specs.Content.{rows_from}
 use Rattle.leaf_model.specs.Lent.{lent_rows}
 use Rattle.table_state.specs.Stored.{AreNoted}

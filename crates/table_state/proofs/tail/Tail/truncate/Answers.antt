@@ -1,5 +1,5 @@
 use Rattle.std.proofs.Common.{List, sym, subst}
-use Rattle.leaf_model.specs.declared.rows.Row.{Row}
+use Rattle.row_model.specs.declared.rows.Row.{Row}
 use Rattle.table_state.specs.Stored.{AreNoted}
 use Rattle.table_state.proofs.Ascending.{noted_take}
 use Rattle.table_state.proofs.tail.Tail.truncate.Goals as goal

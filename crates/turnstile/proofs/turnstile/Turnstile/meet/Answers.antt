@@ -1,5 +1,5 @@
 use Rattle.std.proofs.Common.{sym, ap, ◌∙◌, subst}
-use Rattle.turnstile.specs.Seats.{LearnsOthers, Told}
+use Rattle.turnstile.specs.Seats.{LearnsOthers, SeesAlso}
 use Rattle.turnstile.specs.Places.{standing, standing_of}
 use Rattle.turnstile.proofs.Calling.{met_both}
 use Rattle.turnstile.proofs.turnstile.Turnstile.meet.Goals as goal
@@ -9,7 +9,7 @@ returns-clause-same g c =
     let from = c.tell.ensures.from in
     let b = standing_of c.b.inside.place in
     let b' = standing_of c.tell.new.to in
-    let told = subst (λ s. Told b s b') (λ i. standing (sym from.0 i) (sym from.1 i).0) c.tell.ensures.told in
+    let told = subst (λ s. SeesAlso b s b') (λ i. standing (sym from.0 i) (sym from.1 i).0) c.tell.ensures.told in
     (met_both (standing_of c.tell.new.from) b (standing_of c.tell-2.new.to) b' told c.tell-2.ensures.told).1 ∙ sym (ap (λ m. m.0.seen) c.tell-2.ensures.from.1)
 
 pub returns-clause-others : goal.returns-clause-others

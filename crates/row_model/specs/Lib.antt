@@ -1,0 +1,4 @@
+pub mod Values
+pub mod Sets
+pub mod Names
+pub mod Texts
