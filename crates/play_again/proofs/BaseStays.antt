@@ -74,11 +74,14 @@ module _ (base : NamedStates) (old new : Meaning) (is : IsBase base old) (looked
 
   base_looked_at : HasBaseSince old.clock new
   base_looked_at = record {
-    base = (base, record {
-      begins = (subst IsTrue (sym looked.time.tells) is.begins.0, (least, next, rests_new));
-      is = is.is;
-      least = λ name. subst (λ (h : Pair). IsLeastSpare h.region name (base name)) (sym stays.held) (is.least name);
-    });
+    base = (
+      base,
+      record {
+        begins = (subst IsTrue (sym looked.time.tells) is.begins.0, (least, next, rests_new));
+        is = is.is;
+        least = λ name. subst (λ (h : Pair). IsLeastSpare h.region name (base name)) (sym stays.held) (is.least name);
+      },
+    );
     crashed = λ t p from to left. pairs_left base old is p (left_before t p from to left);
   }
 
