@@ -1,10 +1,7 @@
 -- Carrying on: what the steward's entries leave standing, one after another.
-use Rattle.std.proofs.Common.{◌≡◌, ℕ, true, List, [], ◌++◌, length, refl, sym, ap, subst, ◌∙◌, le_refl, length-set}
+use Rattle.std.proofs.Common.{◌≡◌, ℕ, List, [], ◌++◌, length, refl, sym, ap, subst, ◌∙◌, le_refl, length-set}
 use Rattle.std.specs.Prelude.{IsTrue}
-use Rattle.std.specs.List.{AllByRecursion}
 use Rattle.berth_face.specs.Berth.{Meaning}
-use Rattle.leaf_table.specs.Turns.{Shared, is_founded}
-use Rattle.leaf_table.specs.Calls.{base_seen}
 use Rattle.crash_moments.specs.Left.{NamedStates}
 use Rattle.crash_moments.specs.Told as moments
 use Rattle.crash_moments.proofs.Telling.{none_more, told_join}
@@ -12,14 +9,13 @@ use Rattle.crash_states.proofs.Lefts.{runs_told, rests_told}
 use Rattle.leaf_steward.specs.declared.notes.Note.{Note}
 use Rattle.leaf_steward.specs.Seated.{Seated, AreFounded, watched_by}
 use Rattle.leaf_steward.specs.Making.{Makes, OneEntry}
-use Rattle.leaf_steward.proofs.WatchMakes.{makes_tables}
-use Rattle.leaf_machine.proofs.UpMaking.{makes_join}
+use Rattle.leaf_steward.proofs.Keeping.{founded_as, makes_join, makes_tables}
 use Rattle.leaf_moves.specs.Stage.{Leaf, IsDown, IsUp, IsPreparing, LeafStands, StandsOn, Carries, seated_of}
 use Rattle.leaf_deeds.specs.Held.{KeepsSeats}
 
 -- at the same tables, founded ones stay founded
 pub founded_on : (x y : Seated) → y.tables ≡ x.tables → AreFounded x → AreFounded y
-founded_on x y same founded = subst (λ (ts : List Shared). AllByRecursion (λ (t : Shared). is_founded (base_seen t) ≡ true) ts) (sym same) founded
+founded_on x y same founded = founded_as x y same founded
 
 -- what stands is told of the one moment
 pub stands_told : (base : NamedStates) (leaf : Leaf) (m : Meaning) → LeafStands base leaf m → moments.Told base (watched_by (seated_of leaf)) (watched_by (seated_of leaf)) m m

@@ -5,6 +5,7 @@ use Rattle.std.proofs.lemmas.Bool.{le-ltb, ltb-true, ltb-false}
 use Rattle.std.proofs.lemmas.List.{length-drop}
 use Rattle.leaf_model.specs.declared.writes.Write.{Write}
 use Rattle.berth_face.specs.Berth.{Meaning, Passes}
+use Rattle.berth_face.specs.Causes.{HasCause}
 use Rattle.berth_face.proofs.Moments.{passes_none, passes_on}
 use Rattle.region_head.specs.declared.head.Head.TheVariants as head
 use Rattle.region_layout.specs.Images.{TableImage}
@@ -23,19 +24,19 @@ use Rattle.crash_states.proofs.Lefts.{copies_told}
 use Rattle.leaf_steward.specs.declared.notes.Note.{Note}
 use Rattle.leaf_steward.specs.Seated.{Seated, AreFounded, watched_by}
 use Rattle.leaf_steward.specs.Making.{Makes, EachNoted, IsHandedNote}
+use Rattle.leaf_steward.proofs.Keeping.{makes_since}
 use Rattle.leaf_machine.specs.declared.copying.Copied.{Copied}
 use Rattle.leaf_machine.specs.declared.copying.Copied.TheVariants as copied
 use Rattle.leaf_machine.specs.States.{Copying, GoesOnCopying, RestsOn, Shutting, columns_added, columns_seen}
 use Rattle.leaf_machine.specs.Prepares.{IsCopyOf}
 use Rattle.leaf_machine.specs.Copies.{CopyGoesOn, IsCopyStep, LeavesRegion, berth_of_copy, seats_of_copy, IsUnderWay}
-use Rattle.leaf_machine.proofs.UpMaking.{makes_since}
 use Rattle.printed_lines.specs.declared.line.Ending.TheVariants as ending
 use Rattle.transcript.specs.Life.{MayMake}
 use Rattle.transcript.specs.Life as life
 use Rattle.leaf_moves.specs.Steps.{AreShut, HasCopyLength, RegionStopped}
 use Rattle.leaf_deeds.specs.Steps.{AreLeft, Spends, copy_left}
 use Rattle.leaf_deeds.specs.Moves as move
-use Rattle.leaf_deeds.specs.Moves.{CopyEnds, CopyRests, CopyingStands, MakesCopies}
+use Rattle.leaf_deeds.specs.Moves.{CopyDone, CopyEnds, CopyRests, CopyingStands, MakesCopies}
 use Rattle.leaf_deeds.proofs.Counted.{none_made, spent, may_make, all_made}
 
 -- ---- the copy so far
@@ -90,6 +91,7 @@ pub record CopySteps {B : Type 0} (meaning : B → Meaning) (d : Copying) (n : M
   pub region : IsTrue n.tells → AreFounded d.seated → (writes : List ℕ → List Write) → Copies (watched_by d.seated) d.drain writes n → LeavesRegion meaning d r
   pub reads : (meaning (berth_of_copy r)).disk_reads ≡ n.disk_reads
   pub time : Passes n (meaning (berth_of_copy r))
+  pub cause : HasCause n.region_faults (meaning (berth_of_copy r)).region_faults r
 
 abbrev pub more_copy : {B : Type 0} → Copying × B → Result (Copied B) ((Seated × B) × RegionFault)
 more_copy leaf = Ok (copied.More leaf)
@@ -169,7 +171,7 @@ module _ (c : Copying) (m : Meaning) (stop left left' : Option ℕ) (d : Copying
   tells_still tells = so_far.passes.tells ∙ tells
 
   -- no step is left
-  pub copied_stopped : Spends left false left' → CopyEnds c stop m n before ending.Stopped d.seated
+  copied_stopped : Spends left false left' → CopyEnds c stop m n before ending.Stopped d.seated
   copied_stopped spends =
       move.stopped so_far.made so_far.steps (all_made stop left so_far.made 0 so_far.made so_far.left_are spends (omega arith)) so_far.none so_far.seated
       (λ tells founded stands.
@@ -190,18 +192,12 @@ module _ (c : Copying) (m : Meaning) (stop left left' : Option ℕ) (d : Copying
   }
 
   -- it is given up
-  pub stopped_rests : ((writes : List ℕ → List Write) → AreFounded d.seated → Copies (watched_by d.seated) d.drain writes n → RestsOn d.seated d.seated n n) → CopyRests c d.seated before m n
+  stopped_rests : ((writes : List ℕ → List Write) → AreFounded d.seated → Copies (watched_by d.seated) d.drain writes n → RestsOn d.seated d.seated n n) → CopyRests c d.seated before m n
   stopped_rests rests =
       rests_then d.seated before n (passes_none n) refl (Makes.none n.clock n.clock d.seated before d.seated (le_refl n.clock) so_far.none refl) (λ tells founded writes copies. rests writes founded copies)
 
-  -- all is copied
-  pub done_rests : {B : Type 0} (meaning : B → Meaning) (notes : List Note) (down : Seated × B) → CopySteps meaning d n notes (last_copy down) → CopyRests c down.0 notes m (meaning down.1)
-  done_rests meaning notes down steps = rests_then down.0 notes (meaning down.1) steps.time steps.reads steps.made (λ tells founded writes copies. (steps.crash tells founded writes copies).0)
-
-  -- the region failed
-  pub failed_rests : {B : Type 0} (meaning : B → Meaning) (notes : List Note) (down : Seated × B) (fault : RegionFault) → CopySteps meaning d n notes (failed_copy down fault)
-      → CopyRests c down.0 notes m (meaning down.1)
-  failed_rests meaning notes down fault steps = rests_then down.0 notes (meaning down.1) steps.time steps.reads steps.made steps.crash
+  pub copy_stopped : Spends left false left' → ((writes : List ℕ → List Write) → AreFounded d.seated → Copies (watched_by d.seated) d.drain writes n → RestsOn d.seated d.seated n n) → CopyDone c stop m n before ending.Stopped d.seated
+  copy_stopped spends rests = record { ends = copied_stopped spends; rests = stopped_rests rests; time = so_far.passes; cause = tt }
 
   module _ {B : Type 0} (meaning : B → Meaning) (notes : List Note) (spends : Spends left true left') where
     left_now : AreLeft stop (suc so_far.made) left'
@@ -233,7 +229,7 @@ module _ (c : Copying) (m : Meaning) (stop left left' : Option ℕ) (d : Copying
         way = steps.one.4
 
     -- the last step
-    pub copied_done : (down : Seated × B) → CopySteps meaning d n notes (last_copy down) → CopyEnds c stop m (meaning down.1) notes ending.Done down.0
+    copied_done : (down : Seated × B) → CopySteps meaning d n notes (last_copy down) → CopyEnds c stop m (meaning down.1) notes ending.Done down.0
     copied_done down steps =
         move.done so_far.made (omega (arith, so_far.count, last_left d steps.one.0)) may_now
         (subst (λ (s : Seated). EachNoted IsHandedNote 0 (length s.tables) notes) so_far.seated steps.one.1)
@@ -246,7 +242,7 @@ module _ (c : Copying) (m : Meaning) (stop left left' : Option ℕ) (d : Copying
         refl
 
     -- the region failed
-    pub copied_failed : (down : Seated × B) (fault : RegionFault) → CopySteps meaning d n notes (failed_copy down fault) → CopyEnds c stop m (meaning down.1) notes ending.FaultRegion down.0
+    copied_failed : (down : Seated × B) (fault : RegionFault) → CopySteps meaning d n notes (failed_copy down fault) → CopyEnds c stop m (meaning down.1) notes ending.FaultRegion down.0
     copied_failed down fault steps =
         move.failed so_far.made so_far.steps may_now steps.one.1 (steps.one.0 ∙ so_far.seated)
         (λ tells founded stands.
@@ -256,3 +252,19 @@ module _ (c : Copying) (m : Meaning) (stop left left' : Option ℕ) (d : Copying
           | inr whole ↦ inr (whole ∙ so_far.image)
         ])
         refl
+
+    pub copy_done : (down : Seated × B) → CopySteps meaning d n notes (last_copy down) → CopyDone c stop m (meaning down.1) notes ending.Done down.0
+    copy_done down steps = record {
+      ends = copied_done down steps;
+      rests = rests_then down.0 notes (meaning down.1) steps.time steps.reads steps.made (λ tells founded writes copies. (steps.crash tells founded writes copies).0);
+      time = passes_on m n (meaning down.1) so_far.passes steps.time;
+      cause = tt;
+    }
+
+    pub copy_failed : (down : Seated × B) (fault : RegionFault) → CopySteps meaning d n notes (failed_copy down fault) → CopyDone c stop m (meaning down.1) notes ending.FaultRegion down.0
+    copy_failed down fault steps = record {
+      ends = copied_failed down fault steps;
+      rests = rests_then down.0 notes (meaning down.1) steps.time steps.reads steps.made steps.crash;
+      time = passes_on m n (meaning down.1) so_far.passes steps.time;
+      cause = let more = so_far.passes.region_faults in let rose = steps.cause.failed in omega (arith, more, rose);
+    }

@@ -1,9 +1,11 @@
 -- What a drain's parts come to.
-use Rattle.std.proofs.Common.{◌≡◌, ℕ, suc, ◌+◌, ◌*◌, ◌-◌, ◌<◌, ◌≤◌, Bool, true, false, List, [], ◌++◌, length, Option, Result, Ok, Err, refl, sym, ap, subst, ◌∙◌, arith}
-use Rattle.std.specs.Prelude.{IsTrue, if◌then◌else◌}
+use Rattle.std.proofs.Common.{◌≡◌, ℕ, suc, ◌+◌, ◌*◌, ◌-◌, ◌<◌, ◌≤◌, true, false, List, [], ◌++◌, length, Option, Result, Ok, Err, refl, sym, ap, subst, ◌∙◌, arith}
+use Rattle.std.specs.Prelude.{IsTrue}
 use Rattle.std.proofs.lemmas.Option.{slice_get_within}
 use Rattle.std.proofs.lemmas.List.{append-nil, length-append}
 use Rattle.berth_face.specs.Berth.{Meaning, Passes}
+use Rattle.berth_face.specs.Causes.{Rose}
+use Rattle.berth_face.proofs.Moments.{passes_on}
 use Rattle.leaf_model.specs.declared.writes.Write.{Write}
 use Rattle.crash_moments.proofs.Telling.{told_join}
 use Rattle.crash_states.specs.Standing.{Runs}
@@ -11,14 +13,13 @@ use Rattle.leaf_steward.specs.declared.notes.Note.{Note}
 use Rattle.leaf_table.specs.Calls.{base_seen, state_seen}
 use Rattle.leaf_steward.specs.Seated.{Seated, AreFounded, AtEach, watched_by}
 use Rattle.leaf_steward.specs.Making.{Makes, EachNoted, IsClosedNote}
-use Rattle.leaf_steward.proofs.WatchMakes.{makes_tables}
+use Rattle.leaf_steward.proofs.Keeping.{makes_join, makes_tables}
 use Rattle.leaf_machine.specs.declared.preparing.Prepared.{Prepared}
 use Rattle.leaf_machine.specs.declared.preparing.Prepared.TheVariants as prepared
 use Rattle.leaf_machine.specs.declared.preparing.PrepareFault.{PrepareFault}
 use Rattle.leaf_machine.specs.declared.preparing.PrepareFault.TheVariants as fault
 use Rattle.leaf_machine.specs.States.{Shutting, Copying, GoesOnCopying, IsShutAndTaken, RestsOn, GoesOnServing, treated}
-use Rattle.leaf_machine.specs.Prepares.{AllTreated, CrowdsStep, PreparingIsCrowded, IsTreatingStep, StepGoesOn, berth_of_step, seats_of_step}
-use Rattle.leaf_machine.proofs.UpMaking.{makes_join}
+use Rattle.leaf_machine.specs.Prepares.{AllTreated, CrowdsStep, PreparingIsCrowded, IsTreatingStep, RoseStep, StepGoesOn, berth_of_step, seats_of_step}
 use Rattle.printed_lines.specs.declared.line.Ending.{Ending}
 use Rattle.printed_lines.specs.declared.line.Ending.TheVariants as ending
 use Rattle.transcript.specs.Pieces.{Noted}
@@ -28,13 +29,15 @@ use Rattle.leaf_moves.specs.Stage.{IsPreparing}
 use Rattle.leaf_moves.specs.Modes.{HasShut, mode_of, progress_of}
 use Rattle.leaf_moves.specs.Steps.{AreShut, DrainMoves, Reaches, noted_all}
 use Rattle.leaf_moves.proofs.NoteLines.{noted_append}
+use Rattle.leaf_deeds.specs.declared.drain.Shut.{Shut}
 use Rattle.leaf_deeds.specs.declared.drain.Shut.TheVariants as how
 use Rattle.leaf_deeds.specs.Steps.{AreLeft, Spends}
 use Rattle.leaf_deeds.specs.Moves as move
-use Rattle.leaf_deeds.specs.Moves.{CarriesCopy, Drains, ShuttingIsKilled, Treated}
+use Rattle.leaf_deeds.specs.Moves.{CarriesCopy, Drains, RoseShut, ShuttingIsKilled, Treated, berth_left, end_of}
 use Rattle.leaf_deeds.proofs.Counted.{steps_more, none_made, spent, may_make, all_made}
 use Rattle.leaf_deeds.proofs.Copied.{copy_long}
-use Rattle.leaf_deeds.proofs.Fewer.{treats_few}
+use Rattle.leaf_deeds.proofs.Fewer.{treated_by, treats_few}
+use Rattle.leaf_deeds.proofs.Moved.{rests_carried}
 use Rattle.leaf_deeds.proofs.Lives.{halts, one_treated, starves, treats}
 use Rattle.leaf_deeds.proofs.Treated.{GoesFar, far_none, far_on, far_founded, far_tells, far_carries}
 
@@ -76,6 +79,27 @@ pub record Stepped {B : Type 0} (meaning : B → Meaning) (y : Shutting) (n : Me
   pub region : IsTrue n.tells → (meaning (berth_of_step r)).held.region ≡ n.held.region
   pub reads : (meaning (berth_of_step r)).disk_reads ≡ n.disk_reads
   pub time : Passes n (meaning (berth_of_step r))
+  pub cause : RoseStep n.disk_faults (meaning (berth_of_step r)).disk_faults r
+
+-- the loop goes on after a step, or ends
+abbrev pub ended : {B : Type 0} → Shut B → Result (Shutting × B) (Shut B)
+ended s = Err s
+
+abbrev pub goes_on : {B : Type 0} → Shutting × B → Result (Shutting × B) (Shut B)
+goes_on leaf = Ok leaf
+
+same_end : {B : Type 0} (t s : Shut B) → ended s ≡ ended t → t ≡ s
+same_end t s is = cc
+
+same_leaf : {B : Type 0} (more leaf : Shutting × B) → goes_on leaf ≡ goes_on more → more ≡ leaf
+same_leaf more leaf is = cc
+
+pub more_of : {B : Type 0} (r : Result (Prepared B) ((Shutting × B) × PrepareFault)) (leaf : Shutting × B) → goes_on leaf ≡ end_of r → r ≡ more_step leaf
+more_of (Ok (prepared.More more)) leaf is = ap (λ l. more_step l) (same_leaf more leaf is)
+more_of (Ok (prepared.Ready copy)) leaf is = absurd cc
+more_of (Err (half, fault.DiskFault)) leaf is = absurd cc
+more_of (Err (half, fault.NoMemory)) leaf is = absurd cc
+more_of (Err (half, fault.NoRoom)) leaf is = absurd cc
 
 -- one table fewer is left behind a step
 pub fewer_left : {B : Type 0} (meaning : B → Meaning) (leaf more : Shutting × B) (notes : List Note) → HasShut leaf.0 → Stepped meaning leaf.0 (meaning leaf.1) notes (more_step more)
@@ -136,7 +160,7 @@ module _ {B : Type 0} (meaning : B → Meaning) (x : Shutting) (m : Meaning) (st
         far = far_then more.0 (meaning more.1) (record { made = stepped.made; goes = stepped.crash; region = stepped.region; reads = stepped.reads; passes = stepped.time })
 
     -- all are treated, and the copy is planned
-    pub shut_ready : (copy : Copying × B) → (AllTreated leaf.0 → AreShut leaf.0.serving.seated) → Stepped meaning leaf.0 (meaning leaf.1) notes (ready_step copy) → move.ShutsTables meaning x m stop (before ++ notes) (how.Ready copy) left'
+    shut_ready : (copy : Copying × B) → (AllTreated leaf.0 → AreShut leaf.0.serving.seated) → Stepped meaning leaf.0 (meaning leaf.1) notes (ready_step copy) → move.ShutsTables meaning x m stop (before ++ notes) (how.Ready copy) left'
     shut_ready copy are_shut stepped = record {
       whole = leaf.0;
       made = so_far.made;
@@ -181,50 +205,72 @@ module _ {B : Type 0} (meaning : B → Meaning) (x : Shutting) (m : Meaning) (st
         ends = record { from = (meaning leaf.1).clock; to = (meaning half.1).clock; made = stepped.made };
       }
 
-      failed_as : (g : PrepareFault) → f ≡ g → IsTreatingStep leaf.0 notes (failed_step half g)
-      failed_as g e = subst (λ (h : PrepareFault). IsTreatingStep leaf.0 notes (failed_step half h)) e stepped.one
-
       drained : (ends : Ending) → DrainMoves m (meaning half.1) (IsPreparing x) stop (before ++ notes) ends (IsPreparing half.0)
           → Drains m (meaning half.1) (IsPreparing x) stop (before ++ notes) ends (IsPreparing half.0)
       drained ends moves = record { moves = moves; carries = far_carries x half.0 (before ++ notes) m (meaning half.1) half_far; reads = half_far.reads }
 
-      pub shut_halted : f ≡ fault.DiskFault → move.ShutsTables meaning x m stop (before ++ notes) (how.Halted half) left'
-      shut_halted e =
-          let one = failed_as fault.DiskFault e in
-          drained ending.FaultDisk
-          (progress_of leaf.0, progress_of half.0, reached, may_now, omega (arith, one.0, same_tables), halts leaf.0 half.0 notes one.1, refl, half_far.region)
+    shut_halted : (half : Shutting × B) → Stepped meaning leaf.0 (meaning leaf.1) notes (failed_step half fault.DiskFault) → move.ShutsTables meaning x m stop (before ++ notes) (how.Halted half) left'
+    shut_halted half stepped =
+        drained half fault.DiskFault stepped ending.FaultDisk (
+          progress_of leaf.0,
+          progress_of half.0,
+          reached half fault.DiskFault stepped,
+          may_now,
+          omega (arith, stepped.one.0, same_tables),
+          halts leaf.0 half.0 notes stepped.one.1,
+          refl,
+          (half_far half fault.DiskFault stepped).region,
+        )
 
-      pub shut_starved : f ≡ fault.NoMemory → move.ShutsTables meaning x m stop (before ++ notes) (how.Starved half) left'
-      shut_starved e =
-          drained ending.FaultMemory
-          (progress_of leaf.0, progress_of half.0, reached, may_now, starves tables leaf.0 half.0 notes same_tables (failed_as fault.NoMemory e), refl, half_far.region)
+    shut_starved : (half : Shutting × B) → Stepped meaning leaf.0 (meaning leaf.1) notes (failed_step half fault.NoMemory) → move.ShutsTables meaning x m stop (before ++ notes) (how.Starved half) left'
+    shut_starved half stepped =
+        drained half fault.NoMemory stepped ending.FaultMemory
+        (progress_of leaf.0, progress_of half.0, reached half fault.NoMemory stepped, may_now, starves tables leaf.0 half.0 notes same_tables stepped.one, refl, (half_far half fault.NoMemory stepped).region)
 
-      pub shut_roomless : (AllTreated leaf.0 → AreShut leaf.0.serving.seated) → f ≡ fault.NoRoom → move.ShutsTables meaning x m stop (before ++ notes) (how.Roomless half) left'
-      shut_roomless are_shut e =
-          let one = failed_as fault.NoRoom e in
-          let crowded : CrowdsStep leaf.0 (failed_step half fault.NoRoom) = subst (λ (g : PrepareFault). CrowdsStep leaf.0 (failed_step half g)) e stepped.crowds in
-          let same : leaf.0 ≡ half.0 = sym one.3 in
-          drained ending.FaultRoom (
-            progress_of leaf.0,
-            reached,
-            may_now,
-            one.0 ∙ same_tables,
-            subst (λ (z : Shutting). AreShut z.serving.seated) same (are_shut one.0),
-            subst (λ (z : Shutting). PreparingIsCrowded z.serving.seated) same crowded,
-            one.2,
-            ap (λ (z : Shutting). mode_of (IsPreparing z)) one.3,
-            half_far.region,
-          )
+    shut_roomless : (half : Shutting × B) → (AllTreated leaf.0 → AreShut leaf.0.serving.seated) → Stepped meaning leaf.0 (meaning leaf.1) notes (failed_step half fault.NoRoom) → move.ShutsTables meaning x m stop (before ++ notes) (how.Roomless half) left'
+    shut_roomless half are_shut stepped =
+        let one = stepped.one in
+        let same : leaf.0 ≡ half.0 = sym one.3 in
+        drained half fault.NoRoom stepped ending.FaultRoom (
+          progress_of leaf.0,
+          reached half fault.NoRoom stepped,
+          may_now,
+          one.0 ∙ same_tables,
+          subst (λ (z : Shutting). AreShut z.serving.seated) same (are_shut one.0),
+          subst (λ (z : Shutting). PreparingIsCrowded z.serving.seated) same stepped.crowds,
+          one.2,
+          ap (λ (z : Shutting). mode_of (IsPreparing z)) one.3,
+          (half_far half fault.NoRoom stepped).region,
+        )
+
+    -- how the loop ends
+    module _ (are_shut : AllTreated leaf.0 → AreShut leaf.0.serving.seated) (few : length (before ++ notes) ≤ 51) where
+      abbrev Ends : Shut B → Type 0
+      Ends s = move.ShutEnds meaning x m stop (before ++ notes) s left'
+
+      ends_as : (s : Shut B) → move.ShutsTables meaning x m stop (before ++ notes) s left' → Passes (meaning leaf.1) (meaning (berth_left s)) → RoseShut m.disk_faults (meaning (berth_left s)).disk_faults s → Ends s
+      ends_as s shuts time cause = record { shuts = shuts; few = few; time = passes_on m (meaning leaf.1) (meaning (berth_left s)) so_far.far.passes time; cause = cause }
+
+      -- a fault that rose in this step rose in the loop
+      rose : (now : ℕ) → Rose (meaning leaf.1).disk_faults now → Rose m.disk_faults now
+      rose now is = let more = so_far.far.passes.disk_faults in omega (arith, more, is)
+
+      pub shut_ends : (r : Result (Prepared B) ((Shutting × B) × PrepareFault)) (s : Shut B) → ended s ≡ end_of r → Stepped meaning leaf.0 (meaning leaf.1) notes r → Ends s
+      shut_ends (Ok (prepared.More more)) s is stepped = absurd cc
+      shut_ends (Ok (prepared.Ready copy)) s is stepped = subst Ends (same_end (how.Ready copy) s is) (ends_as (how.Ready copy) (shut_ready copy are_shut stepped) stepped.time tt)
+      shut_ends (Err (half, fault.DiskFault)) s is stepped =
+          subst Ends (same_end (how.Halted half) s is) (ends_as (how.Halted half) (shut_halted half stepped) stepped.time (rose (meaning half.1).disk_faults stepped.cause))
+      shut_ends (Err (half, fault.NoMemory)) s is stepped = subst Ends (same_end (how.Starved half) s is) (ends_as (how.Starved half) (shut_starved half stepped) stepped.time tt)
+      shut_ends (Err (half, fault.NoRoom)) s is stepped = subst Ends (same_end (how.Roomless half) s is) (ends_as (how.Roomless half) (shut_roomless half are_shut stepped) stepped.time tt)
 
 -- ---- all are treated
 
 -- so each is shut
 pub all_shut : (x : Shutting) → AtEach (λ place t v. place < length x.closed → IsShutAndTaken (state_seen (base_seen t) v)) x.serving.seated → AllTreated x → AreShut x.serving.seated
-all_shut x closed all place t v at was = (closed place t v at was (let below = slice_get_within x.serving.seated.tables place t at in let few : treated x ≤ length x.closed = fewer x.waits in omega (arith, below, all, few))).shut
-  where
-    fewer : (b : Bool) → (if b then length x.closed - 1 else length x.closed) ≤ length x.closed
-    fewer true = omega arith
-    fewer false = omega arith
+all_shut x closed all place t v at was =
+    let below = slice_get_within x.serving.seated.tables place t at in
+    let few = treated_by x x.waits in
+    (closed place t v at was (omega (arith, below, all, few))).shut
 
 -- ---- a leaf that is killed
 
@@ -237,10 +283,5 @@ kills x m m' y notes each made rests = record {
   count = each.0;
   all = each.1;
   each = each.2;
-  carries = record {
-    made = made;
-    stands = λ base tells founded sound stands.
-        let on : RestsOn x.serving.seated y m m' = rests stands.0 founded stands.1 in
-        record { stands = (on.least, on.next, on.rests base sound); told = on.told base };
-  };
+  carries = rests_carried (IsPreparing x) y notes m m' made (λ base founded stands. rests stands.0 founded stands.1);
 }

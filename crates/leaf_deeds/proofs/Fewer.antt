@@ -1,12 +1,10 @@
 -- How many notes a drain makes at most.
-use Rattle.std.proofs.Common.{◌≡◌, ℕ, suc, ◌+◌, ◌-◌, ◌≤◌, Bool, true, false, List, [], ◌∷◌, ◌++◌, length, map, Option, Some, None, Result, Ok, Err, refl, sym, ap, ◌∙◌, arith, inl, inr}
+use Rattle.std.proofs.Common.{◌≡◌, ℕ, ◌+◌, ◌-◌, ◌≤◌, Bool, true, false, List, [], ◌∷◌, ◌++◌, length, map, Option, Some, None, Result, Ok, Err, refl, ap, ◌∙◌, arith, inl, inr}
 use Rattle.std.specs.Prelude.{if◌then◌else◌}
 use Rattle.std.proofs.lemmas.List.{length-append, length-map}
-use Rattle.leaf_table.specs.Calls.{name_of}
 use Rattle.leaf_steward.specs.declared.notes.Note.{Note}
-use Rattle.leaf_steward.specs.declared.notes.What.{What}
-use Rattle.leaf_steward.specs.Seated.{Seated, AreSeated}
-use Rattle.leaf_steward.specs.Making.{EachNoted}
+use Rattle.leaf_steward.specs.Seated.{AreSeated}
+use Rattle.leaf_steward.proofs.Seating.{few_tables}
 use Rattle.leaf_machine.specs.declared.preparing.Prepared.{Prepared}
 use Rattle.leaf_machine.specs.declared.preparing.Prepared.TheVariants as prepared
 use Rattle.leaf_machine.specs.declared.preparing.PrepareFault.{PrepareFault}
@@ -67,24 +65,10 @@ step_few x notes (Err ((y, b), fault.NoMemory)) shut one = starves_few (length x
 
 -- ---- of the tables
 
-pub tables_few : (x : Seated) → AreSeated x → length x.tables ≤ 16
-tables_few x seated =
-    let size : length x.tables ≡ length x.names = sym (length-map x.tables name_of) ∙ ap (λ (ns : List (List ℕ)). length ns) seated.names in
-    omega (arith, size, seated.named.few)
-
-treated_by : (x : Shutting) (b : Bool) → x.waits ≡ b → treated x ≤ length x.closed
-treated_by x true e =
-    let is : treated x ≡ length x.closed - 1 = ap (λ (s : Bool). if s then length x.closed - 1 else length x.closed) e in
-    omega (arith, is)
-treated_by x false e =
-    let is : treated x ≡ length x.closed = ap (λ (s : Bool). if s then length x.closed - 1 else length x.closed) e in
-    omega (arith, is)
+pub treated_by : (x : Shutting) (b : Bool) → (if b then length x.closed - 1 else length x.closed) ≤ length x.closed
+treated_by x true = omega arith
+treated_by x false = omega arith
 
 -- so many are treated at most
 pub treated_few : (x : Shutting) → length x.closed ≤ length x.serving.seated.tables → AreSeated x.serving.seated → treated x ≤ 16
-treated_few x within seated = omega (arith, treated_by x x.waits refl, within, tables_few x.serving.seated seated)
-
--- a note of each table from a place on is as many notes
-pub each_few : (P : What → Type 0) (place count : ℕ) (notes : List Note) → EachNoted P place count notes → length notes ≡ count
-each_few P place count [] none = sym none
-each_few P place count (n ∷ ns) each = ap (λ (k : ℕ). suc k) (each_few P (suc place) each.0 ns each.4) ∙ sym each.1
+treated_few x within seated = omega (arith, treated_by x x.waits, within, few_tables seated)

@@ -10,11 +10,10 @@ use Rattle.leaf_steward.specs.declared.notes.Note.{Note}
 use Rattle.leaf_table.specs.Turns.{Shared}
 use Rattle.leaf_steward.specs.Seated.{Seated, AreFounded, AreSeated, watched_by}
 use Rattle.leaf_steward.specs.Making.{Makes, EachNoted, IsClosedNote, IsHandedNote}
-use Rattle.leaf_steward.proofs.WatchMakes.{makes_tables}
+use Rattle.leaf_steward.proofs.Keeping.{makes_join, makes_tables}
 use Rattle.leaf_machine.specs.States.{Serving, Shutting, Copying}
 use Rattle.leaf_machine.specs.Prepares.{begins}
 use Rattle.leaf_machine.proofs.StartMakes.{makes_names}
-use Rattle.leaf_machine.proofs.UpMaking.{makes_join}
 use Rattle.printed_lines.specs.declared.line.Ending.{Ending}
 use Rattle.printed_lines.specs.declared.line.Ending.TheVariants as ending
 use Rattle.transcript.specs.Pieces.{Noted}
@@ -30,7 +29,8 @@ use Rattle.leaf_deeds.specs.Moves as move
 use Rattle.leaf_deeds.specs.Moves.{CopyEnds, CopyRests, CopyingStands, Drains, IsCopied, IsCopyReady, ShuttingIsKilled, IsStopped}
 use Rattle.leaf_deeds.proofs.Carrying.{carries_on, founded_on, makes_keeps}
 use Rattle.leaf_deeds.proofs.Counted.{all_made, copies_on, may_make_more, steps_more}
-use Rattle.leaf_deeds.proofs.Fewer.{each_few, tables_few}
+use Rattle.leaf_steward.proofs.Seating.{few_tables}
+use Rattle.leaf_steward.proofs.Passing.{noted_length}
 use Rattle.leaf_deeds.proofs.OwnImages.{copied_own}
 
 -- ---- all tables are treated, and then they are copied
@@ -151,7 +151,7 @@ module _ (x : Shutting) (m n o : Meaning) (stop left : Option ℕ) (before notes
   -- each table is handed over, or nothing is noted
   pub copy_few : AreSeated x.serving.seated → CopyEnds c left n o notes ends z → length notes ≤ 16
   copy_few seated (move.CopyEnds.done made last may noted memory copied ended) =
-      omega (arith, each_few IsHandedNote 0 (length c.seated.tables) notes noted, same_count, tables_few x.serving.seated seated)
+      omega (arith, noted_length IsHandedNote 0 (length c.seated.tables) notes noted, same_count, few_tables seated)
   copy_few seated (move.CopyEnds.failed made below may none stays copied ended) = nothing notes none
   copy_few seated (move.CopyEnds.stopped made below all none stays stopped ended) = nothing notes none
 
@@ -193,7 +193,7 @@ module _ (x : Shutting) (m m' : Meaning) (stop : Option ℕ) (before closing : L
 
   -- each table that was open is closed
   pub kill_few : (n o : Meaning) → AreSeated x.serving.seated → ShuttingIsKilled y z closing n o → length closing ≤ 16
-  kill_few n o seated killed = omega (arith, each_few IsClosedNote (length y.closed) killed.count closing killed.each, killed.all, same_tables, tables_few x.serving.seated seated)
+  kill_few n o seated killed = omega (arith, noted_length IsClosedNote (length y.closed) killed.count closing killed.each, killed.all, same_tables, few_tables seated)
 
 -- ---- a leaf that is up begins to shut its tables
 

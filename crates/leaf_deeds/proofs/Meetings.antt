@@ -1,5 +1,5 @@
 -- Meetings of the steward's seats and the callers'.
-use Rattle.std.proofs.Common.{◌≡◌, ℕ, zero, suc, ◌<◌, List, [], ◌∷◌, length, Some, refl, sym, ap, subst, arith}
+use Rattle.std.proofs.Common.{◌≡◌, ℕ, ◌<◌, List, length, Some, sym, ap, subst, arith}
 use Rattle.std.specs.Prelude.{slice_get, slice_set, Option}
 use Rattle.leaf_model.specs.declared.writes.Write.{Write}
 use Rattle.row_records.specs.Records.{LogRecord}
@@ -11,6 +11,7 @@ use Rattle.leaf_table.specs.Calls.{SeatView, base_seen, seen_of}
 use Rattle.crash_moments.specs.Left.{NamedStates}
 use Rattle.crash_states.specs.Standing.{Rests, Runs}
 use Rattle.leaf_steward.specs.Seated.{Seated, AreFounded, AtPlace, watched_by, with_seat}
+use Rattle.leaf_steward.proofs.Seating.{some_at}
 use Rattle.leaf_machine.specs.States.{Serving, Shutting}
 use Rattle.leaf_moves.specs.Stage.{IsDown, IsUp, IsPreparing, LeafStands, with_seats}
 use Rattle.leaf_deeds.specs.declared.leaf.OneLeaf.{OneLeaf}
@@ -32,16 +33,10 @@ pub record IsThere (x : Seated) (table : ℕ) : Type 0 where
   pub at : slice_get x.tables table ≡ Some shared
   pub was : slice_get x.seats table ≡ Some seat
 
--- a place below the length has an element
-pub element_in : {A : Type 0} (xs : List A) (i : ℕ) → i < length xs → (x : A) × (slice_get xs i ≡ Some x)
-element_in [] i within = absurd (omega (arith, within))
-element_in (x ∷ xs) zero within = (x, refl)
-element_in (x ∷ xs) (suc i) within = element_in xs i (omega (arith, within))
-
 pub is_there : (x : Seated) (table : ℕ) → table < length x.tables → length x.seats ≡ length x.tables → IsThere x table
 is_there x table within count =
-    let t = element_in x.tables table within in
-    let v = element_in x.seats table (omega (arith, within, count)) in
+    let t = some_at x.tables table within in
+    let v = some_at x.seats table (omega (arith, within, count)) in
     record { shared = t.0; seat = v.0; at = t.1; was = v.1 }
 
 module _ {B : Type 0} (meaning : B → Meaning) where

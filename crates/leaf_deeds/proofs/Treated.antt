@@ -7,9 +7,8 @@ use Rattle.crash_moments.proofs.Telling.{told_join}
 use Rattle.leaf_steward.specs.declared.notes.Note.{Note}
 use Rattle.leaf_steward.specs.Seated.{AreFounded, watched_by}
 use Rattle.leaf_steward.specs.Making.{Makes}
-use Rattle.leaf_steward.proofs.WatchMakes.{makes_tables}
+use Rattle.leaf_steward.proofs.Keeping.{makes_join, makes_tables}
 use Rattle.leaf_machine.specs.States.{Serving, Shutting, ServingGoesOn, GoesOnServing}
-use Rattle.leaf_machine.proofs.UpMaking.{makes_join}
 use Rattle.leaf_machine.proofs.PrepCopies.{goes_none}
 use Rattle.leaf_moves.specs.Stage.{IsPreparing, Carries}
 use Rattle.leaf_moves.specs.Steps.{SameRegion}

@@ -1,19 +1,20 @@
 -- What a deed does to one leaf, by its notes.
-use Rattle.std.specs.Prelude.{◌≡◌, ◌⊎◌, ℕ, suc, ◌+◌, ◌<◌, ◌≤◌, true, List, [], length, slice_get, slice_set, Option, Some, Result, Vec, IsTrue, ⊤}
-use Rattle.std.specs.Global.{Global}
-use Rattle.std.specs.List.{AllByRecursion}
+use Rattle.std.specs.Prelude.{◌≡◌, ◌⊎◌, ℕ, suc, ◌+◌, ◌<◌, ◌≤◌, true, List, [], length, Option, Some, Result, Ok, Err, IsTrue, ⊤}
 use Rattle.leaf_model.specs.declared.writes.Write.{Write}
-use Rattle.berth_face.specs.Berth.{Meaning, IsClosed}
+use Rattle.berth_face.specs.Berth.{Meaning, IsClosed, Passes}
 use Rattle.berth_face.specs.Causes.{Rose}
 use Rattle.leaf_words.specs.declared.ways.Way.TheVariants.{Memory}
 use Rattle.leaf_opening.specs.Starts.{IsWayLeft}
 use Rattle.crash_moments.specs.Left.{NamedStates}
 use Rattle.crash_moments.specs.Told as moments
 use Rattle.crash_states.specs.Standing.{Copies}
-use Rattle.leaf_table.specs.Calls.{SeatView}
 use Rattle.leaf_steward.specs.declared.notes.Note.{Note}
 use Rattle.leaf_steward.specs.Seated.{Seated, AreFounded, watched_by}
 use Rattle.leaf_steward.specs.Making.{Makes, EachNoted, IsClosedNote, IsHandedNote}
+use Rattle.leaf_machine.specs.declared.preparing.Prepared.{Prepared}
+use Rattle.leaf_machine.specs.declared.preparing.Prepared.TheVariants as prepared
+use Rattle.leaf_machine.specs.declared.preparing.PrepareFault.{PrepareFault}
+use Rattle.leaf_machine.specs.declared.preparing.PrepareFault.TheVariants.{DiskFault, NoMemory, NoRoom}
 use Rattle.leaf_machine.specs.States.{Shutting, Copying}
 use Rattle.leaf_machine.specs.Prepares.{AllTreated, IsCopyOf}
 use Rattle.printed_lines.specs.declared.line.Ending.{Ending}
@@ -21,7 +22,7 @@ use Rattle.printed_lines.specs.declared.line.Ending.TheVariants as ending
 use Rattle.transcript.specs.Life.{MayMake, StepsOfDrain}
 use Rattle.transcript.specs.Life as life
 use Rattle.leaf_moves.specs.Stage as stage
-use Rattle.leaf_moves.specs.Stage.{Leaf, IsDown, IsPreparing, LeafStands, Carries, MeetsIf, seated_of, with_seats}
+use Rattle.leaf_moves.specs.Stage.{Leaf, IsDown, IsPreparing, LeafStands, Carries}
 use Rattle.leaf_moves.specs.Modes.{HasShut, progress_of}
 use Rattle.leaf_moves.specs.Steps.{DrainMoves, HasCopyLength, MakesNoted, RegionStopped, SameRegion, noted_all}
 use Rattle.leaf_deeds.specs.declared.drain.Shut.{Shut}
@@ -111,6 +112,21 @@ abbrev pub RoseShut : {B : Type 0} → ℕ → ℕ → Shut B → Type 0
 RoseShut before now (shut.Halted leaf) = Rose before now
 RoseShut before now _ = ⊤
 
+-- the leaf that shuts on after a step, or else how the loop ends
+abbrev pub end_of : {B : Type 0} → Result (Prepared B) ((Shutting × B) × PrepareFault) → Result (Shutting × B) (Shut B)
+end_of (Ok (prepared.More leaf)) = Ok leaf
+end_of (Ok (prepared.Ready leaf)) = Err (shut.Ready leaf)
+end_of (Err (leaf, DiskFault)) = Err (shut.Halted leaf)
+end_of (Err (leaf, NoMemory)) = Err (shut.Starved leaf)
+end_of (Err (leaf, NoRoom)) = Err (shut.Roomless leaf)
+
+-- all that the loop does
+pub record ShutEnds {B : Type 0} (meaning : B → Meaning) (x : Shutting) (m : Meaning) (stop : Option ℕ) (notes : List Note) (s : Shut B) (left : Option ℕ) : Type 0 where
+  pub shuts : ShutsTables meaning x m stop notes s left
+  pub few : length notes ≤ 51
+  pub time : Passes m (meaning (berth_left s))
+  pub cause : RoseShut m.disk_faults (meaning (berth_left s)).disk_faults s
+
 -- a copy of `copy` steps has made `made` of them, and not the last
 abbrev pub MakesCopies : ℕ → ℕ → Type 0
 MakesCopies copy made = 0 < copy → made < copy
@@ -146,6 +162,13 @@ pub data CopyEnds (c : Copying) (stop : Option ℕ) (m m' : Meaning) (notes : Li
       → (IsTrue m.tells → AreFounded c.seated → CopyingStands c m → RegionStopped (life.Copying made) m m')
       → ends ≡ ending.Stopped
       → CopyEnds c stop m m' notes ends y
+
+-- all that the loop over the steps of a copy does
+pub record CopyDone (c : Copying) (stop : Option ℕ) (m m' : Meaning) (notes : List Note) (how : Ending) (y : Seated) : Type 0 where
+  pub ends : CopyEnds c stop m m' notes how y
+  pub rests : CopyRests c y notes m m'
+  pub time : Passes m m'
+  pub cause : FaultRose how m m'
 
 -- a leaf that shuts its tables is killed: each open table is closed
 pub record ShuttingIsKilled (x : Shutting) (y : Seated) (notes : List Note) (m m' : Meaning) : Type 0 where

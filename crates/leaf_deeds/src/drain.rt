@@ -1,10 +1,9 @@
 // A drain of a leaf, step by step.
-ghost use Rattle.std.specs.Prelude.{◌≡◌, ◌≤◌, [], length};
+ghost use Rattle.std.specs.Prelude.{◌≡◌, []};
 ghost use Rattle.berth_face.specs.Berth.{Passes};
 ghost use Rattle.leaf_moves.specs.Stage.{IsPreparing};
 ghost use Rattle.leaf_deeds.specs.Held.{KeepsSeats, berth_of, seats_of, leaf_state};
-ghost use Rattle.leaf_deeds.specs.Moves as move;
-ghost use Rattle.leaf_deeds.specs.Moves.{CopyEnds, CopyRests, Drains, FaultRose, ShuttingIsKilled, RoseShut, berth_left};
+ghost use Rattle.leaf_deeds.specs.Moves.{CopyDone, Drains, FaultRose, ShutEnds, ShuttingIsKilled, end_of};
 
 use crate::leaf::OneLeaf;
 use crate::steps::StepsAllowed;
@@ -76,11 +75,7 @@ fn shut_all<'t, R: Wait + Threads + Sync, B: Berth, G: Gate>(
     notes: &mut Notes,
 ) -> Shut<'t, B>
     requires none { notes.old ≡ [] }
-    ensures shuts { move.ShutsTables B.meaning leaf.entry.0 (B.meaning leaf.entry.1) steps.old.left notes.new result
-        steps.new.left }
-    ensures few { length notes.new ≤ 51 }
-    ensures time { Passes (B.meaning leaf.entry.1) (B.meaning (berth_left result)) }
-    ensures cause { RoseShut (B.meaning leaf.entry.1).disk_faults (B.meaning (berth_left result)).disk_faults result }
+    ensures { ShutEnds B.meaning leaf.entry.0 (B.meaning leaf.entry.1) steps.old.left notes.new result steps.new.left }
 {
     let mut leaf = leaf;
     let mut own = Notes::new();
@@ -91,13 +86,25 @@ fn shut_all<'t, R: Wait + Threads + Sync, B: Berth, G: Gate>(
         }
         let step = leaf.step(rt, alloc, gate, &mut own);
         notes.append(&own);
-        match step {
-            Ok(Prepared::More(more)) => leaf = more,
-            Ok(Prepared::Ready(copying)) => return Shut::Ready(copying),
-            Err((left, PrepareFault::DiskFault)) => return Shut::Halted(left),
-            Err((left, PrepareFault::NoMemory)) => return Shut::Starved(left),
-            Err((left, PrepareFault::NoRoom)) => return Shut::Roomless(left),
+        match shuts_on(step) {
+            Ok(more) => leaf = more,
+            Err(shut) => return shut,
         }
+    }
+}
+
+/// The leaf that shuts on after a step, or else how the loop ends.
+fn shuts_on<'t, B: Berth>(
+    step: Result<Prepared<'t, B>, (Preparing<'t, B>, PrepareFault)>,
+) -> Result<Preparing<'t, B>, Shut<'t, B>>
+    ensures { result ≡ end_of step.entry }
+{
+    match step {
+        Ok(Prepared::More(more)) => Ok(more),
+        Ok(Prepared::Ready(copying)) => Err(Shut::Ready(copying)),
+        Err((left, PrepareFault::DiskFault)) => Err(Shut::Halted(left)),
+        Err((left, PrepareFault::NoMemory)) => Err(Shut::Starved(left)),
+        Err((left, PrepareFault::NoRoom)) => Err(Shut::Roomless(left)),
     }
 }
 
@@ -123,11 +130,8 @@ fn copy_all<'t, R: Wait + Threads + Sync, B: Berth, G: Gate>(
     notes: &mut Notes,
 ) -> (Down<'t, B>, Ending)
     requires none { notes.old ≡ [] }
-    ensures ends { CopyEnds leaf.entry.0 steps.old.left (B.meaning leaf.entry.1) (B.meaning result.0.1) notes.new
-        result.1 result.0.0 }
-    ensures rests { CopyRests leaf.entry.0 result.0.0 notes.new (B.meaning leaf.entry.1) (B.meaning result.0.1) }
-    ensures time { Passes (B.meaning leaf.entry.1) (B.meaning result.0.1) }
-    ensures cause { FaultRose result.1 (B.meaning leaf.entry.1) (B.meaning result.0.1) }
+    ensures { CopyDone leaf.entry.0 steps.old.left (B.meaning leaf.entry.1) (B.meaning result.0.1) notes.new result.1
+        result.0.0 }
 {
     let mut leaf = leaf;
     loop {

@@ -32,7 +32,8 @@ use Rattle.leaf_steward.specs.Seated.{AreFounded, AreSeated, watched_by}
 use Rattle.leaf_machine.proofs.PrepColumns.{drain_few, drain_long}
 use Rattle.leaf_machine.proofs.PrepNames.{treated_all}
 use Rattle.leaf_steward.proofs.WatchPlaces.{watch_all}
-use Rattle.leaf_steward.proofs.Watching.{now_seen, watch_at, watch_length, watch_names}
+use Rattle.leaf_steward.proofs.WatchEntries.{now_seen}
+use Rattle.leaf_steward.proofs.Watching.{watch_at, watch_length, watch_names}
 use Rattle.leaf_machine.specs.declared.preparing.PrepareFault.{PrepareFault}
 use Rattle.leaf_machine.specs.declared.preparing.PrepareFault.TheVariants.{DiskFault, NoRoom, NoMemory}
 use Rattle.leaf_machine.specs.States.{Serving, Shutting, GoesOnCopying, ServingGoesOn, IsShutAndTaken, IsCopying, IsShutting, columns_added, treated}

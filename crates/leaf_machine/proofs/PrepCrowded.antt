@@ -1,11 +1,11 @@
 -- Founded tables make no image only where much was added to them.
-use Rattle.std.proofs.Common.{◌≡◌, ℕ, zero, suc, ◌+◌, ◌≤◌, ◌^◌, inl, inr, true, List, [], ◌∷◌, length, Some, refl, sym, ap, subst, ◌∙◌, arith}
+use Rattle.std.proofs.Common.{◌≡◌, ℕ, zero, suc, ◌+◌, ◌≤◌, inl, inr, true, List, [], ◌∷◌, length, Some, refl, sym, ap, subst, ◌∙◌, arith}
 use Rattle.std.specs.Prelude.{slice_get, Err}
 use Rattle.std.specs.List.{AllByRecursion}
 use Rattle.std.proofs.lemmas.List.{length-map}
-use Rattle.std.proofs.lemmas.Option.{none-some, same_Some}
+use Rattle.std.proofs.lemmas.Option.{none-some, same_Some, slice_get_within}
 use Rattle.berth_face.specs.Berth.{Meaning}
-use Rattle.leaf_history.specs.History.{HistoryState, write_count}
+use Rattle.leaf_history.specs.History.{HistoryState}
 use Rattle.row_blocks.specs.Held.{columns_count}
 use Rattle.table_state.specs.Tables.{Table, added_count}
 use Rattle.region_layout.specs.declared.drained.DrainTable.{DrainTable}
@@ -14,17 +14,19 @@ use Rattle.drain_copy.specs.declared.step.PlanFault.TheVariants as plan
 use Rattle.drain_copy.specs.Planned.{NeedRoom, tables_count}
 use Rattle.leaf_table.specs.Turns.{Shared, is_founded}
 use Rattle.leaf_table.specs.Calls.{SeatView, base_seen, state_seen}
-use Rattle.crash_moments.specs.Watched.{IsFoundation, IsWatched, Watched}
+use Rattle.crash_moments.specs.Watched.{IsFoundation, IsWatched}
 use Rattle.crash_states.proofs.Names.{each_at}
 use Rattle.crash_states.proofs.States.{now_sound}
 use Rattle.leaf_steward.specs.Seated.{AreFounded, AreSeated, watched, watched_by}
 use Rattle.leaf_steward.proofs.WatchPlaces.{watch_all}
-use Rattle.leaf_steward.proofs.Watching.{now_seen, watch_get}
+use Rattle.leaf_steward.proofs.WatchEntries.{now_seen}
+use Rattle.leaf_steward.proofs.Watching.{watch_get}
 use Rattle.leaf_machine.specs.declared.preparing.PrepareFault.{PrepareFault}
 use Rattle.leaf_machine.specs.declared.preparing.PrepareFault.TheVariants.{NoRoom, NoMemory}
 use Rattle.leaf_machine.specs.States.{IsShutting, Shutting, bulk_added}
 use Rattle.leaf_machine.specs.Shut.{AreFewShut, AreTablesOf, drained_columns, drained_table}
 use Rattle.leaf_machine.specs.Prepares.{CrowdsStep, PreparingIsCrowded, told_of_plan}
+use Rattle.leaf_steward.proofs.Seating.{some_at}
 use Rattle.leaf_machine.proofs.PrepCopies.{made_at}
 
 -- ---- places of a leaf
@@ -58,17 +60,6 @@ bulk_writes (s ∷ ts) (u ∷ vs) (suc place) n t v at was more = let rest = bul
 
 -- ---- a leaf whose tables are all shut
 
-some_at : {X : Type 0} (xs : List X) (place n : ℕ) → n ≡ length xs → place + 1 ≤ n → (x : X) × (slice_get xs place ≡ Some x)
-some_at [] place n count few = absurd (omega (arith, count, few))
-some_at (x ∷ xs) zero n count few = (x, refl)
-some_at (x ∷ xs) (suc place) zero count few = absurd (omega (arith, few))
-some_at (x ∷ xs) (suc place) (suc n) count few = some_at xs place n (omega (arith, count)) (omega (arith, few))
-
-inside : {X : Type 0} (xs : List X) (place : ℕ) (x : X) → slice_get xs place ≡ Some x → place + 1 ≤ length xs
-inside [] place x at = absurd (none-some x at)
-inside (y ∷ xs) zero x at = omega arith
-inside (y ∷ xs) (suc place) x at = let rest = inside xs place x at in omega (arith, rest)
-
 module _ (x : Shutting) (m : Meaning) (is : IsShutting x m) (sits : AreSeated x.serving.seated) (all : length x.closed ≡ length x.serving.seated.tables) (tables : List DrainTable)
     (are : AreTablesOf x.serving.seated.names x.closed tables) (few : AreFewShut x.serving.seated (drained_columns tables)) where
   count : length tables ≡ length x.serving.seated.tables
@@ -93,9 +84,9 @@ module _ (x : Shutting) (m : Meaning) (is : IsShutting x m) (sits : AreSeated x.
       let bulk = bulk_columns x.serving.seated.tables x.serving.seated.seats tables count sits.count founded few in
       omega (arith, many, bulk)
   crowded (inr wide) founded =
-      let here = inside tables wide.0 wide.1 wide.2 in
-      let t = some_at x.serving.seated.tables wide.0 (length tables) count here in
-      let v = some_at x.serving.seated.seats wide.0 (length tables) (count ∙ sym sits.count) here in
+      let here = slice_get_within tables wide.0 wide.1 wide.2 in
+      let t = some_at x.serving.seated.tables wide.0 (omega (arith, here, count)) in
+      let v = some_at x.serving.seated.seats wide.0 (omega (arith, here, count, sits.count)) in
       let writes = writes_at founded wide.0 wide.1 t.0 v.0 wide.2 t.1 v.1 in
       let bulk = bulk_writes x.serving.seated.tables x.serving.seated.seats wide.0 wide.1.parts.writes t.0 v.0 t.1 v.1 (omega (arith, writes)) in
       let much = wide.3 in

@@ -1,6 +1,6 @@
 -- Of shut tables that are founded: each comes to at most a column for each row and each cell that its writes add, and
 -- the spare ones, entry by entry.
-use Rattle.std.proofs.Common.{◌≡◌, ℕ, zero, suc, ◌+◌, ◌<◌, ◌≤◌, true, List, [], ◌∷◌, ◌++◌, length, Option, Some, None, refl, sym, ap, subst, ◌∙◌, arith, le_trans}
+use Rattle.std.proofs.Common.{◌≡◌, ℕ, zero, suc, ◌+◌, ◌≤◌, true, List, [], ◌∷◌, ◌++◌, length, Option, Some, None, refl, sym, ap, subst, ◌∙◌, arith, le_trans}
 use Rattle.std.specs.Prelude.{slice_get, Result}
 use Rattle.std.proofs.lemmas.List.{length-append}
 use Rattle.std.proofs.lemmas.Option.{none-some, same_Some, slice_get_within}
@@ -8,21 +8,20 @@ use Rattle.row_records.specs.Records.{LogRecord}
 use Rattle.berth_face.specs.Berth.{Meaning}
 use Rattle.leaf_history.specs.Calls as call
 use Rattle.leaf_history.specs.Replies as reply
-use Rattle.leaf_history.specs.History.{LegalFrom}
 use Rattle.table_state.specs.Tables.{Store, Table, Takes, added_count, bare, columns_most}
-use Rattle.turnstile.specs.Seats.{LearnsOthers, SeesAlso}
-use Rattle.leaf_table.specs.Turns.{HasFewColumns, Shared, is_founded, start_of}
-use Rattle.leaf_table.specs.Calls.{Made, SeatView, SeesShut, base_seen, seen_of, state_before, state_seen}
+use Rattle.leaf_table.specs.Turns.{HasFewColumns, Shared, is_founded}
+use Rattle.leaf_table.specs.Calls.{Made, SeatView, SeesShut, base_seen, state_before, state_seen}
 use Rattle.leaf_steward.specs.declared.notes.Note.{Note}
 use Rattle.leaf_steward.specs.Seated.{Seated, AreSeated, with_seat}
 use Rattle.leaf_steward.specs.Making.{ShutsAt}
 use Rattle.leaf_steward.specs.Owing.{Owing, Brings, SettlesOwed}
 use Rattle.leaf_steward.specs.Owing as owing
+use Rattle.leaf_steward.proofs.Seating.{each_with}
 use Rattle.leaf_machine.specs.States.{Shutting, IsShutting}
 use Rattle.leaf_machine.specs.Shut.{AreFewShut, AreNoMore}
-use Rattle.leaf_machine.proofs.PrepEntries.{flushed_writes, met_writes, same_spare, shut_spare, shut_writes}
+use Rattle.leaf_machine.proofs.PrepEntries.{Stays, flushed_stays, same_spare, shut_spare, shut_writes}
 use Rattle.leaf_machine.proofs.PrepHolds.{Holds, holds_of}
-use Rattle.leaf_machine.proofs.PrepPlaces.{push_get, push_last, set_each}
+use Rattle.leaf_machine.proofs.PrepPlaces.{push_get, push_last}
 use Rattle.leaf_machine.proofs.PrepShuts.{holds_then, sits_then}
 
 -- what is said of the table in one place
@@ -55,23 +54,16 @@ less_few x now before less few = λ place t v at was founded n found.
     let old = less_at now before place n less found in
     le_trans old.2 (few place t v at was founded old.0 old.1)
 
--- ---- an entry that notes a table as flushed, and a meeting
+-- ---- a seat goes on
 
-module _ (closed : List Table) (columns : List ℕ) (x : Seated) (holds : Holds closed x) (count : length columns ≡ length closed) (sits : AreSeated x) (place : ℕ) (t : Shared) (v w : SeatView)
-    (at : slice_get x.tables place ≡ Some t) (was : slice_get x.seats place ≡ Some v) where
-  is_shut : (n : ℕ) → slice_get columns place ≡ Some n → SeesShut t v
-  is_shut n found = (holds.closed_are place t v at was (omega (arith, slice_get_within columns place n found, count))).shut
-
-  kept_few : (SeesShut t v → (state_seen (base_seen t) w).writes ≡ (state_seen (base_seen t) v).writes) → AreFewShut x columns → AreFewShut (with_seat x place w) columns
-  kept_few same few =
-      set_each (FewAt columns) (FewAt columns) x place t v w at was
-      (λ is founded n found. let before = is founded n found in omega (arith, before, ap added_count (same (is_shut n found)), same_spare t v w)) (λ i u s apart is. is) few
-
-  pub flushed_few : (clock n : ℕ) → Made (base_seen t) clock v (call.Flushed n) reply.Noted w → AreFewShut x columns → AreFewShut (with_seat x place w) columns
-  flushed_few clock n made few = kept_few (λ shut. flushed_writes t v w clock n (sits.each place t v at was) made shut) few
-
-  pub met_few : (u : SeatView) → SeesAlso v u w → LearnsOthers v w → LegalFrom (is_founded (base_seen t)) (start_of (base_seen t)) (seen_of w) → AreFewShut x columns → AreFewShut (with_seat x place w) columns
-  met_few u met learns legal few = kept_few (λ shut. met_writes t v u w (sits.each place t v at was) met learns legal shut) few
+pub stays_few : (closed : List Table) (columns : List ℕ) (x : Seated) → Holds closed x → length columns ≡ length closed → (place : ℕ) (t : Shared) (v w : SeatView) → slice_get x.tables place ≡ Some t → slice_get x.seats place ≡ Some v
+    → Stays t v w → AreFewShut x columns → AreFewShut (with_seat x place w) columns
+stays_few closed columns x holds count place t v w at was stays few =
+    each_with (FewAt columns) (FewAt columns) x place t w at (λ i u s apart is. is)
+    (λ founded n found.
+    let before = few place t v at was founded n found in
+    let shut : SeesShut t v = (holds.closed_are place t v at was (omega (arith, slice_get_within columns place n found, count))).shut in
+    omega (arith, before, ap added_count (stays.writes shut), same_spare t v w)) few
 
 -- ---- what is owed is settled, or is not
 
@@ -81,7 +73,8 @@ pub settled_few : (x : Shutting) (m : Meaning) → IsShutting x m → AreSeated 
 settled_few x m is sits columns count few clock before result y o after (owing.nothing none good same_seats same notes) = subst (λ (s : Seated). AreFewShut s columns) (sym same_seats) few
 settled_few x m is sits columns count few clock before result y o after (owing.done r number owes good one notes settled) =
     subst (λ (s : Seated). AreFewShut s columns) (sym one.now)
-    (flushed_few x.closed columns x.serving.seated (holds_of x m is) count sits x.serving.owing.owner one.table one.before one.after one.at one.was clock x.serving.owing.count one.made few)
+    (stays_few x.closed columns x.serving.seated (holds_of x m is) count x.serving.owing.owner one.table one.before one.after one.at one.was
+    (flushed_stays one.table one.before one.after clock x.serving.owing.count (sits.each x.serving.owing.owner one.table one.before one.at one.was) one.made) few)
 settled_few x m is sits columns count few clock before result y o after (owing.failed r owes bad same_seats notes owed owner times) = subst (λ (s : Seated). AreFewShut s columns) (sym same_seats) few
 
 -- ---- the next table is shut
@@ -100,8 +93,8 @@ module _ (columns : List ℕ) (x : Seated) (place : ℕ) (t : Shared) (v w : Sea
 
   shut_few : AreFewShut x columns → AreFewShut (with_seat x place w) (columns ++ most ∷ [])
   shut_few few =
-      set_each (FewAt columns) (FewAt (columns ++ most ∷ [])) x place t v w at was (λ is founded k found. here_few founded k found)
-      (λ i u s apart is founded k found. is founded k (push_get columns most i k found (λ same. apart (same ∙ sym next)))) few
+      each_with (FewAt columns) (FewAt (columns ++ most ∷ [])) x place t w at
+      (λ i u s apart is founded k found. is founded k (push_get columns most i k found (λ same. apart (same ∙ sym next)))) here_few few
 
 module _ (x : Shutting) (m : Meaning) (is : IsShutting x m) (sits : AreSeated x.serving.seated) (none : x.serving.owing.log.owed ≡ None) (place number : ℕ) (next : place ≡ length x.closed)
     (t t' : Table) (pending : Option LogRecord) (y : Seated) (shut : ShutsAt m.clock x.serving.seated place number t.writes t y) (takes : Takes t pending t')
@@ -122,6 +115,6 @@ module _ (x : Shutting) (m : Meaning) (is : IsShutting x m) (sits : AreSeated x.
       → Brings clock y x.serving.owing place t.writes pending mid result z o new → AreFewShut z with_next
   brought_few clock z o result mid new (owing.done n good then notes owed) =
       subst (λ (s : Seated). AreFewShut s with_next) (sym then.now)
-      (flushed_few (x.closed ++ bare t' ∷ []) with_next y (holds_then x m is sits none place number next t t' pending y shut takes) count_next
-      (sits_then x m is sits none place number next t t' pending y shut takes) place then.table then.before then.after then.at then.was clock t.writes then.made few_then)
+      (stays_few (x.closed ++ bare t' ∷ []) with_next y (holds_then x m is sits none place number next t t' pending y shut takes) count_next place then.table then.before then.after then.at then.was
+      (flushed_stays then.table then.before then.after clock t.writes ((sits_then x m is sits none place number next t t' pending y shut takes).each place then.table then.before then.at then.was) then.made) few_then)
   brought_few clock z o result mid new (owing.failed r owes bad same notes owed owner times) = subst (λ (s : Seated). AreFewShut s with_next) (sym same) few_then

@@ -1,45 +1,28 @@
 -- The parts of a step, one after another.
-use Rattle.std.proofs.Common.{◌≡◌, ℕ, ◌≤◌, true, List, [], ◌∷◌, ◌++◌, refl, sym, ap, subst, ◌∙◌, le_trans, le_refl, append_assoc, append-nil}
+use Rattle.std.proofs.Common.{◌≡◌, ℕ, ◌≤◌, List, [], ◌∷◌, ◌++◌, refl, sym, ap, subst, ◌∙◌, le_refl, append_assoc, append-nil}
 use Rattle.std.specs.Prelude.{IsTrue}
-use Rattle.std.specs.List.{AllByRecursion}
 use Rattle.leaf_model.specs.declared.writes.Write.{Write}
 use Rattle.berth_face.specs.Berth.{Meaning}
 use Rattle.berth_face.proofs.Moments.{passes_on}
-use Rattle.leaf_table.specs.Turns.{Shared, is_founded}
-use Rattle.leaf_table.specs.Calls.{base_seen}
 use Rattle.crash_moments.proofs.Telling.{told_join}
 use Rattle.crash_states.specs.Standing.{Runs}
 use Rattle.leaf_steward.specs.declared.notes.Note.{Note}
 use Rattle.leaf_steward.specs.Seated.{Seated, AreFounded, watched_by}
 use Rattle.leaf_steward.specs.Making.{Makes, NotesOn, OneEntry}
-use Rattle.leaf_steward.proofs.WatchMakes.{makes_tables}
+use Rattle.leaf_steward.proofs.Keeping.{founded_as, makes_join, makes_one, makes_tables}
 use Rattle.leaf_steward.specs.Owing.{RunsTo}
 use Rattle.leaf_machine.specs.States.{Serving, ServingGoesOn, GoesOnServing, UpStands}
 use Rattle.leaf_machine.specs.PrepParts.{IsPartOfStep}
 
 -- ---- entries, one after another
 
-makes_earlier : (from later to : ℕ) (x : Seated) (notes : List Note) (y : Seated) → from ≤ later → Makes later to x notes y → Makes from to x notes y
-makes_earlier from later to x notes y low (Makes.none f u a ns b on no_note same) = Makes.none from to x notes y (le_trans low on) no_note same
-makes_earlier from later to x notes y low (Makes.more f u a ns b clock note rest between on one makes all) = Makes.more from to x notes y clock note rest between (le_trans low on) one makes all
-
-makes_join : (a b c : ℕ) (x : Seated) (first : List Note) (y : Seated) (second : List Note) (z : Seated) → Makes a b x first y → Makes b c y second z → Makes a c x (first ++ second) z
-makes_join a b c x first y second z (Makes.none f u s ns e low no_note same) then =
-    subst (λ (notes : List Note). Makes a c x (notes ++ second) z) (sym no_note) (subst (λ (s : Seated). Makes a c s second z) same (makes_earlier a b c y second z low then))
-makes_join a b c x first y second z (Makes.more f u s ns e clock note rest between low one makes all) then =
-    Makes.more a c x (first ++ second) z clock note (rest ++ second) between low one (makes_join clock b c between rest y second z makes then) (ap (λ (notes : List Note). notes ++ second) all)
-
 notes_join : (a b c : ℕ) (x y z : Seated) (old mid new : List Note) → NotesOn a b x old mid y → NotesOn b c y mid new z → NotesOn a c x old new z
 notes_join a b c x y z old mid new first second =
-    (first.0 ++ second.0, second.1 ∙ ap (λ (notes : List Note). notes ++ second.0) first.1 ∙ append_assoc old first.0 second.0, makes_join a b c x first.0 y second.0 z first.2 second.2)
+    (first.0 ++ second.0, second.1 ∙ ap (λ (notes : List Note). notes ++ second.0) first.1 ∙ append_assoc old first.0 second.0, makes_join a b c x y z first.0 second.0 first.2 second.2)
 
 -- none is made
 pub no_notes : (a b : ℕ) (x y : Seated) (notes after : List Note) → a ≤ b → after ≡ notes → y ≡ x → NotesOn a b x notes after y
 no_notes a b x y notes after low none same = ([], none ∙ sym (append-nil notes), Makes.none a b x [] y low refl same)
-
--- one is made
-pub makes_one : (a b clock : ℕ) (x : Seated) (note : Note) (y : Seated) → a ≤ clock → clock ≤ b → OneEntry clock x note y → Makes a b x (note ∷ []) y
-makes_one a b clock x note y low high one = Makes.more a b x (note ∷ []) y clock note [] y low one (Makes.none clock b y [] y high refl refl) refl
 
 pub makes_two : (a b : ℕ) (x : Seated) (first : Note) (y : Seated) (second : Note) (z : Seated) → a ≤ b → OneEntry a x first y → OneEntry b y second z → Makes a b x (first ∷ second ∷ []) z
 makes_two a b x first y second z later one two = Makes.more a b x (first ∷ second ∷ []) z a first (second ∷ []) y (le_refl a) one (makes_one a b b y second z later (le_refl b) two) refl
@@ -50,9 +33,6 @@ notes_are a b x y old new none on = subst (λ (notes : List Note). Makes a b x n
 
 -- ---- the tables stay
 
-pub founded_on : (x y : Seated) → y.tables ≡ x.tables → AreFounded x → AreFounded y
-founded_on x y same founded = subst (λ (ts : List Shared). AllByRecursion (λ (t : Shared). is_founded (base_seen t) ≡ true) ts) (sym same) founded
-
 pub tables_on : (a b : ℕ) (x y : Seated) (old new : List Note) → NotesOn a b x old new y → y.tables ≡ x.tables
 tables_on a b x y old new on = makes_tables a b x on.0 y on.2
 
@@ -61,8 +41,8 @@ tables_on a b x y old new on = makes_tables a b x on.0 y on.2
 -- a leaf that goes on stands
 pub stands_on : (x y : Serving) (m m' : Meaning) → UpStands x m → (IsTrue m.tells → AreFounded x.seated → ServingGoesOn x y m m') → y.seated.tables ≡ x.seated.tables → m'.tells ≡ m.tells → UpStands y m'
 stands_on x y m m' stands goes same tells founded =
-    let was = stands (founded_on y.seated x.seated (sym same) founded) in
-    let on : GoesOnServing x y m m' = goes was.0 (founded_on y.seated x.seated (sym same) founded) was.1.0 was.1.1 in
+    let was = stands (founded_as y.seated x.seated (sym same) founded) in
+    let on : GoesOnServing x y m m' = goes was.0 (founded_as y.seated x.seated (sym same) founded) was.1.0 was.1.1 in
     (tells ∙ was.0, (on.later, on.runs))
 
 -- as the log's own steps tell it
@@ -82,7 +62,7 @@ module _ (x y z : Serving) (old mid new : List Note) (m m' m'' : Meaning) (first
   both_go : IsTrue m.tells → AreFounded x.seated → ServingGoesOn x z m m''
   both_go tells founded writes runs =
       let one : GoesOnServing x y m m' = first.crash tells founded writes runs in
-      let two : GoesOnServing y z m' m'' = second.crash (tells_still tells) (founded_on x.seated y.seated (tables_on m.clock m'.clock x.seated y.seated old mid first.made) founded) one.later one.runs in
+      let two : GoesOnServing y z m' m'' = second.crash (tells_still tells) (founded_as x.seated y.seated (tables_on m.clock m'.clock x.seated y.seated old mid first.made) founded) one.later one.runs in
       record {
         later = two.later;
         runs = two.runs;

@@ -16,7 +16,8 @@ use Rattle.leaf_steward.specs.Owing.{Owing, IsOwed, RunsTo, SettlesOwed, flushed
 use Rattle.leaf_machine.specs.States.{Serving, Shutting, IsShutting, SparesOwed, UpStands}
 use Rattle.leaf_machine.specs.PrepParts.{IsPartOfStep}
 use Rattle.leaf_machine.proofs.PrepHolds.{Holds, flushed_holds, holds_of}
-use Rattle.leaf_machine.proofs.PrepJoins.{goes_to, makes_one, no_notes, stands_on, tables_on}
+use Rattle.leaf_machine.proofs.PrepJoins.{goes_to, no_notes, stands_on, tables_on}
+use Rattle.leaf_steward.proofs.Keeping.{makes_one}
 
 -- ---- a leaf that is owed nothing, or the record of the last table that was shut
 
@@ -47,17 +48,17 @@ quiet_is closed shut y o m holds none last stands = record {
 -- ---- what is owed stays owed
 
 -- who owes what
-abbrev OwesAs : Seated → Option LogRecord → ℕ → ℕ → Type 0
+abbrev pub OwesAs : Seated → Option LogRecord → ℕ → ℕ → Type 0
 OwesAs x owed owner count = IfSome owed (λ r. (owner < length x.tables) × AtPlace (λ t v. (count ≤ (state_seen (base_seen t) v).taken) × (name_of t ≡ r.name)) x owner)
 
-abbrev SparesAs : Seated → Option LogRecord → ℕ → ℕ → Type 0
+abbrev pub SparesAs : Seated → Option LogRecord → ℕ → ℕ → Type 0
 SparesAs x owed owner n = IfSome owed (λ r. AtPlace (Spares n) x owner)
 
-still_spares : (x : Seated) (o o' : Owing) (n : ℕ) → o'.log.owed ≡ o.log.owed → o'.owner ≡ o.owner → SparesOwed x o n → SparesOwed x o' n
+pub still_spares : (x : Seated) (o o' : Owing) (n : ℕ) → o'.log.owed ≡ o.log.owed → o'.owner ≡ o.owner → SparesOwed x o n → SparesOwed x o' n
 still_spares x o o' n owed owner is =
     subst (λ (p : Option LogRecord). SparesAs x p o'.owner n) (sym owed) (subst (λ (k : ℕ). SparesAs x o.log.owed k n) (sym owner) is)
 
-still_owed : (x : Seated) (o o' : Owing) → o'.log.owed ≡ o.log.owed → o'.owner ≡ o.owner → o'.count ≡ o.count → IsOwed x o → IsOwed x o'
+pub still_owed : (x : Seated) (o o' : Owing) → o'.log.owed ≡ o.log.owed → o'.owner ≡ o.owner → o'.count ≡ o.count → IsOwed x o → IsOwed x o'
 still_owed x o o' owed owner count is =
     subst (λ (p : Option LogRecord). OwesAs x p o'.owner o'.count) (sym owed)
     (subst (λ (k : ℕ). OwesAs x o.log.owed k o'.count) (sym owner) (subst (λ (k : ℕ). OwesAs x o.log.owed o.owner k) (sym count) is))

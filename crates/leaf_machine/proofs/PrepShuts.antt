@@ -16,8 +16,7 @@ use Rattle.leaf_table.specs.Turns as turns
 use Rattle.leaf_table.specs.Calls.{base_seen, name_of, seen_of, state_before, state_seen}
 use Rattle.crash_moments.specs.Left.{NamedStates}
 use Rattle.crash_moments.specs.Watched.{Watched}
-use Rattle.crash_moments.specs.Told.{SeenMore, Told}
-use Rattle.crash_moments.proofs.Telling.{more_on}
+use Rattle.crash_moments.specs.Told.{Told}
 use Rattle.crash_states.specs.Standing.{Runs}
 use Rattle.crash_states.specs.Entries.{Enters}
 use Rattle.crash_serving.specs.Laws as law
@@ -26,23 +25,21 @@ use Rattle.leaf_steward.specs.declared.notes.Note.{Note}
 use Rattle.leaf_steward.specs.declared.notes.What.TheVariants as what
 use Rattle.leaf_steward.specs.Seated.{Seated, AreFounded, AreSeated, AtPlace, Spares, watched, watched_by}
 use Rattle.leaf_steward.specs.Making.{Makes, NotesOn, OneEntry, ShutsAt}
-use Rattle.leaf_steward.proofs.WatchMakes.{makes_seated, makes_tables}
+use Rattle.leaf_steward.proofs.Keeping.{founded_as, makes_one, makes_seated, makes_tables}
+use Rattle.leaf_steward.proofs.Passing.{shut_entry}
 use Rattle.leaf_steward.proofs.WatchPlaces.{watch_all}
-use Rattle.leaf_steward.proofs.Watching.{made_enters, makes_more, watch_get, watch_set}
+use Rattle.leaf_steward.proofs.WatchEntries.{made_enters}
+use Rattle.leaf_steward.proofs.WatchMakes.{makes_more}
+use Rattle.leaf_steward.proofs.Watching.{watch_get, watch_set}
 use Rattle.leaf_steward.specs.Owing.{Owing, Brings, HasJustTaken, RunsTo, done, failed}
 use Rattle.leaf_machine.specs.States.{Shutting, ServingGoesOn, IsShutting, UpStands}
 use Rattle.leaf_machine.specs.Flushes.{OwedNotes}
 use Rattle.leaf_machine.specs.Prepares.{PreparingHalts, half}
 use Rattle.leaf_machine.specs.PrepParts.{IsPartOfStep, PreparingShuts, ShutsNext}
 use Rattle.leaf_machine.proofs.PrepHolds.{Holds, flushed_holds, holds_of, shut_count, shut_holds, shut_named, shut_room}
-use Rattle.leaf_machine.proofs.PrepJoins.{founded_on, makes_one, makes_two, stands_on, tables_on}
+use Rattle.leaf_machine.proofs.PrepJoins.{makes_two, stands_on, tables_on}
+use Rattle.leaf_machine.proofs.UpMaking.{same_record, told_behind}
 use Rattle.leaf_machine.proofs.PrepSettles.{quiet_is}
-
--- ---- the record of what was not taken
-
-same_record : (name : List ℕ) (writes : List Write) → turns.record_for name writes ≡ law.record_for name writes
-same_record name [] = refl
-same_record name (w ∷ writes) = refl
 
 -- nothing was owed, and nothing was noted of it
 pub none_noted : (o : Option LogRecord) (by : Owing) → o ≡ None → OwedNotes o by []
@@ -60,13 +57,13 @@ module _ (x : Shutting) (m : Meaning) (is : IsShutting x m) (sits : AreSeated x.
   size = length-append x.closed (bare t' ∷ [])
 
   one : OneEntry m.clock x.serving.seated (closing place) y
-  one = record { table = shut.table; before = shut.before; after = shut.after; at = shut.at; was = shut.was; number = shut.counted; made = shut.made; now = shut.now }
+  one = shut_entry m.clock x.serving.seated place number t.writes t y shut
 
   makes : Makes m.clock m.clock x.serving.seated (closing place ∷ []) y
   makes = makes_one m.clock m.clock m.clock x.serving.seated (closing place) y (le_refl m.clock) (le_refl m.clock) one
 
   pub sits_then : AreSeated y
-  sits_then = makes_seated m.clock m.clock x.serving.seated (closing place ∷ []) y makes sits
+  sits_then = makes_seated m.clock m.clock x.serving.seated (closing place ∷ []) y sits makes
 
   pub tables_then : y.tables ≡ x.serving.seated.tables
   tables_then = makes_tables m.clock m.clock x.serving.seated (closing place ∷ []) y makes
@@ -129,18 +126,13 @@ module _ (x : Shutting) (m : Meaning) (is : IsShutting x m) (sits : AreSeated x.
     -- what is told of the bringing is told of both
     told_both : (others : NamedStates) (z : Seated) (m' : Meaning) → Told others (watched_by y) (watched_by z) m m' → Told others (watched_by x.serving.seated) (watched_by z) m m'
     told_both others z m' told =
-        let first : SeenMore m.clock m.clock (watched_by x.serving.seated) (watched_by y) = makes_more m.clock m.clock x.serving.seated (closing place ∷ []) y sits founded makes in
-        record {
-          passes = told.passes;
-          more = more_on m.clock m.clock m'.clock (watched_by x.serving.seated) (watched_by y) (watched_by z) (le_refl m.clock) told.passes.later first told.more;
-          left = told.left;
-        }
+        told_behind others (watched_by x.serving.seated) (watched_by y) (watched_by z) m m' (makes_more m.clock m.clock x.serving.seated (closing place ∷ []) y sits founded makes) told
 
   shut_goes : (z : Seated) (o : Owing) (m' : Meaning)
       → ((taken : List ℕ → List Write) → IsTrue m.tells → AreFounded y → HasJustTaken y x.serving.owing place pending taken m → RunsTo y z o m m')
       → IsTrue m.tells → AreFounded x.serving.seated → ServingGoesOn x.serving (record { seated = z; owing = o }) m m'
   shut_goes z o m' brings tells founded writes runs =
-      let on : RunsTo y z o m m' = brings writes tells (founded_on x.serving.seated y tables_then founded) (has_taken founded writes runs) in
+      let on : RunsTo y z o m m' = brings writes tells (founded_as x.serving.seated y tables_then founded) (has_taken founded writes runs) in
       record { later = on.later; runs = on.runs; told = λ others. told_both founded others z m' (on.told others) }
 
   -- ---- the record is brought onto the disk
@@ -158,7 +150,7 @@ module _ (x : Shutting) (m : Meaning) (is : IsShutting x m) (sits : AreSeated x.
     brought_notes (done n good then notes owed) =
         (closing place ∷ flushing n ∷ [], all_notes n notes, makes_two m.clock m'.clock x.serving.seated (closing place) y (flushing n) z time.later one then)
     brought_notes (failed r owes bad same notes owed owner count) =
-        (closing place ∷ [], notes ∙ noted, subst (λ (s : Seated). Makes m.clock m'.clock x.serving.seated (closing place ∷ []) s) (sym same) (makes_one m.clock m'.clock m.clock x.serving.seated (closing place) y (le_refl m.clock) time.later one))
+        (closing place ∷ [], notes ∙ noted, subst (λ (s : Seated). Makes m.clock m'.clock x.serving.seated (closing place ∷ []) s) (sym same) (makes_one m.clock m.clock m'.clock x.serving.seated (closing place) y (le_refl m.clock) time.later one))
 
     pub brought_part : (IsTrue m.tells → m'.held.region ≡ m.held.region) → m'.disk_reads ≡ m.disk_reads → IsPartOfStep x.serving (record { seated = z; owing = o }) old new m m'
     brought_part region reads = record {

@@ -1,20 +1,11 @@
 -- Entries that were made one after another.
-use Rattle.std.proofs.Common.{◌≡◌, ◌∙◌, ℕ, suc, ◌≤◌, List, [], ◌∷◌, length, refl, sym, ap, subst, le_trans}
+use Rattle.std.proofs.Common.{◌≡◌, ◌∙◌, ℕ, suc, List, [], ◌∷◌, length, refl, sym, ap, subst}
 use Rattle.table_state.specs.Tables.{Table}
 use Rattle.leaf_steward.specs.declared.notes.Note.{Note}
 use Rattle.leaf_steward.specs.declared.notes.What.{What}
 use Rattle.leaf_steward.specs.Seated.{Seated}
 use Rattle.leaf_steward.specs.Making.{EachNoted, Makes, OpenedNotes}
 use Rattle.leaf_machine.specs.Starts.{IsOpenedNote}
-
--- entries of later moments are made from an earlier one on
-pub makes_from : (early from to : ℕ) (x : Seated) (notes : List Note) (y : Seated) → early ≤ from → Makes from to x notes y → Makes early to x notes y
-makes_from early from to x notes y earlier (Makes.none f u a ns b low no_note same) = Makes.none early u a ns b (le_trans earlier low) no_note same
-makes_from early from to x notes y earlier (Makes.more f u a ns b clock note rest between low one makes all) = Makes.more early u a ns b clock note rest between (le_trans earlier low) one makes all
-
--- none were made
-pub makes_none : (from to : ℕ) (x : Seated) (notes : List Note) → from ≤ to → notes ≡ [] → Makes from to x notes x
-makes_none from to x notes later none = Makes.none from to x notes x later none refl
 
 pub makes_names : (from to : ℕ) (x : Seated) (notes : List Note) (y : Seated) → Makes from to x notes y → y.names ≡ x.names
 makes_names from to x notes y (Makes.none f u a ns b low no_note same) = ap (λ (s : Seated). s.names) same

@@ -1,6 +1,7 @@
 -- A flush, by its steps: what was owed is settled, the table is taken, and what was taken is brought onto the disk.
-use Rattle.std.proofs.Common.{◌≡◌, ℕ, ◌<◌, ◌≤◌, List, [], ◌∷◌, ◌++◌, length, Option, Some, None, refl, sym, ap, subst, ◌∙◌, arith, append_assoc, append-nil, le_refl}
-use Rattle.std.specs.Prelude.{slice_get, IsTrue, IsSome, IfSome, Result, Ok, Err, IsOk, IsErr}
+use Rattle.std.proofs.Common.{◌≡◌, ℕ, ◌<◌, ◌≤◌, List, [], ◌∷◌, ◌++◌, length, Option, Some, None, false, refl, sym, ap, subst, ◌∙◌, arith, append_assoc, append-nil, le_refl}
+use Rattle.std.proofs.lemmas.Bool.{false≢true}
+use Rattle.std.specs.Prelude.{IsTrue, IsSome, IfSome, Result, Ok, Err, IsOk, IsErr}
 use Rattle.leaf_model.specs.declared.writes.Write.{Write}
 use Rattle.row_records.specs.Records.{LogRecord}
 use Rattle.berth_face.specs.Berth.{Meaning, Passes}
@@ -15,17 +16,22 @@ use Rattle.leaf_steward.specs.declared.notes.Note.{Note}
 use Rattle.leaf_steward.specs.declared.notes.What.TheVariants as what
 use Rattle.leaf_steward.specs.Seated.{Seated, AtPlace, AreSeated, AreFounded, Spares, watched_by}
 use Rattle.leaf_steward.specs.Making.{Makes, OneEntry, TakesAt, WornAt}
-use Rattle.leaf_steward.proofs.WatchMakes.{makes_seated, makes_tables}
-use Rattle.leaf_steward.proofs.WatchPlaces.{watch_same}
+use Rattle.leaf_steward.proofs.Seating.{same_at}
+use Rattle.leaf_steward.proofs.Keeping.{founded_as, makes_join, makes_one, makes_seated, makes_tables}
 use Rattle.leaf_steward.specs.Owing.{Owing, Brings, HasJustTaken, RunsTo, SettlesOwed, flushed_note}
 use Rattle.leaf_machine.specs.declared.up.FlushReply.{FlushReply}
 use Rattle.leaf_machine.specs.declared.up.FlushReply.TheVariants as reply
 use Rattle.leaf_machine.specs.States.{Serving, IsUp, UpStands, ServingGoesOn, GoesOnServing}
 use Rattle.leaf_machine.specs.Flushes.{Flushes, FreshBehind, OwedNotes}
 use Rattle.leaf_machine.specs.UpFlush.{FlushGoes}
-use Rattle.leaf_machine.proofs.UpSeats.{Serves, count_taken, named_taken, serves_flushed, serves_taken, spares_taken, takes_entry}
-use Rattle.leaf_machine.proofs.UpOwing.{OwedBy, owed_none, owed_same, up_serves, up_owed, up_of, founded_as, stands_on}
-use Rattle.leaf_machine.proofs.UpMaking.{makes_one, makes_join, told_behind, has_taken, taken_more}
+use Rattle.leaf_machine.proofs.UpSeats.{count_taken, holds_taken, named_taken, spares_taken, takes_entry}
+use Rattle.leaf_machine.specs.Prepares.{begins}
+use Rattle.leaf_machine.specs.PrepParts.{IsPartOfStep}
+use Rattle.leaf_machine.proofs.Beginning.{begun_up, up_begun}
+use Rattle.leaf_machine.proofs.PrepHolds.{Holds, flushed_holds, holds_of}
+use Rattle.leaf_machine.proofs.PrepJoins.{notes_are, stands_on}
+use Rattle.leaf_machine.proofs.PrepSettles.{quiet_is, settle_part, settle_stands, settled_is, still_owed, still_spares}
+use Rattle.leaf_machine.proofs.UpMaking.{told_behind, has_taken, taken_more}
 
 not_both : {T E : Type 0} (r : Result T E) → IsOk r → IsErr r → ⊥
 not_both (Ok v) good bad = cc
@@ -46,7 +52,7 @@ Settling x y m m' = (writes : List ℕ → List Write) → IsTrue m.tells → Ar
 
 -- what a step of a flush leaves, and what it is told of
 pub record Goes (x y : Serving) (notes : List Note) (m m' : Meaning) : Type 0 where
-  pub serves : Serves y.seated
+  pub up : IsUp y m'
   pub made : Makes m.clock m'.clock x.seated notes y.seated
   pub crash : IsTrue m.tells → AreFounded x.seated → ServingGoesOn x y m m'
   pub region : IsTrue m.tells → m'.held.region ≡ m.held.region
@@ -72,30 +78,18 @@ module _ {T E : Type 0} (x y : Serving) (before notes : List Note) (result : Res
   abbrev Settles : Type 0
   Settles = SettlesOwed m'.clock x.seated x.owing before result y.seated y.owing notes
 
-  settled_serves : Settles → Serves y.seated
-  settled_serves (SettlesOwed.nothing empty ok same owing noted) = subst Serves (sym same) (up_serves x m up)
-  settled_serves (SettlesOwed.done r number owed ok one noted settled) =
-      let spares : AtPlace (Spares 4) x.seated x.owing.owner = subst (λ (q : Option LogRecord). IfSome q (λ r. AtPlace (Spares 4) x.seated x.owing.owner)) owed up.spares_owed in
-      serves_flushed m'.clock x.owing.count number x.owing.owner x.seated y.seated one seated spares (up_serves x m up)
-  settled_serves (SettlesOwed.failed r owed err same noted owing owner count) = subst Serves (sym same) (up_serves x m up)
-
-  settled_made : Settles → Makes m.clock m'.clock x.seated notes y.seated
-  settled_made (SettlesOwed.nothing empty ok same owing noted) = Makes.none m.clock m'.clock x.seated notes y.seated outside.time.later (noted ∙ none) same
-  settled_made (SettlesOwed.done r number owed ok one noted settled) =
-      let all : notes ≡ flushed_note x.owing number ∷ [] = noted ∙ ap (λ (l : List Note). l ++ flushed_note x.owing number ∷ []) none in
-      subst (λ (l : List Note). Makes m.clock m'.clock x.seated l y.seated) (sym all)
-      (makes_one m.clock m'.clock m'.clock x.seated (flushed_note x.owing number) y.seated outside.time.later (le_refl m'.clock) one)
-  settled_made (SettlesOwed.failed r owed err same noted owing owner count) = Makes.none m.clock m'.clock x.seated notes y.seated outside.time.later (noted ∙ none) same
-
   pub settle_goes : Settles → Goes x y notes m m'
-  settle_goes settles = record {
-    serves = settled_serves settles;
-    made = settled_made settles;
-    crash = λ tells founded writes runs_now. let to = runs writes tells founded runs_now in record { later = to.later; runs = to.runs; told = to.told };
-    region = outside.region;
-    time = outside.time;
-    reads = outside.reads;
-  }
+  settle_goes settles =
+      let part : IsPartOfStep x y before notes m m' = settle_part x y.seated y.owing m m' before notes result settles runs outside.time outside.region outside.reads in
+      let stands : UpStands y m' = settle_stands x y.seated y.owing m m' before notes result settles runs outside.time up.stands in
+      record {
+        up = begun_up y m' (settled_is (begins x) m m' (up_begun x m up) seated m'.clock before result y.seated y.owing notes settles stands);
+        made = notes_are m.clock m'.clock x.seated y.seated before notes none part.made;
+        crash = part.crash;
+        region = part.region;
+        time = part.time;
+        reads = part.reads;
+      }
 
   pub settle_done : Settles → IsOk result → IsSettled x y notes
   settle_done (SettlesOwed.nothing empty ok same owing noted) good = record {
@@ -127,18 +121,13 @@ module _ (table : ℕ) (x y : Serving) (first : List Note) (m m' : Meaning) (up 
   same_tables = makes_tables m.clock m'.clock x.seated first y.seated goes.made
 
   pub still_seated : AreSeated y.seated
-  still_seated = makes_seated m.clock m'.clock x.seated first y.seated goes.made seated
-
-  goes_stands : UpStands y m'
-  goes_stands = stands_on x y m m' same_tables goes.time.tells up.stands goes.crash
+  still_seated = makes_seated m.clock m'.clock x.seated first y.seated seated goes.made
 
   -- what was owed could not be settled
   pub flush_stuck : IsStuck x y first → Rose m.disk_faults m'.disk_faults → FlushGoes table x y first reply.DiskFault m m'
   flush_stuck stuck rose = record {
     flushes = Flushes.stuck stuck.none refl stuck.some stuck.seats stuck.owed stuck.owner stuck.count;
-    up = up_of y m' goes.serves
-        (owed_same x.seated y.seated x.owing.log.owed y.owing.log.owed x.owing.owner y.owing.owner x.owing.count y.owing.count stuck.seats stuck.owed stuck.owner stuck.count (up_owed x m up))
-        goes_stands;
+    up = goes.up;
     made = goes.made;
     crash = goes.crash;
     region = goes.region;
@@ -154,7 +143,7 @@ module _ (table : ℕ) (x y : Serving) (first : List Note) (m m' : Meaning) (up 
       subst (λ (r : FlushReply). FlushGoes table x z notes r m m') (sym told_is)
       (subst (λ (s : Serving). FlushGoes table x s notes reply.Worn m m') same (subst (λ (l : List Note). FlushGoes table x y l reply.Worn m m') (sym noted) (record {
         flushes = Flushes.worn first settled.noted refl refl worn settled.none;
-        up = up_of y m' goes.serves (owed_none y.seated y.owing.log.owed y.owing.owner y.owing.count settled.none) goes_stands;
+        up = goes.up;
         made = goes.made;
         crash = goes.crash;
         region = goes.region;
@@ -183,14 +172,14 @@ module _ {T E : Type 0} (table number n : ℕ) (pending : Option LogRecord) (x y
   entry : OneEntry b.clock y.seated took taken
   entry = takes_entry b.clock table number n pending y.seated taken takes seated_now
 
-  serves_now : Serves taken
-  serves_now = serves_taken b.clock table number n pending y.seated taken takes seated_now goes.serves
+  holds_now : Holds [] taken
+  holds_now = holds_taken b.clock table number n pending y.seated taken takes seated_now (holds_of (begins y) b (up_begun y b goes.up))
 
   spares_now : AtPlace (Spares 4) taken table
   spares_now = spares_taken b.clock table number n pending y.seated taken takes seated_now
 
   fresh_now : FreshBehind x.seated first table
-  fresh_now = (a.clock, b.clock, y.seated, goes.made, λ t v at sat. subst IsFresh (watch_same (slice_get y.seated.seats table) takes.before v takes.was sat) takes.fresh)
+  fresh_now = (a.clock, b.clock, y.seated, goes.made, λ t v at sat. subst IsFresh (same_at y.seated.seats table takes.before v takes.was sat) takes.fresh)
 
   made_now : Makes a.clock b.clock x.seated between taken
   made_now = subst (λ (l : List Note). Makes a.clock b.clock x.seated l taken) (sym noted)
@@ -200,7 +189,7 @@ module _ {T E : Type 0} (table number n : ℕ) (pending : Option LogRecord) (x y
   taken_tables = makes_tables a.clock b.clock x.seated between taken made_now
 
   taken_seated : AreSeated taken
-  taken_seated = makes_seated a.clock b.clock x.seated between taken made_now seated
+  taken_seated = makes_seated a.clock b.clock x.seated between taken seated made_now
 
   passes : Passes a c
   passes = passes_on a b c goes.time outside.time
@@ -226,11 +215,11 @@ module _ {T E : Type 0} (table number n : ℕ) (pending : Option LogRecord) (x y
   rose_on : Rose b.disk_faults c.disk_faults → Rose a.disk_faults c.disk_faults
   rose_on rose = let more = goes.time.disk_faults in omega (arith, more, rose)
 
-  whole : (reply' : FlushReply) → Flushes table x z notes reply' → Serves z.seated → OwedBy z.seated z.owing.log.owed z.owing.owner z.owing.count → Makes a.clock c.clock x.seated notes z.seated
-      → (reply' ≡ reply.DiskFault → Rose a.disk_faults c.disk_faults) → FlushGoes table x z notes reply' a c
-  whole reply' flushes serves owes made cause = record {
+  whole : (reply' : FlushReply) → Flushes table x z notes reply' → Makes a.clock c.clock x.seated notes z.seated → (UpStands z c → IsUp z c) → (reply' ≡ reply.DiskFault → Rose a.disk_faults c.disk_faults)
+      → FlushGoes table x z notes reply' a c
+  whole reply' flushes made leaf cause = record {
     flushes = flushes;
-    up = up_of z c serves owes (stands_on x z a c (makes_tables a.clock c.clock x.seated notes z.seated made) passes.tells up.stands crash_on);
+    up = leaf (stands_on x z a c up.stands crash_on (makes_tables a.clock c.clock x.seated notes z.seated made) passes.tells);
     made = made;
     crash = crash_on;
     region = region_on;
@@ -246,11 +235,13 @@ module _ {T E : Type 0} (table number n : ℕ) (pending : Option LogRecord) (x y
       let joined : notes ≡ (first ++ took ∷ []) ++ last ∷ [] = noted_on ∙ ap (λ (l : List Note). l ++ last ∷ []) noted in
       let made : Makes a.clock c.clock x.seated (between ++ last ∷ []) z.seated =
       makes_join a.clock b.clock c.clock x.seated taken z.seated between (last ∷ []) made_now (makes_one b.clock c.clock c.clock taken last z.seated outside.time.later (le_refl c.clock) one) in
+      let holds : Holds [] z.seated =
+      subst (Holds []) (sym one.now)
+      (flushed_holds [] taken holds_now taken_seated table one.table one.before one.after c.clock n one.at one.was one.made (λ past. spares_now one.table one.before one.at one.was) (λ before. absurd (omega (arith, before)))) in
       whole told
       (Flushes.done first number flushing n settled.noted fresh_now (joined ∙ append_assoc first (took ∷ []) (last ∷ [])) told_is none)
-      (serves_flushed c.clock n flushing table taken z.seated one taken_seated spares_now serves_now)
-      (owed_none z.seated z.owing.log.owed z.owing.owner z.owing.count none)
       (subst (λ (l : List Note). Makes a.clock c.clock x.seated l z.seated) (sym noted_on) made)
+      (λ stands. begun_up z c (quiet_is [] false z.seated z.owing c holds none (λ waits. absurd (false≢true waits)) stands))
       (λ is. absurd cc)
 
   pub flush_half : Bringing → IsErr result → FlushGoes table x z notes reply.DiskFault a c
@@ -260,12 +251,18 @@ module _ {T E : Type 0} (table number n : ℕ) (pending : Option LogRecord) (x y
       let counted : AtPlace (λ t v. n ≤ (state_seen (base_seen t) v).taken) taken table = count_taken b.clock table number n pending y.seated taken takes seated_now in
       let named : AtPlace (λ t v. name_of t ≡ r.name) taken table =
       subst (λ (q : Option LogRecord). IfSome q (λ s. AtPlace (λ t v. name_of t ≡ s.name) taken table)) is (named_taken b.clock table number n pending y.seated taken takes seated_now) in
-      let owes : OwedBy taken (Some r) table n = record { owes = (here, λ t v at sat. (counted t v at sat, named t v at sat)); spares = spares_now } in
+      let o : Owing = record { log = record { end = 0; owed = Some r; laid = false }; owner = table; count = n } in
+      let half : UpStands (record { seated = taken; owing = z.owing }) c → IsUp (record { seated = taken; owing = z.owing }) c = λ stands. record {
+        opened = λ place t v at sat. holds_now.opened place t v at sat (omega arith);
+        spares = λ place t v at sat. holds_now.spares place t v at sat (omega arith);
+        spares_owed = still_spares taken o z.owing 4 owed owner spares_now;
+        owed = still_owed taken o z.owing owed owner count (here, λ t v at sat. (counted t v at sat, named t v at sat));
+        stands = stands;
+      } in
       let made : Makes a.clock c.clock x.seated (between ++ []) z.seated =
       makes_join a.clock b.clock c.clock x.seated taken z.seated between [] made_now (Makes.none b.clock c.clock taken [] z.seated outside.time.later refl same) in
       whole reply.DiskFault
       (Flushes.half first number n settled.noted fresh_now (kept ∙ noted) refl (subst (λ (q : Option LogRecord). IsSome q) (sym owed) refl) owner count)
-      (subst Serves (sym same) serves_now)
-      (owed_same taken z.seated (Some r) z.owing.log.owed table z.owing.owner n z.owing.count same owed owner count owes)
       (subst (λ (l : List Note). Makes a.clock c.clock x.seated l z.seated) (append-nil between ∙ sym kept) made)
+      (subst (λ (s : Seated). UpStands (record { seated = s; owing = z.owing }) c → IsUp (record { seated = s; owing = z.owing }) c) (sym same) half)
       (λ is. rose_on (of_err result bad outside.cause.failed))

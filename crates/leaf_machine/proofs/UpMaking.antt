@@ -1,5 +1,5 @@
--- Entries that were made one after another, and what is told of them.
-use Rattle.std.proofs.Common.{◌≡◌, ℕ, ◌≤◌, true, Bool, List, [], ◌∷◌, ◌++◌, Option, Some, None, refl, sym, ap, subst, ◌∙◌, le_refl, le_trans}
+-- A table is taken, and what is told of it.
+use Rattle.std.proofs.Common.{◌≡◌, ℕ, true, Bool, List, [], ◌∷◌, ◌++◌, Option, Some, None, refl, sym, ap, subst, ◌∙◌, le_refl}
 use Rattle.std.specs.Prelude.{slice_get, slice_set}
 use Rattle.leaf_model.specs.declared.writes.Write.{Write}
 use Rattle.row_records.specs.Records.{LogRecord}
@@ -18,32 +18,16 @@ use Rattle.crash_states.specs.Standing.{Runs}
 use Rattle.crash_states.specs.Entries.{Enters}
 use Rattle.crash_serving.specs.Laws.{Owes, record_for, untaken_before}
 use Rattle.crash_serving.proofs.Running.{takes}
-use Rattle.leaf_steward.specs.declared.notes.Note.{Note}
 use Rattle.leaf_steward.specs.declared.notes.What.TheVariants as what
 use Rattle.leaf_steward.specs.Seated.{Seated, AreSeated, AreFounded, watched, watched_by}
-use Rattle.leaf_steward.specs.Making.{Makes, OneEntry, TakesAt}
+use Rattle.leaf_steward.specs.Making.{TakesAt}
 use Rattle.leaf_steward.proofs.WatchPlaces.{watch_all}
-use Rattle.leaf_steward.proofs.Watching.{made_enters, makes_more, watch_get, watch_set}
+use Rattle.leaf_steward.proofs.Keeping.{makes_one}
+use Rattle.leaf_steward.proofs.WatchEntries.{made_enters}
+use Rattle.leaf_steward.proofs.WatchMakes.{makes_more}
+use Rattle.leaf_steward.proofs.Watching.{watch_get, watch_set}
 use Rattle.leaf_steward.specs.Owing.{Owing, HasJustTaken}
 use Rattle.leaf_machine.proofs.UpSeats.{takes_entry}
-
--- ---- entries, one after another
-
-pub makes_one : (from clock to : ℕ) (x : Seated) (note : Note) (y : Seated) → from ≤ clock → clock ≤ to → OneEntry clock x note y → Makes from to x (note ∷ []) y
-makes_one from clock to x note y low high one = Makes.more from to x (note ∷ []) y clock note [] y low one (Makes.none clock to y [] y high refl refl) refl
-
--- they were made since an earlier clock too
-pub makes_since : (a b c : ℕ) (x : Seated) (notes : List Note) (y : Seated) → a ≤ b → Makes b c x notes y → Makes a c x notes y
-makes_since a b c x notes y low (Makes.none f u i ns o high no_note same) = Makes.none a c x notes y (le_trans low high) no_note same
-makes_since a b c x notes y low (Makes.more f u i ns o clock note rest between from one makes all) = Makes.more a c x notes y clock note rest between (le_trans low from) one makes all
-
-pub makes_join : (a b c : ℕ) (x y z : Seated) (first second : List Note) → Makes a b x first y → Makes b c y second z → Makes a c x (first ++ second) z
-makes_join a b c x y z first second (Makes.none f u i ns o low no_note same) later =
-    let since : Makes a c y second z = makes_since a b c y second z low later in
-    let begun : Makes a c x second z = subst (λ (s : Seated). Makes a c s second z) same since in
-    subst (λ (l : List Note). Makes a c x (l ++ second) z) (sym no_note) begun
-makes_join a b c x y z first second (Makes.more f u i ns o clock note rest between low one makes all) later =
-    Makes.more a c x (first ++ second) z clock note (rest ++ second) between low one (makes_join clock b c between y z rest second makes later) (ap (λ (l : List Note). l ++ second) all)
 
 -- ---- what is told
 
@@ -54,7 +38,7 @@ told_behind others xs ys zs a b more told =
 
 -- ---- a table was taken
 
-same_record : (name : List ℕ) (ws : List Write) → record_for name ws ≡ table.record_for name ws
+pub same_record : (name : List ℕ) (ws : List Write) → table.record_for name ws ≡ record_for name ws
 same_record name [] = refl
 same_record name (w ∷ ws) = refl
 
@@ -79,7 +63,7 @@ module _ (m : Meaning) (place number n : ℕ) (pending : Option LogRecord) (x y 
       let seen : List Entry = seen_of taken.before in
       let state : state_before base taken.before taken.made.between ≡ after true start (seen ++ enters.0.between) =
       ap (λ (b : Bool). after b start (seen ++ taken.made.between)) is_base ∙ ap (λ (es : List Entry). after true start (seen ++ es)) (sym enters.1) in
-      taken.record_is ∙ ap (λ (s : HistoryState). table.record_for (name_of taken.table) (untaken s)) state ∙ sym (same_record (name_of taken.table) (untaken_before enters.0))
+      taken.record_is ∙ ap (λ (s : HistoryState). table.record_for (name_of taken.table) (untaken s)) state ∙ same_record (name_of taken.table) (untaken_before enters.0)
 
   watched_now : watched_by y ≡ slice_set (watched_by x) place new
   watched_now = ap (λ (s : Seated). watched_by s) taken.now ∙ watch_set x place taken.table taken.after taken.at

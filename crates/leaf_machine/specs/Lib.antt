@@ -1,5 +1,6 @@
 pub mod States
 pub mod Starts
+pub mod Started
 pub mod Flushes
 pub mod UpFlush
 pub mod Prepares

@@ -1,7 +1,7 @@
 -- What each part of a step does of a leaf that shuts its tables.
 use Rattle.std.specs.Prelude.{◌≡◌, ℕ, true, false, List, [], ◌∷◌, ◌++◌, length, None, Result, Ok, Err, IsTrue, ⊤}
 use Rattle.berth_face.specs.Berth.{Meaning, Passes}
-use Rattle.berth_face.specs.Causes.{Rose}
+use Rattle.berth_face.specs.Causes.{HasCause, Rose}
 use Rattle.table_state.specs.Tables.{Table}
 use Rattle.leaf_steward.specs.declared.notes.Note.{Note}
 use Rattle.leaf_steward.specs.declared.notes.What.TheVariants as what
@@ -63,3 +63,9 @@ pub record PreparingShuts (old new : Shutting) (notes : List Note) : Type 0 wher
 abbrev pub ShutsNext : {T E : Type 0} → Shutting → Shutting → List Note → Result T E → Type 0
 ShutsNext x y notes (Ok done) = PreparingShuts x y notes
 ShutsNext x y notes (Err fault) = PreparingHalts x y notes
+
+-- all that shutting the next table does
+pub record PreparingGoes {T E : Type 0} (old new : Shutting) (before after : List Note) (m m' : Meaning) (r : Result T E) : Type 0 where
+  pub next : (made : List Note) × (after ≡ before ++ made) × ShutsNext old new made r
+  pub part : IsPartOfStep old.serving new.serving before after m m'
+  pub cause : HasCause m.disk_faults m'.disk_faults r

@@ -11,7 +11,7 @@ ghost use Rattle.crash_states.specs.Standing.{Copies};
 ghost use Rattle.leaf_steward.specs.Seated.{AreFounded, watched_by};
 ghost use Rattle.leaf_steward.specs.Making.{Makes};
 ghost use Rattle.leaf_machine.specs.States.{RestsOn};
-ghost use Rattle.leaf_machine.specs.Copies.{CopyGoesOn, IsCopyStep, IsInImage, LeavesRegion, berth_of_copy, seats_of_copy};
+ghost use Rattle.leaf_machine.specs.Copies.{CopyGoesOn, CopySteps, DrainMade, IsCopyStep, IsInImage, LeavesRegion, berth_of_copy, seats_of_copy};
 
 use crate::down::Down;
 use berth_face::{Berth, Gate};
@@ -86,6 +86,18 @@ impl<'t, B: Berth> Copying<'t, B> {
             result }
         ensures reads { (B.meaning (berth_of_copy result)).disk_reads ≡ (B.meaning self.entry.1).disk_reads }
     {
+        self.copy_on(rt, gate, notes)
+    }
+
+    // Makes one step of the copy. One clause has all that `step` ensures.
+    fn copy_on<R: Wait + Threads + Sync, G: Gate>(
+        self,
+        rt: &R,
+        gate: &G,
+        notes: &mut Notes,
+    ) -> Result<Copied<'t, B>, (Down<'t, B>, RegionFault)>
+        ensures { CopySteps B.meaning self.entry.0 (B.meaning self.entry.1) notes.new result }
+    {
         notes.clear();
         self.seats.sits();
         let Copying {
@@ -93,7 +105,7 @@ impl<'t, B: Berth> Copying<'t, B> {
             mut drain,
             mut berth,
         } = self;
-        match drain.step(&mut berth) {
+        match drain_on(&mut drain, &mut berth) {
             Ok(DrainStep::Finished) => {
                 seats.hand_over(rt, &berth, gate, notes);
                 Ok(Copied::Finished(Down { seats, berth }))
@@ -128,4 +140,12 @@ impl<'t, B: Berth> Copying<'t, B> {
     {
         self.berth
     }
+}
+
+// Makes one step of the drain. One clause has all that is known of it.
+fn drain_on<B: Berth>(drain: &mut Drain, berth: &mut B) -> Result<DrainStep, RegionFault>
+    requires more { drain.old.next ≢ next.Nothing }
+    ensures { DrainMade drain.old drain.new result (B.meaning berth.old) (B.meaning berth.new) }
+{
+    drain.step(berth)
 }

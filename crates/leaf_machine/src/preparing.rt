@@ -1,5 +1,5 @@
 // A leaf that shuts its tables.
-ghost use Rattle.std.specs.Prelude.{◌≡◌, ◌<◌, ◌≤◌, ◌+◌, ◌++◌, ℕ, List, [], length, None, true, false, IsOk, IsTrue, IfErr, OnOk, OnErr};
+ghost use Rattle.std.specs.Prelude.{◌≡◌, ◌<◌, ◌≤◌, ◌+◌, ℕ, List, [], length, None, true, false, IsOk, IsTrue, IfErr, OnOk, OnErr};
 ghost use Rattle.leaf_model.specs.declared.writes.Write.{Write};
 ghost use Rattle.berth_face.specs.Berth.{Passes};
 ghost use Rattle.berth_face.specs.Causes.{HasCause};
@@ -8,13 +8,12 @@ ghost use Rattle.turnstile.specs.Seats.{IsSeatOf, LearnsOthers, SeesAlso};
 ghost use Rattle.leaf_table.specs.Turns.{is_founded, start_of};
 ghost use Rattle.leaf_table.specs.Calls.{base_seen, seen_of, state_seen};
 ghost use Rattle.crash_states.specs.Standing.{Runs};
-ghost use Rattle.leaf_steward.specs.declared.notes.Note.{Note};
 ghost use Rattle.leaf_steward.specs.Seated.{AreFounded, AreSeated, AtEach, AtPlace, watched_by, with_seat};
 ghost use Rattle.leaf_steward.specs.Making.{EachNoted, IsClosedNote, Makes};
 ghost use Rattle.leaf_machine.specs.States.{IsShutAndTaken, RestsOn, treated};
 ghost use Rattle.leaf_machine.specs.declared.preparing.PrepareFault.TheVariants as prepare_fault;
 ghost use Rattle.leaf_machine.specs.Prepares.{CrowdsStep, PreparingHalts, IsTreatingStep, RoseStep, StepGoesOn, berth_of_step, seats_of_step, told_of_plan};
-ghost use Rattle.leaf_machine.specs.PrepParts.{IsAllTreated, IsNextTreated, IsPartOfStep, RoseNext, PreparingSettles, ShutsNext};
+ghost use Rattle.leaf_machine.specs.PrepParts.{IsAllTreated, IsNextTreated, IsPartOfStep, RoseNext, PreparingSettles, PreparingGoes};
 
 use crate::copying::Copying;
 use crate::down::Down;
@@ -349,11 +348,8 @@ impl<'t, B: Berth> Preparing<'t, B> {
         requires rests { self.old.0.waits ≡ false }
         requires none { self.old.0.serving.owing.log.owed ≡ None }
         requires room { length notes.old ≤ 1 }
-        ensures next { (made : List Note) × (notes.new ≡ notes.old ++ made)
-            × ShutsNext self.old.0 self.new.0 made result }
-        ensures part { IsPartOfStep self.old.0.serving self.new.0.serving notes.old notes.new (B.meaning self.old.1)
-            (B.meaning self.new.1) }
-        ensures cause { HasCause (B.meaning self.old.1).disk_faults (B.meaning self.new.1).disk_faults result }
+        ensures { PreparingGoes self.old.0 self.new.0 notes.old notes.new (B.meaning self.old.1)
+            (B.meaning self.new.1) result }
     {
         let place = self.first_open();
         let mut table = self.seats.shut(rt, place, &self.berth, gate, notes);

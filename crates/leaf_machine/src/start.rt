@@ -1,11 +1,12 @@
 // How a leaf at rest starts to serve its tables.
-ghost use Rattle.std.specs.Prelude.{◌≡◌, ◌≢◌, ℕ, List, Option, IfOk, IfErr, IsTrue, length};
+ghost use Rattle.std.specs.Prelude.{◌≡◌, ℕ, List, Option, IfOk, IfErr, IsTrue, length};
 ghost use Rattle.leaf_model.specs.declared.writes.Write.{Write};
 ghost use Rattle.row_records.specs.Records.{LogRecord};
 ghost use Rattle.berth_face.specs.Causes.{Rose};
 ghost use Rattle.berth_face.specs.Berth.{Passes};
 ghost use Rattle.disk_backup.specs.Scanning.{BeginsScan};
 ghost use Rattle.leaf_words.specs.declared.ways.Way.TheVariants as way;
+ghost use Rattle.region_layout.specs.Names.{AreNames};
 ghost use Rattle.leaf_opening.specs.Starts.{IsWayOf};
 ghost use Rattle.crash_moments.specs.Left.{NamedStates};
 ghost use Rattle.crash_states.specs.Standing.{Rests};
@@ -13,12 +14,14 @@ ghost use Rattle.leaf_steward.specs.Seated.{AreFounded, watched_by};
 ghost use Rattle.leaf_steward.specs.Making.{Makes};
 ghost use Rattle.leaf_machine.specs.declared.faults.StartFault.TheVariants as fault;
 ghost use Rattle.leaf_machine.specs.Starts.{CameUp, IsExactStart, IsStartRefused, IsStart, StartGoesOn, berth_after, seats_after};
+ghost use Rattle.leaf_machine.specs.Started.{Finds, Started};
 
 use crate::down::Down;
 use crate::faults::{StartFault, told};
 use crate::up::Up;
 use berth_face::{Berth, Gate};
-use leaf_opening::{Opened, open_tables};
+use leaf_model::Names;
+use leaf_opening::{OpenFault, Opened, open_tables};
 use leaf_steward::{Notes, StewardLog};
 use leaf_words::Way;
 use std::alloc::Global;
@@ -69,6 +72,19 @@ impl<'t, B: Berth> Down<'t, B> {
         ensures reads { IfOk result (λ x. x.1 ≡ way.Memory
             → (B.meaning x.0.1).disk_reads ≡ (B.meaning self.entry.1).disk_reads) }
     {
+        self.start_on(rt, alloc, gate, notes)
+    }
+
+    // Starts the leaf. One clause has all that `start` ensures.
+    fn start_on<R: Wait + Threads + Sync, G: Gate>(
+        self,
+        rt: &R,
+        alloc: Global,
+        gate: &G,
+        notes: &mut Notes,
+    ) -> Result<(Up<'t, B>, Way), (Down<'t, B>, StartFault)>
+        ensures { Started B.meaning self.entry.0 self.entry.1 notes.new result }
+    {
         notes.clear();
         self.seats.sits();
         if let Some(table) = self.seats.worn() {
@@ -78,7 +94,7 @@ impl<'t, B: Berth> Down<'t, B> {
             mut seats,
             mut berth,
         } = self;
-        match open_tables(alloc, seats.names(), &mut berth) {
+        match open_on(alloc, seats.names(), &mut berth) {
             Ok(opened) => {
                 let Opened { tables, log, way } = opened;
                 seats.open_all(rt, tables, &berth, gate, notes);
@@ -92,4 +108,12 @@ impl<'t, B: Berth> Down<'t, B> {
             Err(fault) => Err((Down { seats, berth }, told(fault))),
         }
     }
+}
+
+// Opens the tables of these names. One clause has all that is known of it.
+fn open_on<B: Berth>(alloc: Global, names: &Names, berth: &mut B) -> Result<Opened, OpenFault>
+    requires names { AreNames names.now }
+    ensures { Finds names.now result (B.meaning berth.old) (B.meaning berth.new) }
+{
+    open_tables(alloc, names, berth)
 }

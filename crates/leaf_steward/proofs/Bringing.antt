@@ -25,7 +25,8 @@ use Rattle.leaf_steward.specs.declared.notes.Note.{Note}
 use Rattle.leaf_steward.specs.Seated.{Seated, AreSeated, AreFounded, AtPlace, watched, watched_by}
 use Rattle.leaf_steward.specs.Making.{OneEntry}
 use Rattle.leaf_steward.proofs.WatchPlaces.{watch_all}
-use Rattle.leaf_steward.proofs.Watching.{made_enters, now_seen, watch_get, watch_set}
+use Rattle.leaf_steward.proofs.WatchEntries.{made_enters, now_seen}
+use Rattle.leaf_steward.proofs.Watching.{watch_get, watch_set}
 use Rattle.leaf_steward.specs.Owing.{Owing, SettlesOwed, Brings, RunsTo, flushed_note}
 
 -- ---- a log that is owed nothing, and the note of the table

@@ -1,21 +1,19 @@
--- What the steward's entries leave: its seats are as they have to be, at the same tables, and each entry takes at most
--- one of a seat's room.
-use Rattle.std.proofs.Common.{◌≡◌, ◌≢◌, ℕ, zero, suc, ◌+◌, ◌≤◌, List, length, Option, slice_get, sym, ap, ◌∙◌, subst, arith}
+-- What the steward's entries leave: its seats are as they have to be, at the same tables.
+use Rattle.std.proofs.Common.{◌≡◌, ◌≢◌, ℕ, ◌≤◌, true, List, [], ◌∷◌, ◌++◌, Option, refl, sym, ap, ◌∙◌, subst, le_trans}
+use Rattle.std.specs.List.{AllByRecursion}
 use Rattle.leaf_history.specs.Calls.{Call}
 use Rattle.leaf_history.specs.Calls as call
 use Rattle.leaf_history.specs.Replies.{EntryReply}
 use Rattle.leaf_history.specs.Replies as reply
-use Rattle.row_records.specs.Records.{LogRecord}
 use Rattle.leaf_table.specs.declared.base.TableBase.{TableBase}
-use Rattle.leaf_table.specs.Turns.{Shared}
-use Rattle.leaf_table.specs.Calls.{SeatView, Made, base_seen, state_seen, IsFresh, SeesOpen}
-use Rattle.leaf_table.proofs.Knowing.{open_after_take, taken_after_take, live_after_flushed}
+use Rattle.leaf_table.specs.Turns.{Shared, is_founded}
+use Rattle.leaf_table.specs.Calls.{SeatView, Made, base_seen}
 use Rattle.leaf_steward.specs.declared.notes.Note.{Note}
 use Rattle.leaf_steward.specs.declared.notes.What.{What}
 use Rattle.leaf_steward.specs.declared.notes.What.TheVariants.{Opened, Took, Flushed, Closed, Handed}
-use Rattle.leaf_steward.specs.Seated.{Seated, AtEach, AtPlace, AreSeated, IsUnused, Spares}
-use Rattle.leaf_steward.specs.Making.{MadeAs, Makes, OneEntry, TakesAt}
-use Rattle.leaf_steward.proofs.Seating.{each_with, keeps_seated, may_enter, same_at, seated_with, set_get, spares_less}
+use Rattle.leaf_steward.specs.Seated.{Seated, AtEach, AreSeated, AreFounded}
+use Rattle.leaf_steward.specs.Making.{MadeAs, Makes, OneEntry}
+use Rattle.leaf_steward.proofs.Seating.{each_with, keeps_seated, seated_with}
 
 -- some entry was made
 pub record SomeEntry (base : Option TableBase) (clock : ℕ) (v w : SeatView) : Type 0 where
@@ -46,6 +44,10 @@ pub entry_each : (P Q : ℕ → Shared → SeatView → Type 0) (clock : ℕ) (x
     → ((p : ℕ) (u : Shared) (v : SeatView) → p ≢ note.table → P p u v → Q p u v) → Q note.table one.table one.after → AtEach P x → AtEach Q y
 entry_each P Q clock x note y one others here each = subst (AtEach Q) (sym one.now) (each_with P Q x note.table one.table one.after one.at others here each)
 
+-- the same tables are founded
+pub founded_as : (x y : Seated) → y.tables ≡ x.tables → AreFounded x → AreFounded y
+founded_as x y same founded = subst (AllByRecursion (λ (t : Shared). is_founded (base_seen t) ≡ true)) (sym same) founded
+
 -- ---- many
 
 pub makes_tables : (from to : ℕ) (x : Seated) (notes : List Note) (y : Seated) → Makes from to x notes y → y.tables ≡ x.tables
@@ -56,4 +58,20 @@ pub makes_seated : (from to : ℕ) (x : Seated) (notes : List Note) (y : Seated)
 makes_seated from to x notes y s (Makes.none f u a ns b le is same) = subst AreSeated (sym same) s
 makes_seated from to x notes y s (Makes.more f u a ns b clock first rest between le one makes is) = makes_seated clock to between rest y (entry_seated clock x first between s one) makes
 
--- ---- a take, and a flush
+pub makes_order : (from to : ℕ) (x : Seated) (notes : List Note) (y : Seated) → Makes from to x notes y → from ≤ to
+makes_order from to x notes y (Makes.none f u a ns b low is same) = low
+makes_order from to x notes y (Makes.more f u a ns b clock first rest between low one makes is) = le_trans low (makes_order clock to between rest y makes)
+
+pub makes_one : (from clock to : ℕ) (x : Seated) (note : Note) (y : Seated) → from ≤ clock → clock ≤ to → OneEntry clock x note y → Makes from to x (note ∷ []) y
+makes_one from clock to x note y low high one = Makes.more from to x (note ∷ []) y clock note [] y low one (Makes.none clock to y [] y high refl refl) refl
+
+-- they were made since an earlier clock too
+pub makes_since : (a b c : ℕ) (x : Seated) (notes : List Note) (y : Seated) → a ≤ b → Makes b c x notes y → Makes a c x notes y
+makes_since a b c x notes y low (Makes.none f u i ns o high is same) = Makes.none a c x notes y (le_trans low high) is same
+makes_since a b c x notes y low (Makes.more f u i ns o clock first rest between from one makes is) = Makes.more a c x notes y clock first rest between (le_trans low from) one makes is
+
+pub makes_join : (a b c : ℕ) (x y z : Seated) (xs ys : List Note) → Makes a b x xs y → Makes b c y ys z → Makes a c x (xs ++ ys) z
+makes_join a b c x y z xs ys (Makes.none f u i ns o low is same) later =
+    subst (λ (l : List Note). Makes a c x (l ++ ys) z) (sym is) (subst (λ (s : Seated). Makes a c s ys z) same (makes_since a b c y ys z low later))
+makes_join a b c x y z xs ys (Makes.more f u i ns o clock first rest between low one makes is) later =
+    Makes.more a c x (xs ++ ys) z clock first (rest ++ ys) between low one (makes_join clock b c between y z rest ys makes later) (ap (λ (l : List Note). l ++ ys) is)

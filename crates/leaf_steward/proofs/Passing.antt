@@ -11,13 +11,7 @@ use Rattle.leaf_steward.specs.declared.notes.What.TheVariants.{Opened, Closed}
 use Rattle.leaf_steward.specs.Seated.{Seated, AtEach, AtPlace, Spares, with_seat}
 use Rattle.leaf_steward.specs.Making.{Makes, OneEntry, EachNoted, OpenedNotes, ShutsAt}
 use Rattle.leaf_steward.proofs.Seating.{each_with, same_at, set_get, set_other}
-
--- entries go on by one more
-pub makes_push : (from to : ℕ) (x : Seated) (notes : List Note) (y : Seated) (note : Note) (z : Seated) → Makes from to x notes y → OneEntry to y note z → Makes from to x (notes ++ note ∷ []) z
-makes_push from to x notes y note z (Makes.none f u a ns b le is same) one =
-    Makes.more from to x (notes ++ note ∷ []) z to note [] z le (subst (λ (s : Seated). OneEntry to s note z) same one) (Makes.none to to z [] z (le_refl to) refl refl) (ap (λ (l : List Note). l ++ note ∷ []) is)
-makes_push from to x notes y note z (Makes.more f u a ns b clock first rest between le made makes is) one =
-    Makes.more from to x (notes ++ note ∷ []) z clock first (rest ++ note ∷ []) between le made (makes_push clock to between rest y note z makes one) (ap (λ (l : List Note). l ++ note ∷ []) is)
+use Rattle.leaf_steward.proofs.Keeping.{makes_join, makes_one}
 
 pub makes_none : (clock : ℕ) (x : Seated) (notes : List Note) → notes ≡ [] → Makes clock clock x notes x
 makes_none clock x notes is = Makes.none clock clock x notes x (le_refl clock) is refl
@@ -74,7 +68,7 @@ passed_more Done clock first x place next notes after y z note h from then at on
     let done_here : Done one.table one.after = here one.table one.after (ap (λ (s : Seated). slice_get s.tables place) now ∙ table) (ap (λ (s : Seated). slice_get s.seats place) now ∙ set_get y.seats place one.before one.after was) in
     record {
       tables = ap (λ (s : Seated). s.tables) now ∙ h.tables;
-      made = subst (λ (l : List Note). Makes clock clock x l z) (sym is) (makes_push clock clock x notes y note z h.made one);
+      made = subst (λ (l : List Note). Makes clock clock x l z) (sym is) (makes_join clock clock clock x y z notes (note ∷ []) h.made (makes_one clock clock clock y note z (le_refl clock) (le_refl clock) one));
       done = subst (AtEach (λ p t v. first ≤ p → p < next → Done t v)) (sym now)
           (each_with (λ p t v. first ≤ p → p < place → Done t v) (λ p t v. first ≤ p → p < next → Done t v) y place one.table one.after table
           (λ p t v apart d low high. d low (omega (arith, apart, then, high))) (λ low high. done_here) h.done);

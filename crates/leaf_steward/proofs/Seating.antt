@@ -33,6 +33,12 @@ module _ {A : Type 0} where
   pub same_at : (xs : List A) (i : ℕ) (x y : A) → slice_get xs i ≡ Some x → slice_get xs i ≡ Some y → x ≡ y
   same_at xs i x y a b = some_same x y (sym a ∙ b)
 
+  -- a place below the length has one
+  pub some_at : (xs : List A) (i : ℕ) → i < length xs → (x : A) × (slice_get xs i ≡ Some x)
+  some_at [] i within = absurd (omega (arith, within))
+  some_at (x ∷ xs) zero within = (x, refl)
+  some_at (x ∷ xs) (suc i) within = some_at xs i (omega (arith, within))
+
   pub set_get : (xs : List A) (i : ℕ) (x y : A) → slice_get xs i ≡ Some x → slice_get (slice_set xs i y) i ≡ Some y
   set_get [] i x y at = absurd (no_place i x at)
   set_get (z ∷ xs) zero x y at = refl
@@ -68,6 +74,11 @@ each_with P Q x place t w at others here each = λ p u v table seat. by p u v ta
         let is : t ≡ u = same_at x.tables place t u at (subst (λ n. slice_get x.tables n ≡ Some u) h.0 table) in
         subst (λ n. Q n u v) (sym h.0) (subst (λ s. Q place u s) (sym h.1) (subst (λ s. Q place s w) is here))
     by p u v table (inr h) = others p u v h.0 (each p u v table h.1)
+
+-- what holds of the new seat holds at its place
+pub at_new : (P : Shared → SeatView → Type 0) (x : Seated) (place : ℕ) (t : Shared) (v w : SeatView) → slice_get x.tables place ≡ Some t → slice_get x.seats place ≡ Some v → P t w → AtPlace P (with_seat x place w) place
+at_new P x place t v w at was here = λ u s table seat.
+    subst (P u) (same_at (slice_set x.seats place w) place w s (set_get x.seats place v w was) seat) (subst (λ y. P y w) (same_at x.tables place t u at table) here)
 
 -- ---- one seat
 
@@ -183,8 +194,7 @@ everywhere P {x} {now} {place} {t} {v} h is here = subst (λ (y : Seated). AtPla
 
 -- what holds of the new seat
 pub there_now : (P : Shared → SeatView → Type 0) {x : Seated} {place : ℕ} {t : Shared} {v : SeatView} → SitsAt x place t v → (w : SeatView) → P t w → AtPlace P (with_seat x place w) place
-there_now P {x} {place} {t} {v} h w here = λ u s table seat.
-    subst (λ y. P u y) (same_at (slice_set x.seats place w) place w s (set_get x.seats place v w h.sat) seat) (subst (λ y. P y w) (same_at x.tables place t u h.at table) here)
+there_now P {x} {place} {t} {v} h w here = at_new P x place t v w h.at h.sat here
 
 -- the steward may enter where its seat spares an entry
 pub steward_at : {x now : Seated} {place : ℕ} {t : Shared} {v : SeatView} → SitsAt x place t v → x ≡ now → AtPlace (Spares 1) now place → IsSteward v

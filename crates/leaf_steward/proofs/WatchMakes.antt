@@ -1,18 +1,13 @@
 -- Entries that were made one after another, and where they leave the seat at each place.
-use Rattle.std.proofs.Common.{◌≡◌, ℕ, zero, suc, ◌+◌, ◌<◌, ◌≤◌, true, List, [], ◌∷◌, ◌++◌, length, Option, Some, refl, sym, ap, subst, ◌∙◌, arith, inl, inr, le_refl, le_trans, append-nil}
+use Rattle.std.proofs.Common.{◌≡◌, ℕ, zero, suc, ◌+◌, ◌<◌, ◌≤◌, true, List, [], ◌∷◌, ◌++◌, length, Some, refl, sym, ap, subst, ◌∙◌, arith, inl, inr, le_refl, le_trans, append-nil}
 use Rattle.std.specs.Prelude.{slice_get, slice_set}
-use Rattle.std.specs.List.{AllByRecursion}
 use Rattle.std.proofs.lemmas.Bool.{cases_eq}
-use Rattle.std.proofs.lemmas.List.{length-set}
 use Rattle.std.proofs.lemmas.Option.{none-some, same_Some}
 use Rattle.table_state.specs.Tables.{Table}
 use Rattle.leaf_history.specs.Calls.{Call}
-use Rattle.leaf_history.specs.Calls as call
 use Rattle.leaf_history.specs.Replies.{EntryReply}
-use Rattle.leaf_history.specs.Replies as reply
-use Rattle.leaf_table.specs.declared.base.TableBase.{TableBase}
 use Rattle.leaf_table.specs.Turns.{Shared, is_founded}
-use Rattle.leaf_table.specs.Calls.{SeatView, Made, base_seen}
+use Rattle.leaf_table.specs.Calls.{SeatView, base_seen}
 use Rattle.crash_moments.specs.Watched.{Watched}
 use Rattle.crash_moments.specs.Told.{SeenMore}
 use Rattle.crash_moments.proofs.Telling.{between_append, more_on, none_more}
@@ -20,21 +15,16 @@ use Rattle.crash_states.specs.Entries.{Enters, stewards}
 use Rattle.crash_states.proofs.Meeting.{callers_between}
 use Rattle.leaf_steward.specs.declared.notes.Note.{Note}
 use Rattle.leaf_steward.specs.declared.notes.What.{What}
-use Rattle.leaf_steward.specs.declared.notes.What.TheVariants.{Opened, Took, Flushed, Closed, Handed}
-use Rattle.leaf_steward.specs.Seated.{Seated, IsSeated, AreSeated, AreFounded, watched, watched_by, with_seat}
+use Rattle.leaf_steward.specs.declared.notes.What.TheVariants.{Opened}
+use Rattle.leaf_steward.specs.Seated.{Seated, AreSeated, AreFounded, watched, watched_by, with_seat}
 use Rattle.leaf_steward.specs.Making.{MadeAs, Makes, OneEntry, EachNoted, OpenedNotes}
-use Rattle.leaf_steward.proofs.WatchPlaces.{watch_all, watch_other, watch_put, watch_same, each_set, get_watch, set_watch}
-use Rattle.leaf_steward.proofs.WatchEntries.{enters_made, watch_stays}
+use Rattle.leaf_steward.proofs.Seating.{same_at, set_get, set_other}
+pub use Rattle.leaf_steward.proofs.Keeping.{makes_tables}
+use Rattle.leaf_steward.proofs.Keeping.{SomeEntry, entry_seated, entry_tables, founded_as, makes_order, some_entry}
+use Rattle.leaf_steward.proofs.WatchPlaces.{watch_all, get_watch, set_watch}
+use Rattle.leaf_steward.proofs.WatchEntries.{made_enters}
 
 -- ---- one entry
-
--- whatever a note tells of is one entry
-made_of : (base : Option TableBase) (clock : ℕ) (v w : SeatView) (what : What) → MadeAs base clock v what w → (c : Call) × (r : EntryReply) × Made base clock v c r w
-made_of base clock v w (Opened n) m = (call.Open n m.0, reply.Noted, m.1)
-made_of base clock v w (Took n) m = (call.Take, reply.Counted n, m)
-made_of base clock v w (Flushed n) m = (call.Flushed n, reply.Noted, m)
-made_of base clock v w (Closed n) m = (call.Shut, reply.Counted n, m)
-made_of base clock v w Handed m = (call.Done, reply.Noted, m)
 
 -- the table in one place has an entry more
 enters_more : (from to clock place : ℕ) (c : Call) (r : EntryReply) (w w' : Watched) (ws : List Watched) → from ≤ clock → clock ≤ to → slice_get ws place ≡ Some w → Enters clock c r w w' → SeenMore from to ws (slice_set ws place w')
@@ -51,55 +41,24 @@ enters_more from to clock zero c r w w' (v ∷ ws) low high at enters =
     )
 enters_more from to clock (suc place) c r w w' (v ∷ ws) low high at enters = ((refl, refl, ([], sym (append-nil v.seen), tt)), enters_more from to clock place c r w w' ws low high at enters)
 
-module _ (clock : ℕ) (x : Seated) (note : Note) (y : Seated) (one : OneEntry clock x note y) where
-  entry_tables : y.tables ≡ x.tables
-  entry_tables = ap (λ (s : Seated). s.tables) one.now
-
-  entry_founded : AreFounded x → AreFounded y
-  entry_founded founded = subst (λ (ts : List Shared). AllByRecursion (λ (t : Shared). is_founded (base_seen t) ≡ true) ts) (sym entry_tables) founded
-
-  entry_seated : AreSeated x → AreSeated y
-  entry_seated seated =
-      let made = made_of (base_seen one.table) clock one.before one.after note.what one.made in
-      let sits : IsSeated one.table one.after = watch_stays one.table one.before one.after clock made.0 made.1 (seated.each note.table one.table one.before one.at one.was) made.2 in
-      subst AreSeated (sym one.now) (record {
-        named = seated.named;
-        names = seated.names;
-        alike = seated.alike;
-        count = length-set x.seats note.table one.after ∙ seated.count;
-        each = each_set (λ place t v. IsSeated t v) x note.table one.table one.after one.at sits seated.each;
-      })
-
-  entry_more : (from to : ℕ) → from ≤ clock → clock ≤ to → AreSeated x → AreFounded x → SeenMore from to (watched_by x) (watched_by y)
-  entry_more from to low high seated founded =
-      let made = made_of (base_seen one.table) clock one.before one.after note.what one.made in
-      let is_base : is_founded (base_seen one.table) ≡ true = watch_all (λ (t : Shared). is_founded (base_seen t) ≡ true) x.tables note.table one.table founded one.at in
-      let enters : Enters clock made.0 made.1 (watched one.table one.before) (watched one.table one.after) =
-      (enters_made one.table one.before one.after clock made.0 made.1 is_base (seated.each note.table one.table one.before one.at one.was) made.2).0 in
-      let now : watched_by y ≡ slice_set (watched_by x) note.table (watched one.table one.after) = ap (λ (s : Seated). watched_by s) one.now ∙ set_watch x.tables x.seats note.table one.table one.after one.at in
-      subst (λ (ws : List Watched). SeenMore from to (watched_by x) ws) (sym now)
-      (enters_more from to clock note.table made.0 made.1 (watched one.table one.before) (watched one.table one.after) (watched_by x) low high (get_watch x.tables x.seats note.table one.table one.before one.at one.was) enters)
+entry_more : (clock : ℕ) (x : Seated) (note : Note) (y : Seated) → OneEntry clock x note y → (from to : ℕ) → from ≤ clock → clock ≤ to → AreSeated x → AreFounded x → SeenMore from to (watched_by x) (watched_by y)
+entry_more clock x note y one from to low high seated founded =
+    let made : SomeEntry (base_seen one.table) clock one.before one.after = some_entry (base_seen one.table) clock one.before note.what one.after one.made in
+    let is_base : is_founded (base_seen one.table) ≡ true = watch_all (λ (t : Shared). is_founded (base_seen t) ≡ true) x.tables note.table one.table founded one.at in
+    let enters : Enters clock made.call made.reply (watched one.table one.before) (watched one.table one.after) =
+    (made_enters one.table one.before one.after clock made.call made.reply is_base (seated.each note.table one.table one.before one.at one.was) made.made).0 in
+    let now : watched_by y ≡ slice_set (watched_by x) note.table (watched one.table one.after) = ap (λ (s : Seated). watched_by s) one.now ∙ set_watch x.tables x.seats note.table one.table one.after one.at in
+    subst (λ (ws : List Watched). SeenMore from to (watched_by x) ws) (sym now)
+    (enters_more from to clock note.table made.call made.reply (watched one.table one.before) (watched one.table one.after) (watched_by x) low high (get_watch x.tables x.seats note.table one.table one.before one.at one.was) enters)
 
 -- ---- entries, one after another
 
-pub makes_order : (from to : ℕ) (x : Seated) (notes : List Note) (y : Seated) → Makes from to x notes y → from ≤ to
-makes_order from to x notes y (Makes.none f u a ns b low no_note same) = low
-makes_order from to x notes y (Makes.more f u a ns b clock note rest between low one makes all) = le_trans low (makes_order clock to between rest y makes)
-
-pub makes_tables : (from to : ℕ) (x : Seated) (notes : List Note) (y : Seated) → Makes from to x notes y → y.tables ≡ x.tables
-makes_tables from to x notes y (Makes.none f u a ns b low no_note same) = ap (λ (s : Seated). s.tables) same
-makes_tables from to x notes y (Makes.more f u a ns b clock note rest between low one makes all) = makes_tables clock to between rest y makes ∙ entry_tables clock x note between one
-
-pub makes_seated : (from to : ℕ) (x : Seated) (notes : List Note) (y : Seated) → Makes from to x notes y → AreSeated x → AreSeated y
-makes_seated from to x notes y (Makes.none f u a ns b low no_note same) seated = subst AreSeated (sym same) seated
-makes_seated from to x notes y (Makes.more f u a ns b clock note rest between low one makes all) seated = makes_seated clock to between rest y makes (entry_seated clock x note between one seated)
-
-pub more_makes : (from to : ℕ) (x : Seated) (notes : List Note) (y : Seated) → Makes from to x notes y → AreSeated x → AreFounded x → SeenMore from to (watched_by x) (watched_by y)
-more_makes from to x notes y (Makes.none f u a ns b low no_note same) seated founded = subst (λ (s : Seated). SeenMore from to (watched_by x) (watched_by s)) (sym same) (none_more from to (watched_by x))
-more_makes from to x notes y (Makes.more f u a ns b clock note rest between low one makes all) seated founded =
+pub makes_more : (from to : ℕ) (x : Seated) (notes : List Note) (y : Seated) → AreSeated x → AreFounded x → Makes from to x notes y → SeenMore from to (watched_by x) (watched_by y)
+makes_more from to x notes y seated founded (Makes.none f u a ns b low no_note same) = subst (λ (s : Seated). SeenMore from to (watched_by x) (watched_by s)) (sym same) (none_more from to (watched_by x))
+makes_more from to x notes y seated founded (Makes.more f u a ns b clock note rest between low one makes all) =
     let on : clock ≤ to = makes_order clock to between rest y makes in
     more_on from clock to (watched_by x) (watched_by between) (watched_by y) low on (entry_more clock x note between one from clock low (le_refl clock) seated founded)
-    (more_makes clock to between rest y makes (entry_seated clock x note between one seated) (entry_founded clock x note between one founded))
+    (makes_more clock to between rest y (entry_seated clock x note between seated one) (founded_as x between (entry_tables clock x note between one) founded) makes)
 
 -- ---- each of so many tables, from a place on, has one entry
 
@@ -167,7 +126,7 @@ went_more P from to first count fewer clock x note between y more place_is kind 
     now = one.now ∙ ap (λ (k : ℕ). with_seat x k one.after) place_is
 
     others : (place : ℕ) → (first ≡ place → ⊥) → slice_get between.seats place ≡ slice_get x.seats place
-    others place apart = ap (λ (s : Seated). slice_get s.seats place) now ∙ watch_other x.seats first place one.after apart
+    others place apart = ap (λ (s : Seated). slice_get s.seats place) now ∙ set_other x.seats first place one.after (λ e. apart (sym e))
 
     old : (place : ℕ) → place < first → slice_get y.seats place ≡ slice_get x.seats place
     old place lower = went.before place (omega (arith, lower)) ∙ others place (λ e. omega (arith, e, lower))
@@ -175,10 +134,10 @@ went_more P from to first count fewer clock x note between y more place_is kind 
     -- the entry that was made first is that of the first place
     here : (t : Shared) (v w : SeatView) → slice_get x.tables first ≡ Some t → slice_get x.seats first ≡ Some v → slice_get y.seats first ≡ Some w → MadeAt P from to first t v w
     here t v w at was is =
-        let table : one.table ≡ t = watch_same (slice_get x.tables first) one.table t (subst (λ (k : ℕ). slice_get x.tables k ≡ Some one.table) place_is one.at) at in
-        let before : one.before ≡ v = watch_same (slice_get x.seats first) one.before v (subst (λ (k : ℕ). slice_get x.seats k ≡ Some one.before) place_is one.was) was in
+        let table : one.table ≡ t = same_at x.tables first one.table t (subst (λ (k : ℕ). slice_get x.tables k ≡ Some one.table) place_is one.at) at in
+        let before : one.before ≡ v = same_at x.seats first one.before v (subst (λ (k : ℕ). slice_get x.seats k ≡ Some one.before) place_is one.was) was in
         let put : slice_get (slice_set x.seats first one.after) first ≡ Some w = ap (λ (s : Seated). slice_get s.seats first) (sym now) ∙ sym (went.before first (omega arith)) ∙ is in
-        let after : one.after ≡ w = watch_put x.seats first one.after w put in
+        let after : one.after ≡ w = same_at (slice_set x.seats first one.after) first one.after w (set_get x.seats first v one.after was) put in
         let by_table : MadeAs (base_seen t) clock one.before note.what one.after = subst (λ (u : Shared). MadeAs (base_seen u) clock one.before note.what one.after) table one.made in
         let by_seat : MadeAs (base_seen t) clock v note.what one.after = subst (λ (u : SeatView). MadeAs (base_seen t) clock u note.what one.after) before by_table in
         record { clock = clock; low = low; high = high; what = note.what; noted = kind; made = subst (λ (u : SeatView). MadeAs (base_seen t) clock v note.what u) after by_seat }

@@ -6,42 +6,26 @@ use Rattle.std.proofs.lemmas.Option.{slice_get_within}
 use Rattle.leaf_model.specs.declared.writes.Write.{Write}
 use Rattle.table_state.specs.Tables.{Table}
 use Rattle.leaf_model.specs.Content.{Contents, content}
-use Rattle.leaf_history.specs.Calls.{Call}
 use Rattle.leaf_history.specs.Calls as call
-use Rattle.leaf_history.specs.Replies.{EntryReply}
 use Rattle.leaf_history.specs.Replies as reply
-use Rattle.leaf_history.specs.History.{HistoryState, LegalFrom}
-use Rattle.turnstile.specs.Seats.{LearnsOthers, SeesAlso}
+use Rattle.leaf_history.specs.History.{HistoryState}
 use Rattle.leaf_table.specs.declared.base.TableBase.{TableBase}
-use Rattle.leaf_table.specs.Turns.{Shared, is_founded, start_of}
-use Rattle.leaf_table.specs.Calls.{SeatView, Made, base_seen, name_of, seen_of, state_seen, SeesShut}
-use Rattle.crash_moments.specs.Watched.{Watched, now_of}
-use Rattle.crash_moments.specs.Told.{SeenMore}
+use Rattle.leaf_table.specs.Turns.{Shared, is_founded}
+use Rattle.leaf_table.specs.Calls.{SeatView, Made, base_seen, name_of, SeesShut}
+use Rattle.crash_moments.specs.Watched.{IsFoundation, Watched, now_of}
 use Rattle.crash_states.specs.Standing.{MayHave}
-use Rattle.crash_states.specs.Entries.{Enters, Learns, ShutsAll, OpensAll, HandsAll}
+use Rattle.crash_states.specs.Entries.{ShutsAll, OpensAll, HandsAll}
 use Rattle.leaf_steward.specs.declared.notes.Note.{Note}
 use Rattle.leaf_steward.specs.declared.notes.What.{What}
 use Rattle.leaf_steward.specs.declared.notes.What.TheVariants.{Opened, Took, Flushed, Closed, Handed}
 use Rattle.leaf_steward.specs.Seated.{Seated, IsSeated, AreSeated, AreFounded, AtEach, watched, watched_by, with_seat}
 use Rattle.leaf_steward.specs.Making.{MadeAs, Makes, EachNoted, IsClosedNote, IsHandedNote, OpenedNotes}
-use Rattle.leaf_steward.proofs.WatchPlaces.{watch_all, watch_same, get_watch, at_watch, set_watch, names_watch, length_watch, pair_watch}
-use Rattle.leaf_steward.proofs.WatchEntries.{enters_made, seen_now, learns_met, watch_contents}
-use Rattle.leaf_steward.proofs.WatchMakes.{IsOpenedAs, MadeAt, Went, each_noted, opened_noted, makes_seated, makes_tables, makes_went, more_makes}
-use Rattle.leaf_steward.proofs.WatchLists.{ShutsOne, OpensOne, HandsOne, shuts_all, opens_all, hands_all}
-
--- an entry of the steward at a founded table: what came between is what callers did just before it
-pub made_enters : (t : Shared) (v w : SeatView) (clock : ℕ) (c : Call) (r : EntryReply) → is_founded (base_seen t) ≡ true → IsSeated t v → (made : Made (base_seen t) clock v c r w)
-    → (e : Enters clock c r (watched t v) (watched t w)) × (e.between ≡ made.between)
-made_enters t v w clock c r founded seated made = enters_made t v w clock c r founded seated made
-
--- the state that a seat has seen is the watched table's
-pub now_seen : (t : Shared) (v : SeatView) → is_founded (base_seen t) ≡ true → now_of (watched t v) ≡ state_seen (base_seen t) v
-now_seen t v founded = seen_now t v founded
-
--- a meeting at a founded table
-pub met_learns : (t : Shared) (v u w : SeatView) → is_founded (base_seen t) ≡ true → IsSeated t v → SeesAlso v u w → LearnsOthers v w → LegalFrom (is_founded (base_seen t)) (start_of (base_seen t)) (seen_of w)
-    → Learns (watched t v) (watched t w)
-met_learns t v u w founded seated told others legal = learns_met t v u w founded seated told others legal
+use Rattle.leaf_steward.proofs.Seating.{same_at}
+use Rattle.leaf_steward.proofs.Keeping.{makes_seated, makes_tables}
+use Rattle.leaf_steward.proofs.WatchPlaces.{watch_all, get_watch, at_watch, set_watch, names_watch, length_watch, pair_watch}
+use Rattle.leaf_steward.proofs.WatchEntries.{made_enters, now_seen, watch_contents}
+use Rattle.leaf_steward.proofs.WatchMakes.{IsOpenedAs, MadeAt, Went, each_noted, opened_noted, makes_went}
+use Rattle.leaf_steward.proofs.WatchLists.{ShutsOne, OpensOne, HandsOne, pairs_all}
 
 -- places
 pub watch_get : (x : Seated) (place : ℕ) (t : Shared) (v : SeatView) → slice_get x.tables place ≡ Some t → slice_get x.seats place ≡ Some v → slice_get (watched_by x) place ≡ Some (watched t v)
@@ -60,15 +44,11 @@ watch_names x seated = names_watch x.tables x.seats seated.count ∙ seated.name
 pub watch_length : (x : Seated) → AreSeated x → length (watched_by x) ≡ length x.tables
 watch_length x seated = length_watch x.tables x.seats seated.count
 
--- the entries of a call, as what the seats have learned
-pub makes_more : (from to : ℕ) (x : Seated) (notes : List Note) (y : Seated) → AreSeated x → AreFounded x → Makes from to x notes y → SeenMore from to (watched_by x) (watched_by y)
-makes_more from to x notes y seated founded makes = more_makes from to x notes y makes seated founded
-
 -- ---- the entries of each table, as what the seats have learned
 
 same_length : (clock : ℕ) (x : Seated) (notes : List Note) (y : Seated) → AreSeated x → Makes clock clock x notes y → length (watched_by y) ≡ length (watched_by x)
 same_length clock x notes y seated makes =
-    watch_length y (makes_seated clock clock x notes y makes seated) ∙ ap (λ (ts : List Shared). length ts) (makes_tables clock clock x notes y makes) ∙ sym (watch_length x seated)
+    watch_length y (makes_seated clock clock x notes y seated makes) ∙ ap (λ (ts : List Shared). length ts) (makes_tables clock clock x notes y makes) ∙ sym (watch_length x seated)
 
 founded_at : (x : Seated) (place : ℕ) (t : Shared) → AreFounded x → slice_get x.tables place ≡ Some t → is_founded (base_seen t) ≡ true
 founded_at x place t founded at = watch_all (λ (s : Shared). is_founded (base_seen s) ≡ true) x.tables place t founded at
@@ -98,7 +78,7 @@ shuts_one : (clock first count : ℕ) (x y : Seated) → AreSeated x → AreFoun
     → (place : ℕ) (t : Shared) (v w : SeatView) → slice_get x.tables place ≡ Some t → slice_get x.seats place ≡ Some v → slice_get y.seats place ≡ Some w → ShutsOne clock (watched t v) (watched t w)
 shuts_one clock first count x y seated founded went all shut place t v w here was is = elim (cases_lt place first) [
   | inl lower ↦
-      let same : w ≡ v = watch_same (slice_get x.seats place) w v (sym (went.before place lower) ∙ is) was in
+      let same : w ≡ v = same_at x.seats place w v (sym (went.before place lower) ∙ is) was in
       inl (ap (λ (s : HistoryState). s.live) (now_seen t v (founded_at x place t founded here)) ∙ shut place t v here was lower, ap (λ (u : SeatView). watched t u) same)
   | inr least ↦
       let m : MadeAt (λ i what. IsClosedNote what) clock clock place t v w = went.noted place t v w least (omega (arith, slice_get_within x.tables place t here, all)) here was is in
@@ -114,10 +94,11 @@ hands_one clock x y seated founded went place t v w here was is =
     (made_enters t v w clock call.Done reply.Noted (founded_at x place t founded here) (seated.each place t v here was) made).0
 
 opens_one : (clock : ℕ) (x y : Seated) (tables : List Table) (writes : List ℕ → List Write) → AreSeated x → AreFounded x → Went (IsOpenedAs tables) clock clock 0 (length tables) x y → length tables ≡ length x.tables
+    → ((place : ℕ) (w : Watched) → slice_get (watched_by x) place ≡ Some w → IsFoundation (now_of w))
     → ((place : ℕ) (w : Watched) (t : Table) → slice_get (watched_by x) place ≡ Some w → slice_get tables place ≡ Some t → t.writes ≡ length (writes w.name))
     → ((place : ℕ) (w : Watched) → slice_get (watched_by x) place ≡ Some w → MayHave (writes w.name) (now_of w))
     → (place : ℕ) (t : Shared) (v w : SeatView) → slice_get x.tables place ≡ Some t → slice_get x.seats place ≡ Some v → slice_get y.seats place ≡ Some w → OpensOne clock writes (watched t v) (watched t w)
-opens_one clock x y tables writes seated founded went count are may place t v w here was is =
+opens_one clock x y tables writes seated founded went count sound are may place t v w here was is =
     let m : MadeAt (IsOpenedAs tables) clock clock place t v w = went.noted place t v w (omega arith) (omega (arith, slice_get_within x.tables place t here, count)) here was is in
     let n : ℕ = m.noted.0.writes in
     let made : MadeAs (base_seen t) clock v (Opened n) w = subst (λ (what : What). MadeAs (base_seen t) clock v what w) m.noted.2 (made_then (IsOpenedAs tables) clock place t v w m) in
@@ -126,7 +107,7 @@ opens_one clock x y tables writes seated founded went count are may place t v w 
     let as_many : n ≡ length own = are place (watched t v) m.noted.0 there m.noted.1 in
     let is_base : is_founded (base_seen t) ≡ true = founded_at x place t founded here in
     let sits : IsSeated t v = seated.each place t v here was in
-    let contents : made.0 ≡ content own = watch_contents t v w clock n made.0 own is_base sits made.1 (may place (watched t v) there) as_many in
+    let contents : made.0 ≡ content own = watch_contents t v w clock n made.0 own is_base sits made.1 (sound place (watched t v) there) (may place (watched t v) there) as_many in
     let with_contents : Made (base_seen t) clock v (call.Open n (content own)) reply.Noted w = subst (λ (c : Contents). Made (base_seen t) clock v (call.Open n c) reply.Noted w) contents made.1 in
     let opened : Made (base_seen t) clock v (call.Open (length own) (content own)) reply.Noted w = subst (λ (k : ℕ). Made (base_seen t) clock v (call.Open k (content own)) reply.Noted w) as_many with_contents in
     (made_enters t v w clock (call.Open (length own) (content own)) reply.Noted is_base sits opened).0
@@ -136,7 +117,7 @@ pub makes_shuts : (clock first count : ℕ) (x : Seated) (notes : List Note) (y 
     → EachNoted IsClosedNote first count notes → AtEach (λ place t v. place < first → SeesShut t v) x → ShutsAll clock (watched_by x) (watched_by y)
 makes_shuts clock first count x notes y seated founded makes all each shut =
     let went : Went (λ i what. IsClosedNote what) clock clock first count x y = makes_went (λ i what. IsClosedNote what) clock clock first count x notes y makes (each_noted IsClosedNote first count notes each) in
-    shuts_all clock (watched_by x) (watched_by y) (same_length clock x notes y seated makes)
+    pairs_all (ShutsOne clock) (ShutsAll clock) tt (λ w w' ws ws' one all. (one, all)) (watched_by x) (watched_by y) (same_length clock x notes y seated makes)
     (pair_watch (λ place a b. ShutsOne clock a b) x y (makes_tables clock clock x notes y makes) (shuts_one clock first count x y seated founded went all shut))
 
 -- each table is handed over
@@ -145,20 +126,21 @@ pub makes_hands : (clock : ℕ) (x : Seated) (notes : List Note) (y : Seated) �
 makes_hands clock x notes y seated founded makes each =
     let went : Went (λ i what. IsHandedNote what) clock clock 0 (length x.tables) x y =
     makes_went (λ i what. IsHandedNote what) clock clock 0 (length x.tables) x notes y makes (each_noted IsHandedNote 0 (length x.tables) notes each) in
-    hands_all clock (watched_by x) (watched_by y) (same_length clock x notes y seated makes)
+    pairs_all (HandsOne clock) (HandsAll clock) tt (λ w w' ws ws' one all. (one, all)) (watched_by x) (watched_by y) (same_length clock x notes y seated makes)
     (pair_watch (λ place a b. HandsOne clock a b) x y (makes_tables clock clock x notes y makes) (hands_one clock x y seated founded went))
 
 -- each table is opened with these writes
 pub makes_opens : (clock : ℕ) (x : Seated) (tables : List Table) (writes : List ℕ → List Write) (notes : List Note) (y : Seated) → AreSeated x → AreFounded x → Makes clock clock x notes y
     → OpenedNotes 0 tables notes → length tables ≡ length x.tables
+    → ((place : ℕ) (w : Watched) → slice_get (watched_by x) place ≡ Some w → IsFoundation (now_of w))
     → ((place : ℕ) (w : Watched) (t : Table) → slice_get (watched_by x) place ≡ Some w → slice_get tables place ≡ Some t → t.writes ≡ length (writes w.name))
     → ((place : ℕ) (w : Watched) → slice_get (watched_by x) place ≡ Some w → MayHave (writes w.name) (now_of w))
     → OpensAll clock writes (watched_by x) (watched_by y)
-makes_opens clock x tables writes notes y seated founded makes each count are may =
+makes_opens clock x tables writes notes y seated founded makes each count sound are may =
     let went : Went (IsOpenedAs tables) clock clock 0 (length tables) x y =
     makes_went (IsOpenedAs tables) clock clock 0 (length tables) x notes y makes (opened_noted tables 0 tables notes (λ i t at. subst (λ (k : ℕ). slice_get tables k ≡ Some t) (none_before i) at) each) in
-    opens_all clock writes (watched_by x) (watched_by y) (same_length clock x notes y seated makes)
-    (pair_watch (λ place a b. OpensOne clock writes a b) x y (makes_tables clock clock x notes y makes) (opens_one clock x y tables writes seated founded went count are may))
+    pairs_all (OpensOne clock writes) (OpensAll clock writes) tt (λ w w' ws ws' one all. (one, all)) (watched_by x) (watched_by y) (same_length clock x notes y seated makes)
+    (pair_watch (λ place a b. OpensOne clock writes a b) x y (makes_tables clock clock x notes y makes) (opens_one clock x y tables writes seated founded went count sound are may))
   where
     none_before : (i : ℕ) → i ≡ 0 + i
     none_before i = omega arith

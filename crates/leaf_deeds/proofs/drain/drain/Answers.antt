@@ -1,4 +1,4 @@
-use Rattle.std.proofs.Common.{◌++◌, ◌+◌, ◌≤◌, length, sym, subst, arith}
+use Rattle.std.proofs.Common.{◌++◌, ◌+◌, sym, subst, arith}
 use Rattle.berth_face.specs.Berth.{Passes}
 use Rattle.berth_face.proofs.Moments.{passes_on}
 use Rattle.printed_lines.specs.declared.line.Ending.TheVariants.{Stopped}

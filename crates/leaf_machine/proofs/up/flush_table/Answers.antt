@@ -28,7 +28,7 @@ take-requires-clause-open_ g c κs within =
     let told = c.settle_owed.ensures in
     let goes : Goes x y c.settle_owed.new.notes (g.B.Berth.meaning c.args.berth.now) (g.B.Berth.meaning c.settle_owed.new.berth) =
     settle_goes x y c.clear.new.self c.settle_owed.new.notes c.settle_owed.result (g.B.Berth.meaning c.args.berth.now) (g.B.Berth.meaning c.settle_owed.new.berth) c.requires.up c.sits.ensures c.clear.ensures told.runs (record { region = told.region; time = told.time; cause = told.cause; reads = told.reads }) told.settles in
-    goes.serves.opened c.args.table
+    goes.up.opened c.args.table
 
 pub take-requires-clause-spares : goal.take-requires-clause-spares
 take-requires-clause-spares g c κs within =
@@ -37,7 +37,7 @@ take-requires-clause-spares g c κs within =
     let told = c.settle_owed.ensures in
     let goes : Goes x y c.settle_owed.new.notes (g.B.Berth.meaning c.args.berth.now) (g.B.Berth.meaning c.settle_owed.new.berth) =
     settle_goes x y c.clear.new.self c.settle_owed.new.notes c.settle_owed.result (g.B.Berth.meaning c.args.berth.now) (g.B.Berth.meaning c.settle_owed.new.berth) c.requires.up c.sits.ensures c.clear.ensures told.runs (record { region = told.region; time = told.time; cause = told.cause; reads = told.reads }) told.settles in
-    λ t v at sat. let three = goes.serves.spares c.args.table t v at sat in omega (arith, three)
+    λ t v at sat. let three = goes.up.spares c.args.table t v at sat in omega (arith, three)
 
 pub returns-in_default : goal.returns-in_default
 returns-in_default g c =

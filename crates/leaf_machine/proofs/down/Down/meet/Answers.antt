@@ -1,12 +1,12 @@
-use Rattle.std.proofs.Common.{◌≡◌, ◌<◌, length, false, subst, sym, ap}
+use Rattle.std.proofs.Common.{◌≡◌, ◌<◌, length, subst, sym, ap}
 use Rattle.leaf_history.specs.History.{LegalFrom}
 use Rattle.turnstile.specs.Seats.{IsSeatOf, LearnsOthers, SeesAlso}
 use Rattle.leaf_table.specs.Turns.{is_founded, start_of}
 use Rattle.leaf_table.specs.Calls.{SeatView, base_seen, seen_of}
 use Rattle.crash_states.specs.Standing.{Rests}
 use Rattle.leaf_steward.specs.Seated.{Seated, AreFounded, AtPlace, watched_by, with_seat}
-use Rattle.leaf_machine.proofs.UpOwing.{founded_as}
-use Rattle.leaf_machine.proofs.UpMeeting.{Meets, meets_in, met_tables, met_live, met_rest}
+use Rattle.leaf_steward.proofs.Keeping.{founded_as}
+use Rattle.leaf_machine.proofs.Meeting.{Meets, meets_in, met_tables, met_shut, met_rest}
 use Rattle.leaf_machine.proofs.down.Down.meet.Goals as goal
 
 pub meet-requires-clause-seat : goal.meet-requires-clause-seat
@@ -20,7 +20,7 @@ invariant_of-self g c =
     let m = g.B.Berth.meaning c.self.inside.berth in
     let down = c.self.invariant in
     record {
-      shut = met_live c.self.inside.seats c.meet.new.self c.args.table met c.sits.ensures false down.shut;
+      shut = met_shut c.self.inside.seats c.meet.new.self c.args.table met c.sits.ensures down.shut;
       stands = λ founded.
           let before : AreFounded c.self.inside.seats = founded_as c.meet.new.self c.self.inside.seats (sym (met_tables c.self.inside.seats c.meet.new.self c.args.table met c.sits.ensures)) founded in
           let told = down.stands before in

@@ -6,7 +6,7 @@ use Rattle.leaf_steward.specs.declared.notes.Note.{Note}
 use Rattle.leaf_steward.specs.Seated.{Seated, AreSeated, AtPlace}
 use Rattle.leaf_steward.specs.Owing.{Owing, Brings}
 use Rattle.leaf_machine.specs.States.{Shutting, IsShutting, treated}
-use Rattle.leaf_machine.specs.PrepParts.{IsPartOfStep, ShutsNext}
+use Rattle.leaf_machine.specs.PrepParts.{PreparingGoes, ShutsNext}
 use Rattle.leaf_machine.specs.Shut.{AreFewShut}
 use Rattle.leaf_machine.proofs.PrepFew.{brought_few, count_next}
 use Rattle.leaf_machine.proofs.PrepNames.{as_put, treated_put}
@@ -81,8 +81,8 @@ invariant_of-self g c =
       subst (AreFewShut z) (sym c.put.ensures.columns) few,
     )
 
-pub returns-clause-next : goal.returns-clause-next
-returns-clause-next g c =
+pub returns : goal.returns
+returns g c =
     let x : Shutting = record { serving = record { seated = c.self.inside.seats; owing = c.self.inside.log }; closed = c.self.inside.tables.closed; waits = c.self.inside.tables.waits } in
     let m = g.B.Berth.meaning c.self.inside.berth in
     let sits : AreSeated x.serving.seated = subst (λ v. AreSeated v.0.serving.seated) (sym c.self.view_is) c.first_open-place.ensures.seated in
@@ -105,30 +105,12 @@ returns-clause-next g c =
     let open_ : x.waits ≡ false = subst (λ v. v.0.waits ≡ false) (sym c.self.view_is) c.requires.rests in
     let tables = c.put.new.self in
     let closed : List Table = x.closed ++ bare now ∷ [] in
-    subst (λ v. (made : List Note) × (new ≡ old ++ made) × ShutsNext v.0 (record { serving = record { seated = z; owing = o }; closed = tables.closed; waits = tables.waits }) made result) c.self.view_is
-    (as_put (λ l b. (made : List Note) × (new ≡ old ++ made) × ShutsNext x (record { serving = record { seated = z; owing = o }; closed = l; waits = b }) made result) closed tables.closed tables.waits
-    c.put.ensures.closed c.put.ensures.waits (brought_next x m c.self.invariant.0 sits none place shut.0 next t now taken y shut.1 c.take_pending-pending.ensures m' z o result old mid new shut.2 brings c.bring.ensures.time c.bring.ensures.runs open_))
-
-pub returns-clause-part : goal.returns-clause-part
-returns-clause-part g c =
-    let x : Shutting = record { serving = record { seated = c.self.inside.seats; owing = c.self.inside.log }; closed = c.self.inside.tables.closed; waits = c.self.inside.tables.waits } in
-    let m = g.B.Berth.meaning c.self.inside.berth in
-    let sits : AreSeated x.serving.seated = subst (λ v. AreSeated v.0.serving.seated) (sym c.self.view_is) c.first_open-place.ensures.seated in
-    let none : x.serving.owing.log.owed ≡ None = subst (λ v. v.0.serving.owing.log.owed ≡ None) (sym c.self.view_is) c.requires.none in
-    let place : ℕ = c.first_open-place.result in
-    let next : place ≡ length x.closed = subst (λ v. place ≡ length v.0.closed) (sym c.self.view_is) c.first_open-place.ensures.place in
-    let shut = c.shut-table.ensures in
-    let t : Table = c.shut-table.result in
-    let now : Table = c.take_pending-pending.new.self in
-    let taken = c.take_pending-pending.result in
-    let y : Seated = c.shut-table.new.self in
-    let m' = g.B.Berth.meaning c.bring.new.berth in
-    let z : Seated = c.bring.new.seats in
-    let o : Owing = c.bring.new.self in
-    let result = c.bring.result in
-    let old : List Note = c.args.notes.now in
-    let mid : List Note = c.shut-table.new.notes in
-    let new : List Note = c.bring.new.notes in
-    let brings = subst (λ (n : ℕ). Brings m'.clock y x.serving.owing place n taken mid result z o new) c.writes-writes.ensures c.bring.ensures.brings in
-    subst (λ v. IsPartOfStep v.0.serving (record { seated = z; owing = o }) old new (g.B.Berth.meaning v.1) m') c.self.view_is
-    (brought_part x m c.self.invariant.0 sits none place shut.0 next t now taken y shut.1 c.take_pending-pending.ensures m' z o result old mid new shut.2 brings c.bring.ensures.time c.bring.ensures.runs c.bring.ensures.region c.bring.ensures.reads)
+    let there : Shutting = record { serving = record { seated = z; owing = o }; closed = tables.closed; waits = tables.waits } in
+    subst (λ v. PreparingGoes v.0 there old new (g.B.Berth.meaning v.1) m' result) c.self.view_is (record {
+      next = as_put (λ l b. (made : List Note) × (new ≡ old ++ made) × ShutsNext x (record { serving = record { seated = z; owing = o }; closed = l; waits = b }) made result) closed tables.closed tables.waits
+          c.put.ensures.closed c.put.ensures.waits
+          (brought_next x m c.self.invariant.0 sits none place shut.0 next t now taken y shut.1 c.take_pending-pending.ensures m' z o result old mid new shut.2 brings c.bring.ensures.time c.bring.ensures.runs open_);
+      part = brought_part x m c.self.invariant.0 sits none place shut.0 next t now taken y shut.1 c.take_pending-pending.ensures m' z o result old mid new shut.2 brings c.bring.ensures.time c.bring.ensures.runs
+          c.bring.ensures.region c.bring.ensures.reads;
+      cause = c.bring.ensures.cause;
+    })

@@ -2,14 +2,14 @@ use Rattle.std.proofs.Common.{subst, sym, arith}
 use Rattle.crash_states.specs.Standing.{Runs}
 use Rattle.leaf_steward.specs.Seated.{AreFounded, watched_by}
 use Rattle.leaf_machine.specs.States.{Serving, RestsOn}
-use Rattle.leaf_machine.proofs.UpKilling.{kill_rests, kill_down}
+use Rattle.leaf_machine.proofs.Kills.{kill_rests, kill_down}
 use Rattle.leaf_machine.proofs.up.Up.kill.Goals as goal
 
 pub invariant_of-result : goal.invariant_of-result
 invariant_of-result g c =
     let x : Serving = record { seated = c.self.inside.seats; owing = c.self.inside.log } in
     kill_down _ x c.shut_rest.new.self (g.B.Berth.meaning c.self.inside.berth) c.shut_rest.new.notes c.sits.ensures c.shut_rest.ensures.made (λ place t v at sat lower. absurd (omega (arith, lower))) c.shut_rest.ensures.each
-    c.self.invariant.stands (λ place t v at sat. c.shut_rest.ensures.shut place t v at sat (omega arith))
+    c.self.invariant.stands c.shut_rest.ensures.shut c.shut_rest.ensures.before
 
 pub returns-clause-crash : goal.returns-clause-crash
 returns-clause-crash g c = λ writes founded runs.

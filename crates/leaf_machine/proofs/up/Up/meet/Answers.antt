@@ -5,9 +5,7 @@ use Rattle.leaf_table.specs.Turns.{is_founded, start_of}
 use Rattle.leaf_table.specs.Calls.{SeatView, base_seen, seen_of}
 use Rattle.crash_states.specs.Standing.{Runs}
 use Rattle.leaf_steward.specs.Seated.{Seated, AreFounded, AtPlace, watched_by, with_seat}
-use Rattle.leaf_machine.specs.States.{Serving}
-use Rattle.leaf_machine.proofs.UpOwing.{founded_as, up_of, up_owed, up_serves}
-use Rattle.leaf_machine.proofs.UpMeeting.{Meets, meets_in, met_tables, met_serves, met_owed, met_run}
+use Rattle.leaf_machine.proofs.Meeting.{Meets, meets_in, met_run, met_up}
 use Rattle.leaf_machine.proofs.up.Up.meet.Goals as goal
 
 pub meet-requires-clause-seat : goal.meet-requires-clause-seat
@@ -18,15 +16,7 @@ pub invariant_of-self : goal.invariant_of-self
 invariant_of-self g c =
     let met : Meets c.self.inside.seats c.meet.new.self c.args.table =
     meets_in c.self.inside.seats c.meet.new.self c.args.table c.args.seat.now c.sits.ensures (subst (λ s. c.args.table < length s.0.seated.tables) (sym c.self.view_is) c.requires.table) c.meet.ensures.learns in
-    let x : Serving = record { seated = c.self.inside.seats; owing = c.self.inside.log } in
-    let m = g.B.Berth.meaning c.self.inside.berth in
-    let up = c.self.invariant in
-    up_of (record { seated = c.meet.new.self; owing = c.self.inside.log }) m (met_serves c.self.inside.seats c.meet.new.self c.args.table met c.sits.ensures (up_serves x m up))
-    (met_owed c.self.inside.seats c.meet.new.self c.args.table met c.sits.ensures x.owing.log.owed x.owing.owner x.owing.count (up_owed x m up))
-    (λ founded.
-    let before : AreFounded c.self.inside.seats = founded_as c.meet.new.self c.self.inside.seats (sym (met_tables c.self.inside.seats c.meet.new.self c.args.table met c.sits.ensures)) founded in
-    let told = up.stands before in
-    (told.0, (told.1.0, met_run c.self.inside.seats c.meet.new.self c.args.table met c.sits.ensures before x.owing.owner x.owing.log told.1.0 m told.1.1)))
+    met_up c.self.inside.seats c.meet.new.self c.args.table met c.sits.ensures c.self.inside.log (g.B.Berth.meaning c.self.inside.berth) c.self.invariant
 
 pub returns-clause-learns : goal.returns-clause-learns
 returns-clause-learns g c =
