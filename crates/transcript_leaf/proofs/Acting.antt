@@ -1,6 +1,8 @@
 -- One leaf by who holds it goes on by a deed of its steward, between two meetings.
 use Rattle.std.proofs.Common.{◌≡◌, ◌⊎◌, inl, inr, ℕ, ◌<◌, ◌≤◌, List, [], ◌∷◌, ◌++◌, length, map, Option, Some, None, refl, sym, ap, subst, ◌∙◌, arith}
 use Rattle.std.specs.Prelude.{slice_get}
+use Rattle.std.proofs.lemmas.Bool.{cases_lt}
+use Rattle.std.proofs.lemmas.Option.{slice_get_past}
 use Rattle.berth_face.specs.Berth.{Meaning}
 use Rattle.leaf_history.specs.History.{Entry, LegalFrom, HistoryState}
 use Rattle.script_text.specs.declared.command.Command.{Command}
@@ -27,7 +29,7 @@ use Rattle.transcript_leaf.proofs.TableMeets.{GrowsAt, HasLearned, grows_as, gro
 use Rattle.transcript_leaf.proofs.Standing.{seats_become}
 use Rattle.transcript_leaf.proofs.Behind.{held_meets}
 use Rattle.transcript_leaf.proofs.Going.{held_acts}
-use Rattle.transcript_leaf.proofs.Places.{below_or_not, caller_beyond, get_beyond, if_some, leaf_met, met_at, same_name, same_pair, seats_then}
+use Rattle.transcript_leaf.proofs.Places.{caller_beyond, if_some, leaf_met, met_at, same_name, same_pair, seats_then}
 use Rattle.transcript_leaf.proofs.Sessions.{are_met, many_seats, many_tables, meet_on, pieces_on, table_held}
 
 module _ {B : Type 0} (meaning : B → Meaning) (number : ℕ) (names : List (List ℕ)) (known : Option Known) (old : Meaning) (before : List Piece) (start : ℕ → List Entry) (items : List PlayedItem)
@@ -46,15 +48,15 @@ module _ {B : Type 0} (meaning : B → Meaning) (number : ℕ) (names : List (Li
       let t = element_at x.tables place (omega (
         arith,
         below,
-        many_seats meaning number names known old before start (with_pieces items c0 ps) x now met b is,
+        many_seats x now met b is,
         now.callers_are,
-        many_tables meaning number names known old before start (with_pieces items c0 ps) x now,
+        many_tables x now,
       )) in
-      (table_held meaning number names known old before start (with_pieces items c0 ps) x now met b is place t.0 v t.1 sat).stewards
+      (table_held x now met b is place t.0 v t.1 sat).stewards
 
   -- as many seats as before
   many : length (seated_of moved).seats ≡ length x.callers
-  many = makes_seats (meaning b).clock (meaning b').clock (seated_of met) notes (seated_of moved) carries.made ∙ many_seats meaning number names known old before start (with_pieces items c0 ps) x now met b is
+  many = makes_seats (meaning b).clock (meaning b').clock (seated_of met) notes (seated_of moved) carries.made ∙ many_seats x now met b is
 
   -- what the steward's seat made
   pub made : (place : ℕ) (v w : SeatView) → slice_get (seated_of met).seats place ≡ Some v → slice_get (seated_of moved).seats place ≡ Some w → NotesAt place notes v w
@@ -63,14 +65,14 @@ module _ {B : Type 0} (meaning : B → Meaning) (number : ℕ) (names : List (Li
   -- its seat before
   pub seat_before : (place : ℕ) (w : SeatView) → slice_get (seated_of moved).seats place ≡ Some w → (v : SeatView) × (slice_get (seated_of met).seats place ≡ Some v)
   seat_before place w sat = element_at (seated_of met).seats place
-      (omega (arith, within (seated_of moved).seats place w sat, many, many_seats meaning number names known old before start (with_pieces items c0 ps) x now met b is))
+      (omega (arith, within (seated_of moved).seats place w sat, many, many_seats x now met b is))
 
   table_then : (place : ℕ) (t : Shared) (w v' : SeatView) → slice_get x.tables place ≡ Some t → slice_get (seated_of moved).seats place ≡ Some w → MeetsIf w (caller_in x.callers place) v' (caller_in callers place)
       → TableSession (base_state_of known (name_of t)) (start place) number place (with_pieces items c0 (ps ++ act ∷ [])) (Some v') (caller_in callers place)
   table_then place t w v' at sat meets =
       let g : BaseState = base_state_of known (name_of t) in
       let v = seat_before place w sat in
-      let was = table_held meaning number names known old before start (with_pieces items c0 ps) x now met b is place t v.0 at v.1 in
+      let was = table_held x now met b is place t v.0 at v.1 in
       let own = same_name names x.tables (seated_of met).tables now.named now_held.in_place.named place t at in
       let u : Shared = own.0 in
       let h : BaseState = base_state_of known (name_of u) in
@@ -92,7 +94,7 @@ module _ {B : Type 0} (meaning : B → Meaning) (number : ℕ) (names : List (Li
   tables_then : (place : ℕ) (t : Shared) → slice_get x.tables place ≡ Some t
       → TableSession (base_state_of known (name_of t)) (start place) number place (with_pieces items c0 (ps ++ act ∷ [])) (slice_get (seated_of l').seats place) (caller_in callers place)
   tables_then place t at =
-      let below : place < length x.callers = omega (arith, within x.tables place t at, now.callers_are, many_tables meaning number names known old before start (with_pieces items c0 ps) x now) in
+      let below : place < length x.callers = omega (arith, within x.tables place t at, now.callers_are, many_tables x now) in
       let m = met_at moved x.callers l' callers (meaning b') second many place below in
       subst (λ (s : Option SeatView). TableSession (base_state_of known (name_of t)) (start place) number place (with_pieces items c0 (ps ++ act ∷ [])) s (caller_in callers place)) (sym m.at_then)
       (table_then place t m.steward m.steward_then at m.at m.meets)
@@ -133,7 +135,7 @@ module _ {B : Type 0} (meaning : B → Meaning) (number : ℕ) (names : List (Li
 
   -- of each table more has been seen
   pub acts_grow : (place : ℕ) → GrowsAt (steward_in x.held place) (caller_in x.callers place) (slice_get (seated_of l').seats place) (caller_in callers place)
-  acts_grow place = by (below_or_not place (length x.callers))
+  acts_grow place = by (cases_lt place (length x.callers))
     where
       by : (place < length x.callers) ⊎ (length x.callers ≤ place) → GrowsAt (steward_in x.held place) (caller_in x.callers place) (slice_get (seated_of l').seats place) (caller_in callers place)
       by (inl below) =
@@ -146,10 +148,10 @@ module _ {B : Type 0} (meaning : B → Meaning) (number : ℕ) (names : List (Li
           (grows_made v.0 m.steward (caller_in x.callers place) own.entries own.seen own.ids) (grows_met m.steward m.steward_then (caller_in x.callers place) (caller_in callers place) m.meets))
       by (inr beyond) =
           grows_as (steward_in x.held place) (caller_in x.callers place) (slice_get (seated_of l').seats place) (caller_in callers place) None None None None
-          (ap (λ (h : Option (Leaf × B)). steward_in h place) is ∙ get_beyond (seated_of met).seats place
-          (omega (arith, beyond, many_seats meaning number names known old before start (with_pieces items c0 ps) x now met b is)))
+          (ap (λ (h : Option (Leaf × B)). steward_in h place) is ∙ slice_get_past (seated_of met).seats place
+          (omega (arith, beyond, many_seats x now met b is)))
           (caller_beyond x.callers place beyond)
-          (ap (λ (vs : List SeatView). slice_get vs place) (seats_then moved x.callers l' callers (meaning b') second many) ∙ get_beyond second.seats place (omega (arith, beyond, second.count.0, many)))
+          (ap (λ (vs : List SeatView). slice_get vs place) (seats_then moved x.callers l' callers (meaning b') second many) ∙ slice_get_past second.seats place (omega (arith, beyond, second.count.0, many)))
           (caller_beyond callers place (omega (arith, beyond, second.count.1)))
           (grows_not None None)
 
@@ -164,13 +166,13 @@ module _ {B : Type 0} (meaning : B → Meaning) (number : ℕ) (names : List (Li
 
 module _ {B : Type 0} (meaning : B → Meaning) (number : ℕ) (names : List (List ℕ)) (known : Option Known) (old : Meaning) (before : List Piece) (start : ℕ → List Entry) (items : List PlayedItem) where
   -- between two meetings
-  pub deed_on : (c0 : Command) (ps : List Piece) (x : Hold B) (deed : Deed) (l l' : Leaf) (b b' : B) (p : Piece) (callers : List (Option SeatView))
+  pub leaf_acts : (c0 : Command) (ps : List Piece) (x : Hold B) (deed : Deed) (l l' : Leaf) (b b' : B) (p : Piece) (callers : List (Option SeatView))
       → LeafSession meaning number names known old before start (with_pieces items c0 ps) x → x.held ≡ Some (l, b)
       → DeedStep number deed (meaning b) (meaning b') l x.callers p l' callers
       → LeafSession meaning number names known old before start (with_pieces items c0 (ps ++ p ∷ [])) (with_leaf x l' b' callers)
-  deed_on c0 ps x deed l l' b b' p callers now is step =
+  leaf_acts c0 ps x deed l l' b b' p callers now is step =
       subst (λ (q : Piece). LeafSession meaning number names known old before start (with_pieces items c0 (ps ++ q ∷ [])) (with_leaf x l' b' callers)) (sym step.piece_is)
       (act_on meaning number names known old before start items c0 ps (with_leaf x step.met b step.met_callers) step.met step.moved l' b b' callers deed step.notes step.ends
-      (meet_on meaning number names known old before start (with_pieces items c0 ps) x l step.met b step.met_callers now is step.first)
-      (are_met meaning number names known old before start (with_pieces items c0 ps) x l step.met b step.met_callers now is step.first)
+      (meet_on x l step.met b step.met_callers now is step.first)
+      (are_met x l step.met b step.met_callers now is step.first)
       refl step.moves step.carries step.second)

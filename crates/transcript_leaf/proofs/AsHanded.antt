@@ -24,11 +24,8 @@ left_as region now left = record { closed = left.closed; either = inr (left_clos
 
 pub refused_breaks : (f : StartFault) (m m' : Meaning) → RegionRefused f m m' → IsBroken m.held.region m'.held.region
 refused_breaks fault.RegionFault m m' left = left
-refused_breaks fault.DiskFault m m' left = left_as m.held.region m'.held.region left
-refused_breaks fault.DiskDamaged m m' left = left_as m.held.region m'.held.region left
-refused_breaks (fault.Stranger name) m m' left = left_as m.held.region m'.held.region left
-refused_breaks fault.NoMemory m m' left = left_as m.held.region m'.held.region left
 refused_breaks (fault.Worn table) m m' left = subst (λ (r : List ℕ). IsBroken m.held.region r) (sym left) (untouched m.held.region)
+refused_breaks f m m' left = left_as m.held.region m'.held.region left
 
 -- an image of a stranger is one that was handed: no flag of it was closed
 pub region_named : (names : List (List ℕ)) (old now name : List ℕ) → IsBroken old now → IsStranger names now name → IsStranger names old name

@@ -16,11 +16,12 @@ use Rattle.leaf_moves.specs.Holds.{Hold, caller_in, steward_in}
 use Rattle.transcript.specs.Life.{Down}
 use Rattle.transcript_leaf.specs.Session.{HaveKnownBase, AreInPlace, FitsNext, IsNewHold, IsWhole, KnownLeaf, LeafHeld, LeafSession, StandsFirst, TableSession}
 use Rattle.transcript_leaf.proofs.Lists.{clash_bool, element_at, same_some}
-use Rattle.transcript_leaf.proofs.Places.{as_many_names, caller_is, same_pair}
+use Rattle.transcript_leaf.proofs.Places.{caller_is, same_pair}
 use Rattle.transcript_leaf.proofs.Durable.{first_durable}
 use Rattle.transcript_leaf.proofs.Latest.{noted_unused}
 use Rattle.transcript_leaf.proofs.Named.{named_first}
 use Rattle.transcript_leaf.proofs.Standing.{told_first}
+use Rattle.transcript_leaf.proofs.CountingNotes.{as_many}
 
 abbrev no_lines : List Shown
 no_lines = []
@@ -119,6 +120,6 @@ module _ {B : Type 0} (meaning : B → Meaning) (number : ℕ) (names : List (Li
     berth = new.berth;
     held = new.down;
     seats = λ place below.
-        let t = element_at x.tables place (omega (arith, below, new.callers_are, as_many_names names x.tables named_so)) in
+        let t = element_at x.tables place (omega (arith, below, new.callers_are, as_many names x.tables named_so)) in
         (unused_seat t.0.site 1 65536 65536, (new.unused place t.0 t.1).1, all_others (unused_seat t.0.site 1 65536 65536) refl refl);
   }

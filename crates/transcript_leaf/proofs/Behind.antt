@@ -16,16 +16,12 @@ use Rattle.transcript_leaf.proofs.Rising.{notes_between}
 use Rattle.transcript_leaf.specs.Session.{HaveKnownBase, AreInPlace, FitsNext, HasNoDeed, IsDurable, IsNoted, KnownLeaf, LeafHeld}
 use Rattle.transcript_leaf.proofs.Latest.{noted_met}
 use Rattle.transcript_leaf.proofs.Lives.{deeds_between}
-use Rattle.transcript_leaf.proofs.Modes.{mode_with}
+use Rattle.transcript_leaf.proofs.Modes.{mode_with, some_weaken}
 use Rattle.transcript_leaf.proofs.ToldOn.{told_met}
 use Rattle.transcript_leaf.proofs.Durable.{durable_met}
 use Rattle.transcript_leaf.proofs.Owned.{owned_met}
-use Rattle.transcript_leaf.proofs.Standing.{LeafMeets, seat_there, seats_become, stands_met, told_on}
-
--- what comes of a thing comes of it where there is one
-pub some_weaken : {X : Type 0} (o : Option X) (P Q : X → Type 0) → ((x : X) → P x → Q x) → IfSome o P → IfSome o Q
-some_weaken None P Q f h = tt
-some_weaken (Some x) P Q f h = f x h
+use Rattle.transcript_leaf.proofs.Standing.{LeafMeets, seats_become, stands_met, told_on}
+use Rattle.transcript_leaf.proofs.CountingNotes.{seat_there}
 
 -- ---- what a meeting leaves of a leaf
 

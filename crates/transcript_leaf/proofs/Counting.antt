@@ -142,22 +142,16 @@ module _ (base : NamedStates) (t : Shared) (clock : ℕ) (v w : SeatView) (of : 
 
   -- handed over, a shut table is as it was
   pub shut_handed : (what : What) → IsHandedNote what → MadeAs (base_seen t) clock v what w → IsShutAndTaken (state_with base t v) → IsShutAndTaken (state_with base t w)
-  shut_handed (Opened n) handed made closed = absurd handed
-  shut_handed (Took n) handed made closed = absurd handed
-  shut_handed (Flushed n) handed made closed = absurd handed
-  shut_handed (Closed n) handed made closed = absurd handed
   shut_handed Handed handed made closed =
       let m = made_on base t clock v call.Done reply.Noted w of sits made in
       let before = closed_kept (state_with base t v) m.on m.keeps closed in
       subst IsShutAndTaken (sym m.now) (record { shut = before.shut; taken = before.taken })
+  shut_handed what handed made closed = absurd handed
 
   pub settled_handed : (what : What) (n : ℕ) → IsHandedNote what → MadeAs (base_seen t) clock v what w → IsSettled base t v n → IsSettled base t w n
-  settled_handed (Opened k) n handed made settled = absurd handed
-  settled_handed (Took k) n handed made settled = absurd handed
-  settled_handed (Flushed k) n handed made settled = absurd handed
-  settled_handed (Closed k) n handed made settled = absurd handed
   settled_handed Handed n handed made settled =
       let m = made_on base t clock v call.Done reply.Noted w of sits made in (
         ap (λ (s : HistoryState). s.taken) m.now ∙ (m.keeps.taken ∙ settled.0),
         ap (λ (s : HistoryState). s.flushed) m.now ∙ (m.keeps.flushed ∙ settled.1),
       )
+  settled_handed what n handed made settled = absurd handed

@@ -14,7 +14,7 @@ use Rattle.transcript.specs.Transcript.{Known}
 use Rattle.leaf_moves.specs.Stage.{Leaf, IsDown, IsUp, IsPreparing, Carries, LeafStands, seated_of}
 use Rattle.leaf_moves.specs.Steps.{noted_all}
 use Rattle.transcript_leaf.specs.Session.{HaveKnownBase, AreInPlace, AtCounts, IsDurable, StandsKnown}
-use Rattle.transcript_leaf.proofs.CountingNotes.{AreReady, AreStewards, founded_all, length_durable, tables_founded}
+use Rattle.transcript_leaf.proofs.CountingNotes.{AreReady, AreStewards, are_founded, length_durable, tables_founded}
 
 -- the leaf before and behind the command, and what stands of it
 pub record Given (names : List (List ℕ)) (k : Known) (counts : List ℕ) (m m' : Meaning) (notes : List Note) (leaf leaf' : Leaf) : Type 0 where
@@ -58,10 +58,10 @@ module _ (names : List (List ℕ)) (k : Known) (counts : List ℕ) (m m' : Meani
 
   module _ (leaf leaf' : Leaf) (g : GivenOf leaf leaf') where
     pub ready_of : AreReady k.base (seated_of leaf)
-    ready_of = record { founded = tables_founded names k (seated_of leaf) g.in_place g.known_base; stewards = g.stewards }
+    ready_of = record { founded = tables_founded names (seated_of leaf) g.in_place k.base g.known_base; stewards = g.stewards }
 
     pub founded_of : AreFounded (seated_of leaf)
-    founded_of = founded_all k.base (seated_of leaf) (tables_founded names k (seated_of leaf) g.in_place g.known_base)
+    founded_of = are_founded names (seated_of leaf) g.in_place k.base g.known_base
 
     -- what stands behind it
     pub stands_behind : LeafStands k.base leaf' m'

@@ -1,6 +1,6 @@
 -- What the entries of a steward's command make of all tables of a leaf, and of how many of their writes are known to be
 -- on the disk.
-use Rattle.std.proofs.Common.{◌≡◌, ◌⊎◌, inl, inr, ℕ, zero, suc, ◌<◌, true, List, [], ◌∷◌, ◌++◌, length, refl, sym, ap, subst, ◌∙◌, arith, Option, Some, None}
+use Rattle.std.proofs.Common.{◌≡◌, ◌⊎◌, inl, inr, ℕ, zero, suc, ◌<◌, true, List, [], ◌∷◌, ◌++◌, length, map, refl, sym, ap, subst, ◌∙◌, arith, Option, Some, None}
 use Rattle.std.specs.Prelude.{◌≢◌, slice_get, slice_set, ⊤}
 use Rattle.std.specs.List.{AllByRecursion}
 use Rattle.std.proofs.lemmas.Option.{none-some}
@@ -17,15 +17,14 @@ use Rattle.leaf_steward.specs.declared.notes.What.TheVariants as what
 use Rattle.leaf_steward.specs.Seated.{Seated, AtEach, AreFounded}
 use Rattle.leaf_steward.specs.Making.{MadeAs, Makes, OneEntry, EachNoted, IsClosedNote, IsHandedNote}
 use Rattle.leaf_steward.proofs.Seating.{set_either}
-use Rattle.leaf_steward.proofs.Keeping.{entry_each, entry_tables, some_entry}
+use Rattle.leaf_steward.proofs.Keeping.{entry_each, entry_tables, makes_tables, some_entry}
 use Rattle.printed_lines.specs.declared.line.Said.{Said}
 use Rattle.printed_lines.specs.declared.line.Said.TheVariants as said
 use Rattle.transcript.specs.Pieces.{Noted}
 use Rattle.transcript.specs.Life.{durable_after, durable_by}
-use Rattle.transcript.specs.Transcript.{Known}
 use Rattle.leaf_moves.specs.Stage.{AreHandedNothing}
 use Rattle.leaf_moves.specs.Steps.{noted_all, said_of_note}
-use Rattle.transcript_leaf.specs.Session.{HaveKnownBase, AreInPlace, IsSettled, IsStewards}
+use Rattle.transcript_leaf.specs.Session.{AreInPlace, IsSettled, IsStewards}
 use Rattle.transcript_leaf.proofs.Lists.{element_at, get_set_other, length_mapped, length_set, same_some, within}
 use Rattle.transcript_leaf.proofs.Counting.{IsFoundedWith, IsHalf, IsOf, half_closed, half_took, settled_flushed, shut_closed, shut_flushed, state_with}
 
@@ -43,29 +42,33 @@ pub record AreReady (base : NamedStates) (x : Seated) : Type 0 where
   pub founded : TablesFounded base x
   pub stewards : AreStewards x
 
--- as many tables as names, and a seat at each
-pub tables_count : (names : List (List ℕ)) (x : Seated) → AreInPlace names x → length x.tables ≡ length names
-tables_count names x in_place = sym (length_mapped name_of x.tables) ∙ ap (λ (ns : List (List ℕ)). length ns) in_place.named
-
-pub seat_at : (names : List (List ℕ)) (x : Seated) (place : ℕ) (t : Shared) → AreInPlace names x → slice_get x.tables place ≡ Some t
-    → (v : SeatView) × (slice_get x.seats place ≡ Some v)
-seat_at names x place t in_place at =
-    element_at x.seats place (omega (arith, within x.tables place t at, tables_count names x in_place, in_place.seats))
-
-pub tables_founded : (names : List (List ℕ)) (k : Known) (x : Seated) → AreInPlace names x → HaveKnownBase (Some k) x → TablesFounded k.base x
-tables_founded names k x in_place known_base = λ place t at. let seat = seat_at names x place t in_place at in known_base place t seat.0 at seat.1
+-- as many tables as names
+pub as_many : (names : List (List ℕ)) (ts : List Shared) → map name_of ts ≡ names → length ts ≡ length names
+as_many names ts named = sym (length_mapped name_of ts) ∙ ap (λ (ns : List (List ℕ)). length ns) named
 
 all_of : {X : Type 0} (P : X → Type 0) (xs : List X) → ((i : ℕ) (x : X) → slice_get xs i ≡ Some x → P x) → AllByRecursion P xs
 all_of P [] each = tt
 all_of P (x ∷ xs) each = (each zero x refl, all_of P xs (λ i y at. each (suc i) y at))
 
-pub founded_all : (base : NamedStates) (x : Seated) → TablesFounded base x → AreFounded x
-founded_all base x each = all_of (λ (t : Shared). is_founded (base_seen t) ≡ true) x.tables (λ place t at. (each place t at).0)
+-- the tables are founded with this base, place by place
+abbrev pub AreFoundedWith : NamedStates → Seated → Type 0
+AreFoundedWith base x = AtEach (λ place t v. IsFoundedWith base t) x
+
+module _ (names : List (List ℕ)) (x : Seated) (in_place : AreInPlace names x) where
+  -- where there is a table there is a seat of the steward
+  pub seat_there : (place : ℕ) (t : Shared) → slice_get x.tables place ≡ Some t → (v : SeatView) × (slice_get x.seats place ≡ Some v)
+  seat_there place t at = element_at x.seats place (omega (arith, within x.tables place t at, as_many names x.tables in_place.named, in_place.seats))
+
+  pub tables_founded : (base : NamedStates) → AreFoundedWith base x → TablesFounded base x
+  tables_founded base founded = λ place t at. let seat = seat_there place t at in founded place t seat.0 at seat.1
+
+  pub are_founded : (base : NamedStates) → AreFoundedWith base x → AreFounded x
+  are_founded base founded = all_of (λ (t : Shared). is_founded (base_seen t) ≡ true) x.tables (λ place t at. (tables_founded base founded place t at).0)
 
 pub is_of : (base : NamedStates) (x : Seated) (place : ℕ) (t : Shared) → AreHandedNothing base → AreReady base x → slice_get x.tables place ≡ Some t → IsOf base t
 is_of base x place t sound ready at = record { founded = ready.founded place t at; sound = sound (name_of t) }
 
-module _ (base : NamedStates) (clock : ℕ) (x : Seated) (note : Note) (y : Seated) (one : OneEntry clock x note y) where
+module _ (clock : ℕ) (x : Seated) (note : Note) (y : Seated) (one : OneEntry clock x note y) where
   -- the seat has its ids still
   stays_stewards : IsStewards one.before → IsStewards one.after
   stays_stewards sits =
@@ -76,26 +79,31 @@ module _ (base : NamedStates) (clock : ℕ) (x : Seated) (note : Note) (y : Seat
         taken = ap (λ (u : SeatView). u.taken) same ∙ sits.taken;
       }
 
-  pub entry_ready : AreReady base x → AreReady base y
-  entry_ready ready = record {
-    founded = λ place t at. ready.founded place t (ap (λ (ts : List Shared). slice_get ts place) (sym (entry_tables clock x note y one)) ∙ at);
-    stewards = λ place v at. by place v (set_either x.seats note.table place one.after v (subst (λ (s : Seated). slice_get s.seats place ≡ Some v) one.now at));
-  }
+  pub entry_stewards : AreStewards x → AreStewards y
+  entry_stewards are place v at = by (set_either x.seats note.table place one.after v (subst (λ (s : Seated). slice_get s.seats place ≡ Some v) one.now at))
     where
-      by : (place : ℕ) (v : SeatView) → ((place ≡ note.table) × (v ≡ one.after)) ⊎ ((place ≢ note.table) × (slice_get x.seats place ≡ Some v)) → IsStewards v
-      by place v (inl h) = subst IsStewards (sym h.1) (stays_stewards (ready.stewards note.table one.before one.was))
-      by place v (inr h) = ready.stewards place v h.1
+      by : ((place ≡ note.table) × (v ≡ one.after)) ⊎ ((place ≢ note.table) × (slice_get x.seats place ≡ Some v)) → IsStewards v
+      by (inl h) = subst IsStewards (sym h.1) (stays_stewards (are note.table one.before one.was))
+      by (inr h) = are place v h.1
+
+  pub entry_ready : (base : NamedStates) → AreReady base x → AreReady base y
+  entry_ready base ready = record {
+    founded = λ place t at. ready.founded place t (ap (λ (ts : List Shared). slice_get ts place) (sym (entry_tables clock x note y one)) ∙ at);
+    stewards = entry_stewards ready.stewards;
+  }
+
+pub makes_stewards : (from to : ℕ) (x : Seated) (notes : List Note) (y : Seated) → Makes from to x notes y → AreStewards x → AreStewards y
+makes_stewards from to x notes y (Makes.none f u a ns b le is same) are = subst AreStewards (sym same) are
+makes_stewards from to x notes y (Makes.more f u a ns b clock first rest between le one makes is) are =
+    makes_stewards clock to between rest y makes (entry_stewards clock x first between one are)
 
 pub makes_ready : (base : NamedStates) (from to : ℕ) (x : Seated) (notes : List Note) (y : Seated) → Makes from to x notes y → AreReady base x → AreReady base y
-makes_ready base from to x notes y (Makes.none f u a ns b le is same) ready = subst (AreReady base) (sym same) ready
-makes_ready base from to x notes y (Makes.more f u a ns b clock first rest between le one makes is) ready =
-    makes_ready base clock to between rest y makes (entry_ready base clock x first between one ready)
+makes_ready base from to x notes y makes ready = record {
+  founded = λ place t at. ready.founded place t (ap (λ (ts : List Shared). slice_get ts place) (sym (makes_tables from to x notes y makes)) ∙ at);
+  stewards = makes_stewards from to x notes y makes ready.stewards;
+}
 
--- ---- entries leave the tables, their names, and how many seats there are
-
-pub makes_names : (from to : ℕ) (x : Seated) (notes : List Note) (y : Seated) → Makes from to x notes y → y.names ≡ x.names
-makes_names from to x notes y (Makes.none f u a ns b le is same) = ap (λ (s : Seated). s.names) same
-makes_names from to x notes y (Makes.more f u a ns b clock first rest between le one makes is) = makes_names clock to between rest y makes ∙ ap (λ (s : Seated). s.names) one.now
+-- ---- entries leave how many seats there are
 
 pub makes_seats : (from to : ℕ) (x : Seated) (notes : List Note) (y : Seated) → Makes from to x notes y → length y.seats ≡ length x.seats
 makes_seats from to x notes y (Makes.none f u a ns b le is same) = ap (λ (s : Seated). length s.seats) same
@@ -138,7 +146,7 @@ makes_leave base W P from to x notes y sound leaves (Makes.more f u a ns b clock
     let sits = ready.stewards first.table one.before one.was in
     let here : P first.table one.table one.after =
     leaves first.table one.table clock one.before one.after first.what of sits both.0 one.made (each first.table one.table one.before one.at one.was) in
-    makes_leave base W P clock to between rest y sound leaves makes both.1 (entry_ready base clock x first between one ready)
+    makes_leave base W P clock to between rest y sound leaves makes both.1 (entry_ready clock x first between one base ready)
     (entry_each P P clock x first between one (λ p u v apart h. h) here each)
 
 -- ---- counts
@@ -169,17 +177,9 @@ set_same (x ∷ xs) zero c e = ap (λ (y : ℕ). y ∷ xs) (sym (same_some x c e
 set_same (x ∷ xs) (suc i) c e = ap (λ (ys : List ℕ). x ∷ ys) (set_same xs i c e)
 
 length_by : (counts : List ℕ) (table : ℕ) (s : Said) → length (durable_by counts table s) ≡ length counts
-length_by counts table (said.Added kept late) = refl
-length_by counts table (said.Removed rows) = refl
-length_by counts table said.Asked = refl
-length_by counts table said.RefusedShut = refl
-length_by counts table said.RefusedFull = refl
-length_by counts table said.RefusedMemory = refl
 length_by counts table (said.Opened n) = length_set counts table n
-length_by counts table (said.Took n) = refl
 length_by counts table (said.Flushed n) = length_set counts table n
-length_by counts table (said.Closed n) = refl
-length_by counts table said.Handed = refl
+length_by counts table s = refl
 
 pub length_durable : (counts : List ℕ) (notes : List Noted) → length (durable_after counts notes) ≡ length counts
 length_durable counts [] = refl
@@ -199,10 +199,8 @@ IsStill what.Handed = ⊤
 
 still_by : (counts : List ℕ) (table : ℕ) (w : What) → IsStill w → durable_by counts table (said_of_note w) ≡ counts
 still_by counts table (what.Opened n) still = absurd still
-still_by counts table (what.Took n) still = refl
 still_by counts table (what.Flushed n) still = absurd still
-still_by counts table (what.Closed n) still = refl
-still_by counts table what.Handed still = refl
+still_by counts table w still = refl
 
 pub durable_still : (counts : List ℕ) (notes : List Note) → AllNotes IsStill notes → durable_after counts (noted_all notes) ≡ counts
 durable_still counts [] still = refl
@@ -210,26 +208,22 @@ durable_still counts (n ∷ ns) still =
     ap (λ (cs : List ℕ). durable_after cs (noted_all ns)) (still_by counts n.table n.what still.0) ∙ durable_still counts ns still.1
 
 still_closed : (w : What) → IsClosedNote w → IsStill w
-still_closed (what.Opened n) h = h
-still_closed (what.Took n) h = tt
-still_closed (what.Flushed n) h = h
 still_closed (what.Closed n) h = tt
-still_closed what.Handed h = tt
+still_closed w h = absurd h
 
 still_handed : (w : What) → IsHandedNote w → IsStill w
-still_handed (what.Opened n) h = h
-still_handed (what.Took n) h = tt
-still_handed (what.Flushed n) h = h
-still_handed (what.Closed n) h = tt
 still_handed what.Handed h = tt
+still_handed w h = absurd h
+
+all_still : (W : What → Type 0) → ((w : What) → W w → IsStill w) → (notes : List Note) → AllNotes W notes → AllNotes IsStill notes
+all_still W still [] all = tt
+all_still W still (n ∷ ns) all = (still n.what all.0, all_still W still ns all.1)
 
 pub all_closed : (place count : ℕ) (notes : List Note) → EachNoted IsClosedNote place count notes → AllNotes IsStill notes
-all_closed place count [] each = tt
-all_closed place count (n ∷ ns) each = (still_closed n.what each.3, all_closed (suc place) each.0 ns each.4)
+all_closed place count notes each = all_still IsClosedNote still_closed notes (each_all IsClosedNote place count notes each)
 
 pub all_handed : (place count : ℕ) (notes : List Note) → EachNoted IsHandedNote place count notes → AllNotes IsStill notes
-all_handed place count [] each = tt
-all_handed place count (n ∷ ns) each = (still_handed n.what each.3, all_handed (suc place) each.0 ns each.4)
+all_handed place count notes each = all_still IsHandedNote still_handed notes (each_all IsHandedNote place count notes each)
 
 -- ---- a table that is taken or shut, and whose writes are then flushed
 
@@ -297,7 +291,7 @@ module _ (base : NamedStates) (x : Seated) (y : Seated) (place : ℕ) (sound : A
   both_settled counts w taking flushing n halves two all =
       let a = two.first in
       let b = two.second in
-      let later = entry_ready base two.first_clock x (NoteOf w taking) two.between a ready in
+      let later = entry_ready two.first_clock x (NoteOf w taking) two.between a base ready in
       let of = is_of base x place a.table sound ready a.at in
       let sits = ready.stewards place a.before a.was in
       let here : Counted (Between n) counts place a.table a.after =
@@ -331,7 +325,7 @@ module _ (base : NamedStates) (x : Seated) (y : Seated) (place : ℕ) (sound : A
   closed_shut closing flushing n two all =
       let a = two.first in
       let b = two.second in
-      let later = entry_ready base two.first_clock x (NoteOf (what.Closed n) closing) two.between a ready in
+      let later = entry_ready two.first_clock x (NoteOf (what.Closed n) closing) two.between a base ready in
       let of = is_of base x place a.table sound ready a.at in
       let sits = ready.stewards place a.before a.was in
       let each : AtEach (ShutBelow base (suc place)) two.between =

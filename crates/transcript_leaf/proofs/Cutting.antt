@@ -1,6 +1,8 @@
 -- Of a leaf something is cut off for a lane, before any has played.
 use Rattle.std.proofs.Common.{◌≡◌, ◌⊎◌, inl, inr, ℕ, ◌<◌, ◌≤◌, Bool, true, false, List, [], ◌∷◌, ◌++◌, length, map, Option, Some, None, refl, sym, ap, subst, ◌∙◌, arith, IfSome, MatchBool}
 use Rattle.std.specs.Prelude.{is_some, slice_get}
+use Rattle.std.proofs.lemmas.Bool.{cases_lt}
+use Rattle.std.proofs.lemmas.Option.{slice_get_past}
 use Rattle.berth_face.specs.Berth.{Meaning}
 use Rattle.leaf_history.specs.History.{Entry}
 use Rattle.leaf_table.specs.Turns.{Shared}
@@ -11,18 +13,20 @@ use Rattle.transcript.specs.Transcript.{Known, base_state_of}
 use Rattle.leaf_moves.specs.Stage.{Leaf, seated_of}
 use Rattle.leaf_moves.specs.Holds.{Hold, caller_in, steward_in}
 use Rattle.leaf_moves.specs.Lanes.{CutsOffAt}
-use Rattle.transcript_leaf.specs.Session.{AreApart, HoldsBoth, IsCallers, IsStewards, LeafHeld, LeafSession, OneOf, OwnedBy}
+use Rattle.transcript_leaf.specs.Session.{AreApart, HoldsBoth, IsCallers, IsStewards, LeafHeld, LeafSession, OwnedBy}
 use Rattle.transcript_leaf.proofs.Lists.{element_at}
 use Rattle.transcript_leaf.proofs.Lending.{order_none}
 use Rattle.transcript_leaf.proofs.Parts.{IsPartOf, SplitAt, owned_callers, owned_stewards, split_at, table_part}
-use Rattle.transcript_leaf.proofs.Places.{below_or_not, caller_beyond, get_beyond}
+use Rattle.transcript_leaf.proofs.Places.{caller_beyond}
 use Rattle.transcript_leaf.proofs.Sessions.{many_seats, many_tables}
+use Rattle.transcript_leaf.proofs.Ids.{kept_both, none_before}
+use Rattle.transcript_leaf.proofs.Merging.{AreBoth, both_sum}
 
 module _ {B : Type 0} (meaning : B → Meaning) (number : ℕ) (names : List (List ℕ)) (known : Option Known) (old : Meaning) (before : List Piece) (start : ℕ → List Entry) (items : List PlayedItem)
     (x : Hold B) (now : LeafSession meaning number names known old before start items x) where
   -- each seat is what it is
   pub seats_are : (place : ℕ) → IfSome (steward_in x.held place) IsStewards × IfSome (caller_in x.callers place) IsCallers
-  seats_are place = by (below_or_not place (length names))
+  seats_are place = by (cases_lt place (length names))
     where
       none : (h : Option (Leaf × B)) → ((l : Leaf) (b : B) → h ≡ Some (l, b) → slice_get (seated_of l).seats place ≡ None) → steward_in h place ≡ None
       none None f = refl
@@ -30,18 +34,44 @@ module _ {B : Type 0} (meaning : B → Meaning) (number : ℕ) (names : List (Li
 
       by : (place < length names) ⊎ (length names ≤ place) → IfSome (steward_in x.held place) IsStewards × IfSome (caller_in x.callers place) IsCallers
       by (inl below) =
-          let t = element_at x.tables place (omega (arith, below, many_tables meaning number names known old before start items x now)) in
+          let t = element_at x.tables place (omega (arith, below, many_tables x now)) in
           let s = now.tables place t.0 t.1 in
           (s.stewards, s.callers)
       by (inr beyond) = (
-        subst (λ (s : Option SeatView). IfSome s IsStewards) (sym (none x.held (λ l b e. get_beyond (seated_of l).seats place
-            (omega (arith, beyond, many_seats meaning number names known old before start items x now l b e, now.callers_are))))) tt,
+        subst (λ (s : Option SeatView). IfSome s IsStewards) (sym (none x.held (λ l b e. slice_get_past (seated_of l).seats place
+            (omega (arith, beyond, many_seats x now l b e, now.callers_are))))) tt,
         subst (λ (s : Option SeatView). IfSome s IsCallers) (sym (caller_beyond x.callers place (omega (arith, beyond, now.callers_are)))) tt,
       )
 
-which : (acts : Bool) (X Y : Type 0) → MatchBool acts X Y → X ⊎ Y
-which true X Y h = inl h
-which false X Y h = inr h
+-- what was of one is of the first, or of the second
+abbrev Side : {X : Type 0} → Option X → Option X → Option X → Type 0
+Side off rest x = ((off ≡ x) × (rest ≡ None)) ⊎ ((off ≡ None) × (rest ≡ x))
+
+side_of : {X : Type 0} (acts : Bool) (off rest x : Option X) → MatchBool acts ((off ≡ x) × (rest ≡ None)) ((off ≡ None) × (rest ≡ x)) → Side off rest x
+side_of true off rest x h = inl h
+side_of false off rest x h = inr h
+
+side_parts : {X : Type 0} (off rest x : Option X) → Side off rest x → ((off ≡ None) ⊎ (off ≡ x)) × ((rest ≡ None) ⊎ (rest ≡ x))
+side_parts off rest x (inl h) = (inr h.0, inl h.1)
+side_parts off rest x (inr h) = (inl h.0, inr h.1)
+
+side_held : {X : Type 0} (off rest x : Option X) → Side off rest x
+    → ((is_some rest ≡ false → is_some x ≡ is_some off) × (is_some off ≡ false → is_some x ≡ is_some rest)) × ((is_some rest ≡ false) ⊎ (is_some off ≡ false))
+side_held off rest x (inl h) = rw (h.0, h.1) ((λ e. refl, λ e. e), inl refl)
+side_held off rest x (inr h) = rw (h.0, h.1) ((λ e. e, λ e. refl), inr refl)
+
+-- so is the steward's seat
+side_seat : {B : Type 0} (off rest x : Option (Leaf × B)) (place : ℕ) → Side off rest x → Side (steward_in off place) (steward_in rest place) (steward_in x place)
+side_seat off rest x place (inl h) = inl (ap (λ o. steward_in o place) h.0, ap (λ o. steward_in o place) h.1)
+side_seat off rest x place (inr h) = inr (ap (λ o. steward_in o place) h.0, ap (λ o. steward_in o place) h.1)
+
+side_both : (off rest x : Option SeatView) → Side off rest x → AreBoth (OwnedBy rest) (OwnedBy off) (OwnedBy x)
+side_both off rest x (inl h) = rw (h.0, h.1) (none_before x)
+side_both off rest x (inr h) = rw (h.0, h.1) (kept_both x)
+
+side_apart : (off rest x : Option SeatView) → Side off rest x → (id : ℕ) → OwnedBy rest id → OwnedBy off id → ⊥
+side_apart off rest x (inl h) id a b = subst (λ (s : Option SeatView). OwnedBy s id) h.1 a
+side_apart off rest x (inr h) id a b = subst (λ (s : Option SeatView). OwnedBy s id) h.0 b
 
 module _ {B : Type 0} where
   -- the steward's seat is that which was there, or none is
@@ -87,42 +117,21 @@ module _ {B : Type 0} where
     split place = split_at (needs place) (caller_in x.callers place) (caller_in off.callers place) (caller_in rest.callers place)
         (seats_are meaning number names known old before start (Burst [] ∷ []) x now place).1 (cut.seats place)
 
-    held_by : ((off.held ≡ x.held) × (rest.held ≡ None)) ⊎ ((off.held ≡ None) × (rest.held ≡ x.held))
-    held_by = which acts ((off.held ≡ x.held) × (rest.held ≡ None)) ((off.held ≡ None) × (rest.held ≡ x.held)) cut.held
+    side : Side off.held rest.held x.held
+    side = side_of acts off.held rest.held x.held cut.held
 
-    off_held : ((off.held ≡ x.held) × (rest.held ≡ None)) ⊎ ((off.held ≡ None) × (rest.held ≡ x.held)) → (off.held ≡ None) ⊎ (off.held ≡ x.held)
-    off_held (inl h) = inr h.0
-    off_held (inr h) = inl h.0
+    seat_side : (place : ℕ) → Side (steward_in off.held place) (steward_in rest.held place) (steward_in x.held place)
+    seat_side place = side_seat off.held rest.held x.held place side
 
-    rest_held : ((off.held ≡ x.held) × (rest.held ≡ None)) ⊎ ((off.held ≡ None) × (rest.held ≡ x.held)) → (rest.held ≡ None) ⊎ (rest.held ≡ x.held)
-    rest_held (inl h) = inl h.1
-    rest_held (inr h) = inr h.1
+    cut_off : LeafSession meaning number names known old before start [] off
+    cut_off = part_session meaning number names known old before start (Burst [] ∷ []) [] x off now refl refl (λ place low high l. l) cut.tables.0 cut.counts.0 (side_parts off.held rest.held x.held side).0 (λ place. (split place).off_part)
 
-    pub cut_off : LeafSession meaning number names known old before start [] off
-    cut_off = part_session meaning number names known old before start (Burst [] ∷ []) [] x off now refl refl (λ place low high l. l) cut.tables.0 cut.counts.0 (off_held held_by) (λ place. (split place).off_part)
-
-    pub cut_rest : LeafSession meaning number names known old before start (Burst [] ∷ []) rest
+    cut_rest : LeafSession meaning number names known old before start (Burst [] ∷ []) rest
     cut_rest = part_session meaning number names known old before start (Burst [] ∷ []) (Burst [] ∷ []) x rest now refl refl (λ place low high l. order_none number place low high l) cut.tables.1 cut.counts.1
-        (rest_held held_by) (λ place. (split place).rest_part)
+        (side_parts off.held rest.held x.held side).1 (λ place. (split place).rest_part)
 
-    -- the steward's seat is of one of them
-    steward_is : (place : ℕ) → ((steward_in off.held place ≡ steward_in x.held place) × (steward_in rest.held place ≡ None)) ⊎ ((steward_in off.held place ≡ None) × (steward_in rest.held place ≡ steward_in x.held place))
-    steward_is place = by held_by
-      where
-        at : (h k : Option (Leaf × B)) → h ≡ k → steward_in h place ≡ steward_in k place
-        at h k e = ap (λ (o : Option (Leaf × B)). steward_in o place) e
-
-        by : ((off.held ≡ x.held) × (rest.held ≡ None)) ⊎ ((off.held ≡ None) × (rest.held ≡ x.held))
-            → ((steward_in off.held place ≡ steward_in x.held place) × (steward_in rest.held place ≡ None)) ⊎ ((steward_in off.held place ≡ None) × (steward_in rest.held place ≡ steward_in x.held place))
-        by (inl h) = inl (at off.held x.held h.0, at rest.held None h.1)
-        by (inr h) = inr (at off.held None h.0, at rest.held x.held h.1)
-
-    pub cut_apart : AreApart rest off
-    cut_apart place id (inl a) (inl b) = by (steward_is place)
-      where
-        by : ((steward_in off.held place ≡ steward_in x.held place) × (steward_in rest.held place ≡ None)) ⊎ ((steward_in off.held place ≡ None) × (steward_in rest.held place ≡ steward_in x.held place)) → ⊥
-        by (inl h) = subst (λ (s : Option SeatView). OwnedBy s id) h.1 a
-        by (inr h) = subst (λ (s : Option SeatView). OwnedBy s id) h.0 b
+    cut_apart : AreApart rest off
+    cut_apart place id (inl a) (inl b) = side_apart (steward_in off.held place) (steward_in rest.held place) (steward_in x.held place) (seat_side place) id a b
     cut_apart place id (inl a) (inr b) =
         let none = owned_stewards (steward_in rest.held place) id (seats_are meaning number names known old before start (Burst [] ∷ []) rest cut_rest place).0 a in
         let some = owned_callers (caller_in off.callers place) id (seats_are meaning number names known old before start [] off cut_off place).1 b in
@@ -133,58 +142,17 @@ module _ {B : Type 0} where
         absurd (omega (arith, none, some))
     cut_apart place id (inr a) (inr b) = (split place).apart id a b
 
-    pub cut_both : HoldsBoth rest off x
-    cut_both = record {
-      ids = λ place id. (to place id, from place id);
-      held = (first held_by, second held_by);
-      one = alone held_by;
-    }
-      where
-        steward_to : (place id : ℕ) → OwnedBy (steward_in x.held place) id → OneOf (steward_in rest.held place) (caller_in rest.callers place) id ⊎ OneOf (steward_in off.held place) (caller_in off.callers place) id
-        steward_to place id o = by (steward_is place)
-          where
-            by : ((steward_in off.held place ≡ steward_in x.held place) × (steward_in rest.held place ≡ None)) ⊎ ((steward_in off.held place ≡ None) × (steward_in rest.held place ≡ steward_in x.held place))
-                → OneOf (steward_in rest.held place) (caller_in rest.callers place) id ⊎ OneOf (steward_in off.held place) (caller_in off.callers place) id
-            by (inl h) = inr (inl (subst (λ (s : Option SeatView). OwnedBy s id) (sym h.0) o))
-            by (inr h) = inl (inl (subst (λ (s : Option SeatView). OwnedBy s id) (sym h.1) o))
+    cut_both : HoldsBoth rest off x
+    cut_both =
+        let both = side_held off.held rest.held x.held side in record {
+          ids = λ place id.
+              both_sum (OwnedBy (steward_in rest.held place)) (OwnedBy (steward_in off.held place)) (OwnedBy (steward_in x.held place))
+              (OwnedBy (caller_in rest.callers place)) (OwnedBy (caller_in off.callers place)) (OwnedBy (caller_in x.callers place))
+              (side_both (steward_in off.held place) (steward_in rest.held place) (steward_in x.held place) (seat_side place)) (split place).both id;
+          held = both.0;
+          one = both.1;
+        }
 
-        spread : (place id : ℕ) → OwnedBy (caller_in rest.callers place) id ⊎ OwnedBy (caller_in off.callers place) id
-            → OneOf (steward_in rest.held place) (caller_in rest.callers place) id ⊎ OneOf (steward_in off.held place) (caller_in off.callers place) id
-        spread place id (inl o) = inl (inr o)
-        spread place id (inr o) = inr (inr o)
-
-        to : (place id : ℕ) → OneOf (steward_in x.held place) (caller_in x.callers place) id
-            → OneOf (steward_in rest.held place) (caller_in rest.callers place) id ⊎ OneOf (steward_in off.held place) (caller_in off.callers place) id
-        to place id (inl o) = steward_to place id o
-        to place id (inr o) = spread place id (((split place).both id).0 o)
-
-        rest_steward : (place id : ℕ) → OwnedBy (steward_in rest.held place) id
-            → ((steward_in off.held place ≡ steward_in x.held place) × (steward_in rest.held place ≡ None)) ⊎ ((steward_in off.held place ≡ None) × (steward_in rest.held place ≡ steward_in x.held place))
-            → OwnedBy (steward_in x.held place) id
-        rest_steward place id o (inl h) = absurd (subst (λ (s : Option SeatView). OwnedBy s id) h.1 o)
-        rest_steward place id o (inr h) = subst (λ (s : Option SeatView). OwnedBy s id) h.1 o
-
-        off_steward : (place id : ℕ) → OwnedBy (steward_in off.held place) id
-            → ((steward_in off.held place ≡ steward_in x.held place) × (steward_in rest.held place ≡ None)) ⊎ ((steward_in off.held place ≡ None) × (steward_in rest.held place ≡ steward_in x.held place))
-            → OwnedBy (steward_in x.held place) id
-        off_steward place id o (inl h) = subst (λ (s : Option SeatView). OwnedBy s id) h.0 o
-        off_steward place id o (inr h) = absurd (subst (λ (s : Option SeatView). OwnedBy s id) h.0 o)
-
-        from : (place id : ℕ) → OneOf (steward_in rest.held place) (caller_in rest.callers place) id ⊎ OneOf (steward_in off.held place) (caller_in off.callers place) id
-            → OneOf (steward_in x.held place) (caller_in x.callers place) id
-        from place id (inl (inl o)) = inl (rest_steward place id o (steward_is place))
-        from place id (inl (inr o)) = inr (((split place).both id).1 (inl o))
-        from place id (inr (inl o)) = inl (off_steward place id o (steward_is place))
-        from place id (inr (inr o)) = inr (((split place).both id).1 (inr o))
-
-        first : ((off.held ≡ x.held) × (rest.held ≡ None)) ⊎ ((off.held ≡ None) × (rest.held ≡ x.held)) → is_some rest.held ≡ false → is_some x.held ≡ is_some off.held
-        first (inl h) e = ap is_some (sym h.0)
-        first (inr h) e = ap is_some (sym h.1) ∙ (e ∙ sym (ap is_some h.0))
-
-        second : ((off.held ≡ x.held) × (rest.held ≡ None)) ⊎ ((off.held ≡ None) × (rest.held ≡ x.held)) → is_some off.held ≡ false → is_some x.held ≡ is_some rest.held
-        second (inl h) e = ap is_some (sym h.0) ∙ (e ∙ sym (ap is_some h.1))
-        second (inr h) e = ap is_some (sym h.1)
-
-        alone : ((off.held ≡ x.held) × (rest.held ≡ None)) ⊎ ((off.held ≡ None) × (rest.held ≡ x.held)) → (is_some rest.held ≡ false) ⊎ (is_some off.held ≡ false)
-        alone (inl h) = inl (ap is_some h.1)
-        alone (inr h) = inr (ap is_some h.0)
+    -- something is cut off for a lane, before any has played
+    pub leaf_cuts : LeafSession meaning number names known old before start [] off × LeafSession meaning number names known old before start (Burst [] ∷ []) rest × AreApart rest off × HoldsBoth rest off x
+    leaf_cuts = (cut_off, cut_rest, cut_apart, cut_both)

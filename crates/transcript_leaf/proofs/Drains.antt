@@ -1,5 +1,5 @@
 -- The life of a leaf behind a drain, by what that does to it.
-use Rattle.std.proofs.Common.{◌≡◌, ℕ, zero, suc, ◌+◌, ◌≤◌, Bool, true, List, [], ◌++◌, length, refl, sym, ap, subst, ◌∙◌, arith, Option, Some, None}
+use Rattle.std.proofs.Common.{◌≡◌, ℕ, zero, suc, ◌+◌, ◌≤◌, Bool, true, false, List, [], ◌++◌, length, refl, sym, ap, subst, ◌∙◌, arith, Option, Some, None}
 use Rattle.std.specs.Prelude.{IfSome, is_some, option_map, replicate}
 use Rattle.std.specs.List.{AllByRecursion}
 use Rattle.std.proofs.lemmas.List.{append-nil}
@@ -17,22 +17,22 @@ use Rattle.leaf_steward.specs.declared.notes.Note.{Note}
 use Rattle.leaf_steward.specs.Seated.{Seated, AreFounded}
 use Rattle.leaf_steward.proofs.WatchMakes.{makes_tables}
 use Rattle.leaf_machine.specs.States.{bulk_added, columns_added, columns_seen}
+use Rattle.printed_lines.specs.declared.line.Deed.{Deed}
 use Rattle.printed_lines.specs.declared.line.Deed.TheVariants.{Drain}
 use Rattle.transcript.specs.Transcript.{Known}
-use Rattle.transcript.specs.Life.{Columns, Life, LifeMode, Down, Preparing, OfDrain, ClosesRest, DrainComes, IsCopyWithin, StageOfDrain, Starves, claimed, durable_after, durable_with, failed, on, way_stopped}
+use Rattle.transcript.specs.Life.{Columns, Life, LifeMode, Does, Down, Preparing, OfDrain, ClosesRest, DrainComes, IsCopyWithin, StageOfDrain, Starves, claimed, durable_after, durable_with, failed, on, way_stopped}
 use Rattle.transcript.specs.Life as life
 use Rattle.leaf_moves.specs.Stage.{Leaf, seated_of}
 use Rattle.leaf_moves.specs.Modes.{mode_of}
 use Rattle.leaf_moves.specs.Steps.{DrainMoves, HasCopyLength, MakesNoted, Reaches, RegionStopped, Stops, WhereStands, noted_all}
 use Rattle.leaf_moves.proofs.NoteLines.{closed_noted, handed_noted, noted_none, noted_split}
-use Rattle.transcript_leaf.specs.Session.{HaveKnownBase, AreInPlace, FitsNext, StandsKnown}
-use Rattle.transcript_leaf.specs.Acting.{FitsWay, Hands, Lived}
+use Rattle.transcript_leaf.specs.Session.{HaveKnownBase, FitsNext, StandsKnown}
+use Rattle.transcript_leaf.specs.Acting.{FitsWay, Hands, Lived, loses_counts}
 use Rattle.transcript_leaf.specs.Acting as acting
-use Rattle.transcript_leaf.proofs.Modes.{as_many, counts_stay, founded_known, founded_where, resting_mode, same_held, way_claim, way_stays, where_known}
+use Rattle.transcript_leaf.proofs.Modes.{Stood, founded_where, resting_mode, same_held, way_claim, way_stays, where_known}
 use Rattle.transcript_leaf.proofs.Ways.{left_as}
-use Rattle.transcript_leaf.proofs.CountingNotes.{AllNotes, AreStewards, IsStill, all_closed, all_handed, durable_append, durable_still}
-use Rattle.transcript_leaf.proofs.Handing.{handed_columns, hands_nothing, part_stewards}
-use Rattle.transcript_leaf.proofs.Adding.{hands_bulk, hands_most}
+use Rattle.transcript_leaf.proofs.CountingNotes.{AllNotes, IsStill, all_closed, all_handed, are_founded, as_many, durable_append, durable_still, makes_stewards}
+use Rattle.transcript_leaf.proofs.Handing.{handed_columns, hands_nothing, hands_bulk, hands_most}
 
 -- ---- the way of the next start
 
@@ -77,11 +77,27 @@ part_founded : (x : Seated) (notes : List Note) (y : Seated) → MakesNoted x no
 part_founded x notes y part founded =
     subst (λ (ts : List Shared). AllByRecursion (λ (t : Shared). is_founded (base_seen t) ≡ true) ts) (sym (makes_tables part.from part.to x notes y part.made)) founded
 
+-- ---- a deed that leaves the leaf alone
+
+no_notes : (durable : Option (List ℕ)) → durable ≡ durable_with durable []
+no_notes None = refl
+no_notes (Some counts) = refl
+
+pub left_lives : (names : List (List ℕ)) (known : Option Known) (life : Life) (m m' : Meaning) (leaf : Leaf) → Stood names known life leaf m → (deed : Deed) (ends : Ending)
+    → m'.held ≡ m.held → loses_counts deed ends ≡ false → ((columns : Columns) → Does (is_some known) (length names) columns deed life [] ends life)
+    → Lived known (length names) deed life [] ends leaf m'
+left_lives names known life m m' leaf given deed ends same calm does = record {
+  next = life;
+  hands = hands_nothing leaf;
+  does = λ columns few more. does columns;
+  counts = acting.keeps calm (no_notes life.durable);
+  mode = given.mode;
+  way = way_stays known life life leaf m m' refl given.next (same_held known leaf m m' given.stands same);
+}
+
 -- ---- each way that a drain may end
 
-module _ (names : List (List ℕ)) (known : Option Known) (stop : Option ℕ) (old : Life) (m m' : Meaning) (leaf : Leaf) (notes : List Note) (leaf' : Leaf)
-    (place : AreInPlace names (seated_of leaf)) (known_base : HaveKnownBase known (seated_of leaf)) (stewards : AreStewards (seated_of leaf))
-    (stands : IfSome known (λ (k : Known). StandsKnown k leaf m)) (mode : old.mode ≡ mode_of leaf) (fits : FitsNext known old leaf m) where
+module _ (names : List (List ℕ)) (known : Option Known) (stop : Option ℕ) (old : Life) (m m' : Meaning) (leaf : Leaf) (notes : List Note) (leaf' : Leaf) (given : Stood names known old leaf m) where
   abbrev based : Bool
   based = is_some known
 
@@ -92,20 +108,20 @@ module _ (names : List (List ℕ)) (known : Option Known) (stop : Option ℕ) (o
   LivedSo ends = Lived known tables (Drain stop) old (noted_all notes) ends leaf' m'
 
   size : length (seated_of leaf).tables ≡ tables
-  size = as_many names (seated_of leaf) place
+  size = as_many names (seated_of leaf).tables given.in_place.named
 
   -- what holds of a leaf with a base holds where the base is known
   promised : (P : Type 0) → WhereStands leaf m P → IfSome known (λ (k : Known). P)
-  promised P holds = by known known_base stands
+  promised P holds = by known given.known_base given.stands
     where
       by : (o : Option Known) → HaveKnownBase o (seated_of leaf) → IfSome o (λ (k : Known). StandsKnown k leaf m) → IfSome o (λ (k : Known). P)
       by None on stood = tt
-      by (Some k) on stood = holds k.base stood.tells (founded_known names k (seated_of leaf) place on) stood.stands
+      by (Some k) on stood = holds k.base stood.tells (are_founded names (seated_of leaf) given.in_place k.base on) stood.stands
 
   -- how far its life came
   module _ (copy : ℕ) (s : StageOfDrain) (r : Reaches leaf leaf' notes copy s) where
     comes : DrainComes tables copy r.made old.mode (noted_all r.treating) s
-    comes = subst (λ (a : LifeMode). DrainComes tables copy r.made a (noted_all r.treating) s) (sym mode) (subst (λ (n : ℕ). DrainComes n copy r.made (mode_of leaf) (noted_all r.treating) s) size r.comes)
+    comes = subst (λ (a : LifeMode). DrainComes tables copy r.made a (noted_all r.treating) s) (sym given.mode) (subst (λ (n : ℕ). DrainComes n copy r.made (mode_of leaf) (noted_all r.treating) s) size r.comes)
 
     split : noted_all notes ≡ noted_all r.treating ++ noted_all r.last
     split = noted_split notes r.treating r.last r.notes_are
@@ -119,7 +135,7 @@ module _ (names : List (List ℕ)) (known : Option Known) (stop : Option ℕ) (o
     still all = still_with old.durable r.treating r.last all ∙ ap (λ (ns : List Note). durable_with old.durable (noted_all ns)) (sym r.notes_are)
 
     founded : based ≡ true → AreFounded (seated_of leaf')
-    founded is = part_founded r.between r.last (seated_of leaf') r.ends (part_founded (seated_of leaf) r.treating r.between r.treats (founded_where names known (seated_of leaf) place known_base is))
+    founded is = part_founded r.between r.last (seated_of leaf') r.ends (part_founded (seated_of leaf) r.treating r.between r.treats (founded_where names known (seated_of leaf) given.in_place given.known_base is))
 
     within : HasCopyLength (seated_of leaf') copy → (most : ℕ) → (based ≡ true → columns_added (seated_of leaf').tables (seated_of leaf').seats ≤ most) → IsCopyWithin based most copy
     within long most few = λ is.
@@ -141,7 +157,7 @@ module _ (names : List (List ℕ)) (known : Option Known) (stop : Option ℕ) (o
         most = 0;
         bulk = 0;
         told = λ base_states histories on. handed_columns base_states histories (seated_of leaf') on r.ends.from r.ends.to r.between r.last (length (seated_of leaf).tables) r.ends.made h.4
-            (part_stewards (seated_of leaf) r.treating r.between r.treats stewards);
+            (makes_stewards r.treats.from r.treats.to (seated_of leaf) r.treating r.between r.treats.made given.stewards);
         few = λ base_states histories notes on noted. (omega arith, omega arith);
       } in
       let does : (columns : Columns) → columns.least hands.handed ≤ hands.columns → OfDrain based tables columns stop old (noted_all notes) ending.Done next =
@@ -202,7 +218,7 @@ module _ (names : List (List ℕ)) (known : Option Known) (stop : Option ℕ) (o
         does = λ columns few more. does columns (λ is. (more is).1);
         counts = acting.keeps refl refl;
         mode = sym h.7;
-        way = way_stays known old next leaf m m' refl fits (where_known known leaf m (m'.held.region ≡ m.held.region) stands h.8);
+        way = way_stays known old next leaf m m' refl given.next (where_known known leaf m (m'.held.region ≡ m.held.region) given.stands h.8);
       }
 
   -- there is no memory
@@ -219,7 +235,7 @@ module _ (names : List (List ℕ)) (known : Option Known) (stop : Option ℕ) (o
         does = λ columns few more. does columns;
         counts = acting.keeps refl refl;
         mode = sym h.5;
-        way = way_stays known old next leaf m m' refl fits (where_known known leaf m (m'.held.region ≡ m.held.region) stands h.6);
+        way = way_stays known old next leaf m m' refl given.next (where_known known leaf m (m'.held.region ≡ m.held.region) given.stands h.6);
       }
 
   -- the disk fails
@@ -236,7 +252,7 @@ module _ (names : List (List ℕ)) (known : Option Known) (stop : Option ℕ) (o
         does = λ columns few more. does columns;
         counts = acting.lost refl;
         mode = sym h.6;
-        way = way_stays known old next leaf m m' refl fits (where_known known leaf m (m'.held.region ≡ m.held.region) stands h.7);
+        way = way_stays known old next leaf m m' refl given.next (where_known known leaf m (m'.held.region ≡ m.held.region) given.stands h.7);
       }
 
   -- it is stopped at a stage, and the leaf is killed
@@ -252,7 +268,7 @@ module _ (names : List (List ℕ)) (known : Option Known) (stop : Option ℕ) (o
         does = λ columns few more. does columns (λ is. (more is).0);
         counts = acting.keeps refl (still copy s r all);
         mode = sym down;
-        way = stopped_way known old leaf m m' s fits region next refl;
+        way = stopped_way known old leaf m m' s given.next region next refl;
       }
 
   -- while there were tables to treat, or at their end, each that is still open is closed; behind steps of the copy none is open
@@ -262,7 +278,7 @@ module _ (names : List (List ℕ)) (known : Option Known) (stop : Option ℕ) (o
       let none = h.1 in
       let closes : ClosesRest tables (life.Shutting p) (noted_all r.last) = (shut.0, ap (λ (n : ℕ). life.first_open p + n) shut.1 ∙ (h.2 ∙ size), shut.2) in
       stopped_at copy (life.Shutting p) r (hands_nothing leaf') stops down (λ columns more is. omega (arith, none)) closes (all_closed (life.first_open p) h.0 r.last h.3)
-      (where_known known leaf m (m'.held.region ≡ m.held.region) stands h.4)
+      (where_known known leaf m (m'.held.region ≡ m.held.region) given.stands h.4)
   stopped copy (life.Copying made) r stops h down =
       let closes : ClosesRest tables (life.Copying made) (noted_all r.last) = noted_none r.last h.1 in
       stopped_at copy (life.Copying made) r (hands_most leaf' h.0.2) stops down (λ columns more. within copy (life.Copying made) r h.0 columns.most more) closes
@@ -272,14 +288,7 @@ module _ (names : List (List ℕ)) (known : Option Known) (stop : Option ℕ) (o
   -- the leaf is down
   not_up : DrainMoves m m' leaf stop notes ending.NotUp leaf' → LivedSo ending.NotUp
   not_up h =
-      let does : (columns : Columns) → OfDrain based tables columns stop old (noted_all notes) ending.NotUp old = λ columns. (mode ∙ resting_mode leaf h.0, noted_none notes h.1, refl) in record {
-        next = old;
-        hands = hands_nothing leaf';
-        does = λ columns few more. does columns;
-        counts = acting.keeps refl (counts_stay old.durable notes h.1);
-        mode = mode ∙ sym (ap mode_of h.3);
-        way = way_stays known old old leaf m m' refl fits (same_held known leaf m m' stands h.2);
-      }
+      rw (h.1, h.3) (left_lives names known old m m' leaf given (Drain stop) ending.NotUp h.2 refl (λ columns. (given.mode ∙ resting_mode leaf h.0, refl, refl)))
 
   pub drain_lives : (ends : Ending) → DrainMoves m m' leaf stop notes ends leaf' → LivedSo ends
   drain_lives ending.Done h = done h
@@ -289,9 +298,4 @@ module _ (names : List (List ℕ)) (known : Option Known) (stop : Option ℕ) (o
   drain_lives ending.FaultDisk h = halted h
   drain_lives ending.Stopped h = stopped h.0 h.1 h.2 h.3 h.4 h.5
   drain_lives ending.NotUp h = not_up h
-  drain_lives ending.NotDown h = absurd h
-  drain_lives ending.Worn h = absurd h
-  drain_lives (ending.Started way) h = absurd h
-  drain_lives ending.FaultDamaged h = absurd h
-  drain_lives (ending.FaultStranger name) h = absurd h
-  drain_lives (ending.FaultWorn table) h = absurd h
+  drain_lives ends h = absurd h

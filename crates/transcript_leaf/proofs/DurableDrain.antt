@@ -23,15 +23,15 @@ use Rattle.transcript.specs.Counts.{is_disk_fault}
 use Rattle.transcript.specs.Pieces.{Noted}
 use Rattle.transcript.specs.Life.{BeginsAt, Copying, Down, NotesOf, Owed, Preparing, Progress, Shutting, StageOfDrain, Starves, StepOfDrain, StepsOfDrain, Treats, durable_after, first_open}
 use Rattle.transcript.specs.Transcript.{Known}
-use Rattle.leaf_moves.specs.Stage.{Leaf, IsDown, IsUp, IsPreparing, AreHandedNothing, Carries, LeafStands, seated_of}
+use Rattle.leaf_moves.specs.Stage.{Leaf, IsDown, IsUp, IsPreparing, AreHandedNothing, LeafStands, seated_of}
 use Rattle.leaf_moves.specs.Modes.{mode_of, progress_of}
 use Rattle.leaf_moves.specs.Steps.{DrainMoves, MakesNoted, Reaches, Stops, noted_all, said_of_note}
 use Rattle.leaf_moves.proofs.Modes.{none_owed, owed_none}
 use Rattle.leaf_moves.proofs.NoteLines.{words_in}
-use Rattle.transcript_leaf.specs.Session.{AtCounts, HaveKnownBase, AreInPlace, IsDurable, IsSettled, StandsKnown}
+use Rattle.transcript_leaf.specs.Session.{AtCounts, IsDurable, IsSettled}
 use Rattle.transcript_leaf.proofs.Lists.{clash_bool}
 use Rattle.transcript_leaf.proofs.Counting.{settled_handed, shut_handed, state_with}
-use Rattle.transcript_leaf.proofs.CountingNotes.{AllNotes, AreReady, AreStewards, Counted, IsStill, SettledAt, ShutBelow, TablesFounded, all_closed, all_handed, closed_flushed, closed_shut, durable_append, durable_still, each_all, makes_leave, makes_nothing, makes_ready, makes_two}
+use Rattle.transcript_leaf.proofs.CountingNotes.{AllNotes, AreReady, Counted, IsStill, SettledAt, ShutBelow, TablesFounded, all_closed, all_handed, closed_flushed, closed_shut, durable_append, durable_still, each_all, makes_leave, makes_nothing, makes_ready, makes_two}
 use Rattle.transcript_leaf.proofs.CountingLogs.{AreLogged, rests_logged, serving_logged}
 use Rattle.transcript_leaf.proofs.CountingGiven.{Given, count_behind, founded_of, left_alone, ready_of, stands_behind}
 
@@ -60,18 +60,12 @@ noted_parts (n ∷ ns) (f ∷ fs) others e =
     (n ∷ rest.0, rest.1, ap (λ (l : List Note). n ∷ l) rest.2, ap₂ (λ (x : Noted) (xs : List Noted). x ∷ xs) (heads _ _ _ _ e) rest.3, rest.4)
 
 said_closed : (w : What) (n : ℕ) → said_of_note w ≡ said.Closed n → w ≡ what.Closed n
-said_closed (what.Opened k) n e = absurd cc
-said_closed (what.Took k) n e = absurd cc
-said_closed (what.Flushed k) n e = absurd cc
 said_closed (what.Closed k) n e = cc
-said_closed what.Handed n e = absurd cc
+said_closed w n e = absurd cc
 
 said_flushed : (w : What) (n : ℕ) → said_of_note w ≡ said.Flushed n → w ≡ what.Flushed n
-said_flushed (what.Opened k) n e = absurd cc
-said_flushed (what.Took k) n e = absurd cc
 said_flushed (what.Flushed k) n e = cc
-said_flushed (what.Closed k) n e = absurd cc
-said_flushed what.Handed n e = absurd cc
+said_flushed w n e = absurd cc
 
 note_is : (n : Note) (table : ℕ) (w : What) → n.table ≡ table → n.what ≡ w → n ≡ record { table = table; number = n.number; what = w }
 note_is n table w at is = ap₂ (λ (t : ℕ) (v : What). let m : Note = record { table = t; number = n.number; what = v } in m) at is
@@ -330,7 +324,8 @@ module _ (names : List (List ℕ)) (k : Known) (counts : List ℕ) (m m' : Meani
   stopped copy (Shutting p) r stops down = killed copy p r down stops
   stopped copy (Copying made) r stops down = done_durable k.base (By notes) m' leaf' down long stands ready_behind (comes_behind copy (Copying made) r stops.1)
 
-  drain_moves : (stop : Option ℕ) (ends : Ending) → DrainMoves m m' leaf stop notes ends leaf' → is_disk_fault ends ≡ false → Later
+  -- one that tells of no fault of the disk leaves just as many writes of each table as its notes say
+  pub drain_moves : (stop : Option ℕ) (ends : Ending) → DrainMoves m m' leaf stop notes ends leaf' → is_disk_fault ends ≡ false → Later
   drain_moves stop ending.Done h calm =
       let r = h.1 in
       let at = Copying h.0 in
@@ -346,19 +341,4 @@ module _ (names : List (List ℕ)) (k : Known) (counts : List ℕ) (m m' : Meani
   drain_moves stop ending.FaultDisk h calm = absurd (clash_bool true refl calm)
   drain_moves stop ending.Stopped h calm = stopped h.0 h.1 h.2 h.4 h.5
   drain_moves stop ending.NotUp h calm = left_alone names k counts m m' notes leaf leaf' g h.1 h.2 h.3
-  drain_moves stop ending.NotDown h calm = absurd h
-  drain_moves stop ending.Worn h calm = absurd h
-  drain_moves stop (ending.Started way) h calm = absurd h
-  drain_moves stop ending.FaultDamaged h calm = absurd h
-  drain_moves stop (ending.FaultStranger name) h calm = absurd h
-  drain_moves stop (ending.FaultWorn table) h calm = absurd h
-
--- A drain that tells of no fault of the disk leaves just as many writes of each table as its notes say.
-pub drain_durable : (names : List (List ℕ)) (k : Known) (counts : List ℕ) (stop : Option ℕ) (m m' : Meaning) (leaf : Leaf) (notes : List Note)
-    (ends : Ending) (leaf' : Leaf)
-    → AreInPlace names (seated_of leaf) → HaveKnownBase (Some k) (seated_of leaf) → AreStewards (seated_of leaf) → StandsKnown k leaf m → Carries leaf leaf' notes m m'
-    → DrainMoves m m' leaf stop notes ends leaf' → is_disk_fault ends ≡ false → IsDurable k.base counts leaf m
-    → IsDurable k.base (durable_after counts (noted_all notes)) leaf' m'
-drain_durable names k counts stop m m' leaf notes ends leaf' in_place known_base stewards known carries moves calm durable =
-    drain_moves names k counts m m' leaf notes leaf'
-    (record { in_place = in_place; known_base = known_base; stewards = stewards; known = known; carries = carries; durable = durable }) stop ends moves calm
+  drain_moves stop ends h calm = absurd h

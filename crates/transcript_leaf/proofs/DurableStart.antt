@@ -45,7 +45,7 @@ use Rattle.leaf_moves.specs.Steps.{StartMoves, StartsTold, noted_all, said_of_no
 use Rattle.transcript_leaf.specs.Session.{HaveKnownBase, AreInPlace, AtCounts, IsDurable, IsSettled, StandsKnown}
 use Rattle.transcript_leaf.proofs.Lists.{clash_bool, element_at, get_map, length_mapped, same_some, within}
 use Rattle.transcript_leaf.proofs.Counting.{IsOf, settled_opened}
-use Rattle.transcript_leaf.proofs.CountingNotes.{AreStewards, seat_at, set_same, tables_count, tables_founded}
+use Rattle.transcript_leaf.proofs.CountingNotes.{AreStewards, as_many, seat_there, set_same, tables_founded}
 use Rattle.transcript_leaf.proofs.CountingLogs.{has_begins, has_begun, one_count}
 use Rattle.transcript_leaf.proofs.CountingGiven.{Given, left_alone, of_leaves, counts_same}
 
@@ -117,10 +117,7 @@ IsOpenedWith counts place w = (n : ℕ) × (slice_get counts place ≡ Some n) �
 
 opened_what : (w : What) (n : ℕ) → said_of_note w ≡ said.Opened n → w ≡ what.Opened n
 opened_what (what.Opened k) n e = cc
-opened_what (what.Took k) n e = cc
-opened_what (what.Flushed k) n e = cc
-opened_what (what.Closed k) n e = cc
-opened_what what.Handed n e = cc
+opened_what w n e = cc
 
 none_before : (i : ℕ) → i ≡ 0 + i
 none_before i = omega arith
@@ -184,13 +181,13 @@ opened_counts names k counts m m' x s notes way in_place known_base known durabl
     found = found_by k.base (watched_by x) known.stands.0 known.stands.1 m x.names m'.held.disk served way known.stands.2 told.came.started.come told.came.started.disk
 
     count : length counts ≡ length served.tables
-    count = durable.0 ∙ tables_count names x in_place ∙ sym (ap (λ (ns : List (List ℕ)). length ns) in_place.same_names)
+    count = durable.0 ∙ as_many names x.tables in_place.named ∙ sym (ap (λ (ns : List (List ℕ)). length ns) in_place.same_names)
         ∙ sym (length_mapped found.table x.names) ∙ sym (ap (λ (ts : List Table). length ts) found.are)
 
     each : (i n : ℕ) (u : Table) → slice_get counts i ≡ Some n → slice_get served.tables i ≡ Some u → n ≡ u.writes
     each i n u at is =
         let t = element_at x.tables i (omega (arith, within counts i n at, durable.0)) in
-        let v = seat_at names x i t.0 in_place t.1 in
+        let v = seat_there names x in_place i t.0 t.1 in
         let name = name_of t.0 in
         let had : LogHas m.held.disk name n = durable.1 i t.0 v.0 t.1 v.1 n at in
         let now : LogHas m'.held.disk name n = subst (λ (d : List ℕ). LogHas d name n) (sym told.came.started.disk) (has_after way m.held.disk name n had) in
@@ -216,11 +213,11 @@ opened_durable names k counts m m' x s notes way in_place known_base stewards kn
     settled : AtCounts (IsSettled k.base) s.seated counts
     settled place t w at now n e =
         let there : slice_get x.tables place ≡ Some t = ap (λ (ts : List Shared). slice_get ts place) (sym same_tables) ∙ at in
-        let v = seat_at names x place t in_place there in
+        let v = seat_there names x in_place place t there in
         let one : MadeAt (IsOpenedWith counts) m.clock m'.clock place t v.0 w = went.noted place t v.0 w (omega arith) (omega (arith, within counts place n e)) there v.1 now in
         let same : one.noted.0 ≡ n = same_some one.noted.0 n (sym one.noted.1 ∙ e) in
         let made : MadeAs (base_seen t) one.clock v.0 (what.Opened one.noted.0) w = subst (λ (u : What). MadeAs (base_seen t) one.clock v.0 u w) one.noted.2 one.made in
-        let of : IsOf k.base t = record { founded = tables_founded names k x in_place known_base place t there; sound = known.sound (name_of t) } in
+        let of : IsOf k.base t = record { founded = tables_founded names x in_place k.base known_base place t there; sound = known.sound (name_of t) } in
         subst (λ (c : ℕ). IsSettled k.base t w c) same (settled_opened k.base t one.clock v.0 w of (stewards place v.0 v.1) one.noted.0 made)
 
 module _ (names : List (List ℕ)) (k : Known) (counts : List ℕ) (m m' : Meaning) (notes : List Note) where

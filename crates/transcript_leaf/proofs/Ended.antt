@@ -23,14 +23,14 @@ use Rattle.transcript.specs.Leaving.{LeavesBerth}
 use Rattle.leaf_moves.specs.Stage.{Leaf, seated_of}
 use Rattle.leaf_moves.specs.Holds.{Hold, caller_in, base_state_at, seen_by, seen_in, steward_in}
 use Rattle.transcript.specs.Moments.{MomentsRise, notes_told}
-use Rattle.transcript_leaf.specs.Session.{AreMet, IsStewards, IsWhole, LeafHeld, LeafSession, OneOf, OwnedBy, TableSession}
+use Rattle.transcript_leaf.specs.Session.{AreMet, AreToldOn, IsStewards, IsWhole, LeafHeld, LeafSession, OneOf, OwnedBy, TableSession}
 use Rattle.transcript_leaf.proofs.Lists.{element_at, get_map, name_is, same_some}
 use Rattle.transcript_leaf.proofs.Merging.{tells_all, tells_nothing}
-use Rattle.transcript_leaf.proofs.TableActs.{nothing_since}
 use Rattle.transcript_leaf.proofs.Standing.{leaves_met}
 use Rattle.transcript_leaf.proofs.Lending.{seats_at, seen_is, table_whole}
 use Rattle.transcript_leaf.proofs.Sessions.{many_tables}
 use Rattle.transcript_leaf.proofs.ToldOn.{base_state_is, told_at_end}
+use Rattle.transcript_leaf.proofs.Tables.{nothing_since}
 
 -- ---- what its tables began from
 
@@ -88,10 +88,10 @@ begins_again m = record {
 }
 
 -- what its tables began from is what is known of it
-pub base_states_are : {B : Type 0} (meaning : B → Meaning) (number : ℕ) (names : List (List ℕ)) (known : Option Known) (old : Meaning) (before : List Piece) (start : ℕ → List Entry) (items : List PlayedItem) (x : Hold B)
+pub leaf_base_state : {B : Type 0} (meaning : B → Meaning) (number : ℕ) (names : List (List ℕ)) (known : Option Known) (old : Meaning) (before : List Piece) (start : ℕ → List Entry) (items : List PlayedItem) (x : Hold B)
     → LeafSession meaning number names known old before start items x → (table : ℕ) → table < length names → base_state_at x.tables table ≡ base_state_of known (name_at names table)
-base_states_are meaning number names known old before start items x now table below =
-    let t = element_at x.tables table (omega (arith, below, many_tables meaning number names known old before start items x now)) in
+leaf_base_state meaning number names known old before start items x now table below =
+    let t = element_at x.tables table (omega (arith, below, many_tables x now)) in
     let from = now.known_base table t.0 t.1 in
     let named : name_of t.0 ≡ name_at names table =
     name_is names table (name_of t.0) (ap (λ (ns : List (List ℕ)). slice_get ns table) (sym now.named) ∙ get_map name_of x.tables table t.0 t.1) in
@@ -103,7 +103,7 @@ module _ {B : Type 0} (meaning : B → Meaning) (number : ℕ) (names : List (Li
   module _ (whole : IsWhole x) (met : AreMet x) (table : ℕ) (below : table < length names) where
     -- the table in that place
     at : (t : Shared) × (slice_get x.tables table ≡ Some t)
-    at = element_at x.tables table (omega (arith, below, many_tables meaning number names known old [] (λ place. []) items x now))
+    at = element_at x.tables table (omega (arith, below, many_tables x now))
 
     named : name_of at.0 ≡ name_at names table
     named = name_is names table (name_of at.0) (ap (λ (ns : List (List ℕ)). slice_get ns table) (sym now.named) ∙ get_map name_of x.tables table at.0 at.1)
@@ -117,15 +117,15 @@ module _ {B : Type 0} (meaning : B → Meaning) (number : ℕ) (names : List (Li
     seen : seen_in x table ≡ seen_of seats.1
     seen = seen_is meaning number names known old [] (λ place. []) items x now met whole table seats.0 seats.1 seats.2 seats.3
 
-    pub history : IsHistoryOf (base_state_of known (name_at names table)) (shown number table (all_pieces items)) (seen_in x table)
-    history =
+    pub leaf_history : IsHistoryOf (base_state_of known (name_at names table)) (shown number table (all_pieces items)) (seen_in x table)
+    leaf_history =
         let are = met table seats.0 seats.1 seats.2 seats.3 in
         subst (λ (es : List Entry). IsHistoryOf (base_state_of known (name_at names table)) (shown number table (all_pieces items)) es) (sym seen)
         (subst (λ (n : List ℕ). IsHistoryOf (base_state_of known n) (shown number table (all_pieces items)) (seen_of seats.1)) named
         (table_history (base_state_of known (name_of at.0)) number table items seats.0 seats.1 session are.0 are.1 seats.4))
 
-    pub order : InOrder number table 0 items (length (seen_in x table))
-    order =
+    pub leaf_order : InOrder number table 0 items (length (seen_in x table))
+    leaf_order =
         subst (λ (es : List Entry). InOrder number table 0 items (length es)) (sym seen)
         (table_order (base_state_of known (name_of at.0)) number table items seats.0 seats.1 session (met table seats.0 seats.1 seats.2 seats.3).0)
 
@@ -137,9 +137,9 @@ strangers_of number names (Some d) old pieces l m k is s =
     subst (λ (x : Known). StrangersIn names x.held.disk x.held.region (deeds number pieces)) (same_some d k is)
     (subst (λ (ds : List Did). StrangersIn names d.held.disk d.held.region ds) (append-nil (deeds number pieces)) (s.of_known.named.on [] (λ rest. tt)))
 
-pub strangers_in : {B : Type 0} (meaning : B → Meaning) (number : ℕ) (names : List (List ℕ)) (known : Option Known) (old : Meaning) (items : List PlayedItem) (x : Hold B) (k : Known) → known ≡ Some k
+pub leaf_strangers : {B : Type 0} (meaning : B → Meaning) (number : ℕ) (names : List (List ℕ)) (known : Option Known) (old : Meaning) (items : List PlayedItem) (x : Hold B) (k : Known) → known ≡ Some k
     → LeafSession meaning number names known old [] (λ place. []) items x → IsWhole x → StrangersIn names k.held.disk k.held.region (deeds number (all_pieces items))
-strangers_in meaning number names known old items x k is now whole =
+leaf_strangers meaning number names known old items x k is now whole =
     strangers_of number names known old (all_pieces items) whole.leaf (meaning whole.berth) k is (now.held whole.leaf whole.berth whole.held).1
 
 -- ---- what is left of its berth
@@ -153,41 +153,38 @@ left_of number names (Some d) old pieces l m histories k is s seen =
     (leaves_met names d.base s.life l histories old m (begins_again m) s.of_known.now.tells s.of_known.now.sound s.in_place s.known_base (λ place t v at sat. seen place v sat)
     s.of_known.now.stands s.of_known.told s.next.0)
 
-seen_alike : (v : SeatView) (c : Option SeatView) → ((s : SeatView) → c ≡ Some s → seen_of v ≡ seen_of s) → seen_of v ≡ seen_by (Some v) c
-seen_alike v None same = refl
-seen_alike v (Some c) same = same c refl
+module _ {B : Type 0} (meaning : B → Meaning) (number : ℕ) (names : List (List ℕ)) (known : Option Known) (old : Meaning) (items : List PlayedItem) (x : Hold B) where
+  -- its steward's seats have seen what there is
+  seen_at_end : AreMet x → (l : Leaf) (b : B) → x.held ≡ Some (l, b) → (place : ℕ) (v : SeatView) → slice_get (seated_of l).seats place ≡ Some v → seen_of v ≡ seen_in x place
+  seen_at_end met l b held place v sat =
+      alike (caller_in x.callers place) (λ s e. (met place v s steward_is e).0) ∙ ap (λ (w : Option SeatView). seen_by w (caller_in x.callers place)) (sym steward_is)
+    where
+      steward_is : steward_in x.held place ≡ Some v
+      steward_is = ap (λ (h : Option (Leaf × B)). steward_in h place) held ∙ sat
 
-pub left : {B : Type 0} (meaning : B → Meaning) (number : ℕ) (names : List (List ℕ)) (known : Option Known) (old : Meaning) (items : List PlayedItem) (x : Hold B) (k : Known) → known ≡ Some k
-    → (now : LeafSession meaning number names known old [] (λ place. []) items x) → AreMet x → (l : Leaf) (b : B) (held : x.held ≡ Some (l, b))
-    → LeavesBerth names k.base (now.held l b held).1.life (λ place. seen_in x place) old (meaning b)
-left {B} meaning number names known old items x k is now met l b held =
-    left_of number names known old (all_pieces items) l (meaning b) (λ place. seen_in x place) k is (now.held l b held).1 (λ place v sat.
-    let steward_is : steward_in x.held place ≡ Some v = ap (λ (h : Option (Leaf × B)). steward_in h place) held ∙ sat in
-    seen_alike v (caller_in x.callers place) (λ s e. (met place v s steward_is e).0) ∙ ap (λ (w : Option SeatView). seen_by w (caller_in x.callers place)) (sym steward_is))
+      alike : (c : Option SeatView) → ((s : SeatView) → c ≡ Some s → seen_of v ≡ seen_of s) → seen_of v ≡ seen_by (Some v) c
+      alike None same = refl
+      alike (Some c) same = same c refl
 
--- ---- its life
+  told_all : (now : LeafSession meaning number names known old [] (λ place. []) items x) → AreMet x → (l : Leaf) (b : B) → x.held ≡ Some (l, b)
+      → AreToldOn (λ table. base_state_of known (name_at names table)) (λ table. seen_in x table) (seated_of l)
+  told_all now met l b held =
+      let is = (now.held l b held).1 in
+      told_at_end names known (seated_of l) (λ table. seen_in x table) is.in_place is.known_base (λ place v sat. ([], sym (seen_at_end met l b held place v sat) ∙ sym (append-nil (seen_of v))))
 
-pub lives_all : {B : Type 0} (meaning : B → Meaning) (number : ℕ) (names : List (List ℕ)) (known : Option Known) (old : Meaning) (items : List PlayedItem) (x : Hold B)
-    → (now : LeafSession meaning number names known old [] (λ place. []) items x) → AreMet x → (l : Leaf) (b : B) (held : x.held ≡ Some (l, b))
-    → Lives (is_some known) (length names) (columns_of (λ table. base_state_of known (name_at names table)) (λ table. seen_in x table) (length names)) [] (first_life known names) (deeds number (all_pieces items))
-    (now.held l b held).1.life
-lives_all {B} meaning number names known old items x now met l b held =
-    let is = (now.held l b held).1 in
-    is.lives (λ table. base_state_of known (name_at names table)) (λ table. seen_in x table)
-    (told_at_end names known (seated_of l) (λ table. seen_in x table) is.in_place is.known_base (λ place v sat.
-    let steward_is : steward_in x.held place ≡ Some v = ap (λ (h : Option (Leaf × B)). steward_in h place) held ∙ sat in
-    let same = seen_alike v (caller_in x.callers place) (λ s e. (met place v s steward_is e).0) ∙ ap (λ (w : Option SeatView). seen_by w (caller_in x.callers place)) (sym steward_is) in
-    ([], sym same ∙ sym (append-nil (seen_of v)))))
+  pub leaf_leaves : (k : Known) → known ≡ Some k → (now : LeafSession meaning number names known old [] (λ place. []) items x) → AreMet x → (l : Leaf) (b : B) (held : x.held ≡ Some (l, b))
+      → LeavesBerth names k.base (now.held l b held).1.life (λ place. seen_in x place) old (meaning b)
+  leaf_leaves k is now met l b held = left_of number names known old (all_pieces items) l (meaning b) (λ place. seen_in x place) k is (now.held l b held).1 (seen_at_end met l b held)
 
--- ---- the moments of its entries
+  -- ---- its life
 
-pub moments_all : {B : Type 0} (meaning : B → Meaning) (number : ℕ) (names : List (List ℕ)) (known : Option Known) (old : Meaning) (items : List PlayedItem) (x : Hold B)
-    → LeafSession meaning number names known old [] (λ place. []) items x → AreMet x → (l : Leaf) (b : B) → x.held ≡ Some (l, b)
-    → MomentsRise (λ table. seen_in x table) old.clock (notes_told number (all_pieces items)) (meaning b).clock
-moments_all {B} meaning number names known old items x now met l b held =
-    let is = (now.held l b held).1 in
-    is.moments (λ table. base_state_of known (name_at names table)) (λ table. seen_in x table)
-    (told_at_end names known (seated_of l) (λ table. seen_in x table) is.in_place is.known_base (λ place v sat.
-    let steward_is : steward_in x.held place ≡ Some v = ap (λ (h : Option (Leaf × B)). steward_in h place) held ∙ sat in
-    let same = seen_alike v (caller_in x.callers place) (λ s e. (met place v s steward_is e).0) ∙ ap (λ (w : Option SeatView). seen_by w (caller_in x.callers place)) (sym steward_is) in
-    ([], sym same ∙ sym (append-nil (seen_of v)))))
+  pub leaf_lives : (now : LeafSession meaning number names known old [] (λ place. []) items x) → AreMet x → (l : Leaf) (b : B) (held : x.held ≡ Some (l, b))
+      → Lives (is_some known) (length names) (columns_of (λ table. base_state_of known (name_at names table)) (λ table. seen_in x table) (length names)) [] (first_life known names) (deeds number (all_pieces items))
+      (now.held l b held).1.life
+  leaf_lives now met l b held = (now.held l b held).1.lives (λ table. base_state_of known (name_at names table)) (λ table. seen_in x table) (told_all now met l b held)
+
+  -- ---- the moments of its entries
+
+  pub moments_all : LeafSession meaning number names known old [] (λ place. []) items x → AreMet x → (l : Leaf) (b : B) → x.held ≡ Some (l, b)
+      → MomentsRise (λ table. seen_in x table) old.clock (notes_told number (all_pieces items)) (meaning b).clock
+  moments_all now met l b held = (now.held l b held).1.moments (λ table. base_state_of known (name_at names table)) (λ table. seen_in x table) (told_all now met l b held)

@@ -16,16 +16,15 @@ use Rattle.leaf_moves.specs.Stage.{Leaf, Carries, seated_of}
 use Rattle.leaf_moves.specs.Steps.{Moves, noted_all}
 use Rattle.transcript_leaf.specs.Session.{HaveKnownBase, AreInPlace, AreToldOn, IsNoted, IsOwn, KnownLeaf, LeafHeld, StandsKnown}
 use Rattle.transcript_leaf.specs.Acting.{Lived}
-use Rattle.transcript_leaf.proofs.CountingNotes.{AreStewards}
+use Rattle.transcript_leaf.proofs.CountingNotes.{AreStewards, as_many}
 use Rattle.transcript_leaf.proofs.Deeds.{deed_lives}
 use Rattle.transcript_leaf.proofs.Latest.{noted_made}
 use Rattle.transcript_leaf.proofs.Lives.{deeds_act, did, lives_act}
-use Rattle.transcript_leaf.proofs.Modes.{as_many}
 use Rattle.transcript.specs.Moments.{MomentsRise, notes_told}
 use Rattle.transcript_leaf.proofs.Rising.{makes_rise, rise_on, told_act}
 use Rattle.transcript_leaf.proofs.ToldOn.{told_made}
-use Rattle.transcript_leaf.proofs.Behind.{some_weaken}
-use Rattle.transcript_leaf.proofs.Moved.{known_base_moved, known_moved, next_moved, opens, place_moved}
+use Rattle.transcript_leaf.proofs.Moved.{known_base_moved, known_moved, next_moved, place_moved}
+use Rattle.transcript_leaf.proofs.Modes.{Stood, some_weaken}
 
 module _ (number : ℕ) (names : List (List ℕ)) (known : Option Known) (old : Meaning) (pieces : List Piece) (met moved : Leaf) (m m' : Meaning) (deed : Deed) (notes : List Note) (ends : Ending)
     (s : LeafHeld number names known old pieces met m) (stewards : AreStewards (seated_of met)) (moves : Moves deed m m' met notes ends moved) (carries : Carries met moved notes m m') where
@@ -35,9 +34,12 @@ module _ (number : ℕ) (names : List (List ℕ)) (known : Option Known) (old : 
   own : IfSome known (λ k. s.life.begun ≡ true → IsOwn names (seated_of met) m)
   own = some_weaken known (KnownLeaf number names old s.life pieces met m) (λ k. s.life.begun ≡ true → IsOwn names (seated_of met) m) (λ k h. h.own) s.of_known
 
+  given : Stood names known s.life met m
+  given = record { in_place = s.in_place; known_base = s.known_base; stewards = stewards; stands = stands; own = own; mode = s.mode; next = s.next }
+
   -- the life of the leaf behind the deed
   lived : Lived known (length names) deed s.life (noted_all notes) ends moved m'
-  lived = deed_lives names known deed s.life m m' met notes ends moved s.in_place s.known_base stewards stands own s.mode s.next (opens names known s.life m m' met notes s.in_place s.known_base stands s.next) moves
+  lived = deed_lives names known s.life m m' met given deed notes ends moved carries moves
 
   moved_place : AreInPlace names (seated_of moved)
   moved_place = place_moved names met moved notes m m' s.in_place carries
@@ -56,7 +58,7 @@ module _ (number : ℕ) (names : List (List ℕ)) (known : Option Known) (old : 
   few_columns : (base_states : ℕ → BaseState) (histories : ℕ → List Entry) → AreToldOn base_states histories (seated_of moved)
       → (lived.hands.most ≤ (columns_of base_states histories (length names) all_notes).most) × (lived.hands.bulk ≤ (columns_of base_states histories (length names) all_notes).bulk)
   few_columns base_states histories told =
-      subst (λ (n : ℕ). (lived.hands.most ≤ (columns_of base_states histories n all_notes).most) × (lived.hands.bulk ≤ (columns_of base_states histories n all_notes).bulk)) (as_many names (seated_of moved) moved_place)
+      subst (λ (n : ℕ). (lived.hands.most ≤ (columns_of base_states histories n all_notes).most) × (lived.hands.bulk ≤ (columns_of base_states histories n all_notes).bulk)) (as_many names (seated_of moved).tables moved_place.named)
       (lived.hands.few base_states histories all_notes told moved_noted)
 
   pub held_acts : LeafHeld number names known old (pieces ++ Acted number deed (noted_all notes) ends ∷ []) moved m'
@@ -76,6 +78,6 @@ module _ (number : ℕ) (names : List (List ℕ)) (known : Option Known) (old : 
     in_place = moved_place;
     known_base = moved_known_base;
     mode = lived.mode;
-    next = next_moved names known deed s.life m m' met notes ends moved s.in_place s.known_base stewards stands carries moves s.next lived;
-    of_known = known_moved number names known old deed s.life pieces m m' met notes ends moved s.in_place s.known_base s.mode moves carries lived s.of_known;
+    next = next_moved names known deed s.life m m' met notes ends moved given carries moves lived;
+    of_known = known_moved number names known old deed s.life pieces m m' met notes ends moved given moves carries lived s.of_known;
   }

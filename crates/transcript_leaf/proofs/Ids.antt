@@ -1,17 +1,18 @@
 -- The ids of seats: they stay at an entry and at a meeting; one is cut off, and others are taken over.
-use Rattle.std.proofs.Common.{◌≡◌, ◌⊎◌, inl, inr, ℕ, zero, suc, ◌+◌, ◌-◌, ◌<◌, ◌≤◌, List, [], ◌∷◌, ◌++◌, length, Option, Some, refl, sym, ap, subst, ◌∙◌, arith}
+use Rattle.std.proofs.Common.{◌≡◌, ◌⊎◌, inl, inr, ℕ, zero, suc, ◌+◌, ◌-◌, ◌<◌, ◌≤◌, List, [], ◌∷◌, ◌++◌, Option, Some, None, refl, sym, ap, subst, ◌∙◌, arith}
 use mathlib.Core.List.{IsPrefix}
-use Rattle.std.proofs.lemmas.List.{length-append}
 use Rattle.turnstile.specs.Ids.{Among, InShare, LongerOf, OwnsId, run_of}
 use Rattle.turnstile.specs.Seats.{Owns, SeesAlso, keeps_all_but, given}
-use Rattle.turnstile.proofs.Prefixes.{prefix_whole}
+use Rattle.turnstile.proofs.Ids.{among_append, among_front, among_run}
+use Rattle.turnstile.proofs.Prefixes.{prefix_length, prefix_whole}
 use Rattle.leaf_history.specs.Calls.{Call}
 use Rattle.leaf_history.specs.Replies.{EntryReply}
 use Rattle.leaf_table.specs.declared.base.TableBase.{TableBase}
 use Rattle.leaf_table.specs.Calls.{Made, SeatView}
 use Rattle.leaf_moves.specs.Stage.{Meets}
 use Rattle.leaf_moves.specs.Lanes.{JoinsTo}
-use Rattle.transcript_leaf.specs.Session.{IsCallers, IsStewards, OwnedBy, StandApart}
+use Rattle.transcript_leaf.specs.Session.{IsCallers, IsStewards, OneOf, OwnedBy, StandApart}
+use Rattle.transcript_leaf.proofs.Merging.{AreBoth, SameAll, all_back, all_sum}
 
 -- ---- a seat keeps its ids
 
@@ -51,6 +52,35 @@ owns_back v w x same owns =
 
 pub owns_on : (v w : SeatView) (x : ℕ) → SameIds v w → Owns v x → Owns w x
 owns_on v w x same owns = owns_back w v x (same_back v w same) owns
+
+pub owns_same : (v w : SeatView) → SameIds v w → SameAll (Owns v) (Owns w)
+owns_same v w same = λ id. (λ o. owns_on v w id same o, λ o. owns_back v w id same o)
+
+-- who has the same ids of the steward's seat and of the callers' has the same of both
+pub one_same : (v w c d : Option SeatView) → SameAll (OwnedBy v) (OwnedBy w) → SameAll (OwnedBy c) (OwnedBy d) → SameAll (OneOf v c) (OneOf w d)
+one_same v w c d a b = all_sum (OwnedBy v) (OwnedBy w) (OwnedBy c) (OwnedBy d) a b
+
+-- of one of them alone
+pub callers_alone : (c : Option SeatView) → SameAll (OneOf None c) (OwnedBy c)
+callers_alone c = λ id. (to id, λ o. inr o)
+  where
+    to : (id : ℕ) → OneOf None c id → OwnedBy c id
+    to id (inl none) = absurd none
+    to id (inr o) = o
+
+pub stewards_alone : (v : Option SeatView) → SameAll (OneOf v None) (OwnedBy v)
+stewards_alone v = λ id. (to id, λ o. inl o)
+  where
+    to : (id : ℕ) → OneOf v None id → OwnedBy v id
+    to id (inl o) = o
+    to id (inr none) = absurd none
+
+-- a seat, and none beside it
+pub kept_both : (c : Option SeatView) → AreBoth (OwnedBy c) (OwnedBy None) (OwnedBy c)
+kept_both c = all_back (OneOf c None) (OwnedBy c) (stewards_alone c)
+
+pub none_before : (c : Option SeatView) → AreBoth (OwnedBy None) (OwnedBy c) (OwnedBy c)
+none_before c = all_back (OneOf None c) (OwnedBy c) (callers_alone c)
 
 pub stewards_still : (v v' : SeatView) → SameIds v v' → IsStewards v → IsStewards v'
 stewards_still v v' same is = record { id = same.id ∙ is.id; share = same.share ∙ is.share; taken = same.taken ∙ is.taken }
@@ -142,28 +172,9 @@ given_callers s is = let first = is.id in record { id = omega (arith, first); sh
 
 -- ---- others are taken over
 
-among_left : (x : ℕ) (ys zs : List ℕ) → Among x ys → Among x (ys ++ zs)
-among_left x [] zs h = absurd h
-among_left x (y ∷ ys) zs (inl e) = inl e
-among_left x (y ∷ ys) zs (inr h) = inr (among_left x ys zs h)
-
 among_right : (x : ℕ) (ys zs : List ℕ) → Among x zs → Among x (ys ++ zs)
 among_right x [] zs h = h
 among_right x (y ∷ ys) zs h = inr (among_right x ys zs h)
-
-among_either : (x : ℕ) (ys zs : List ℕ) → Among x (ys ++ zs) → Among x ys ⊎ Among x zs
-among_either x [] zs h = inr h
-among_either x (y ∷ ys) zs (inl e) = inl (inl e)
-among_either x (y ∷ ys) zs (inr h) = by (among_either x ys zs h)
-  where
-    by : Among x ys ⊎ Among x zs → Among x (y ∷ ys) ⊎ Among x zs
-    by (inl a) = inl (inr a)
-    by (inr b) = inr b
-
-run_in : (x from n : ℕ) → Among x (run_of from n) → InShare from n x
-run_in x from zero h = absurd h
-run_in x from (suc n) (inl e) = (omega (arith, e), omega (arith, e))
-run_in x from (suc n) (inr h) = let i = run_in x (suc from) n h in (omega (arith, i.0), omega (arith, i.1))
 
 in_run : (x from n : ℕ) → InShare from n x → Among x (run_of from n)
 in_run x from zero i = absurd (omega (arith, i.0, i.1))
@@ -175,19 +186,15 @@ in_run x from (suc n) i = by (less_or_last from x i.0) (λ (l : from < x). in_ru
 
 -- the ids of a seat that was taken over
 own_run : (d : SeatView) (x : ℕ) → Among x (run_of d.id d.share ++ d.taken) → Owns d x
-own_run d x h = by (among_either x (run_of d.id d.share) d.taken h)
+own_run d x h = by (among_append (run_of d.id d.share) d.taken x h)
   where
     by : Among x (run_of d.id d.share) ⊎ Among x d.taken → Owns d x
-    by (inl a) = inl (run_in x d.id d.share a)
+    by (inl a) = inl (among_run d.id d.share x a)
     by (inr b) = inr b
 
 run_own : (d : SeatView) (x : ℕ) → Owns d x → Among x (run_of d.id d.share ++ d.taken)
-run_own d x (inl i) = among_left x (run_of d.id d.share) d.taken (in_run x d.id d.share i)
+run_own d x (inl i) = among_front (run_of d.id d.share) d.taken x (in_run x d.id d.share i)
 run_own d x (inr b) = among_right x (run_of d.id d.share) d.taken b
-
--- the seat t owns what c owned, and what d did
-abbrev pub OwnsBoth : SeatView → Option SeatView → SeatView → Type 0
-OwnsBoth c d t = (id : ℕ) → (Owns t id → Owns c id ⊎ OwnedBy d id) × (Owns c id ⊎ OwnedBy d id → Owns t id)
 
 all_apart : (id share : ℕ) (ids : List ℕ) → ((x : ℕ) → Among x ids → (0 < x) × (InShare id share x → ⊥)) → StandApart id share ids
 all_apart id share [] each = tt
@@ -210,13 +217,14 @@ module _ (c d t : SeatView) (j : JoinsTo c d t) where
   share_is = ap (λ (v : SeatView). v.share) j.joined.view
 
   taken_of : (x : ℕ) → Among x t.taken → Among x j.one.taken ⊎ Owns d x
-  taken_of x h = by (among_either x j.one.taken (run_of j.other.id j.other.share ++ j.other.taken) (subst (λ (ids : List ℕ). Among x ids) taken_is h))
+  taken_of x h = by (among_append j.one.taken (run_of j.other.id j.other.share ++ j.other.taken) x (subst (λ (ids : List ℕ). Among x ids) taken_is h))
     where
       by : Among x j.one.taken ⊎ Among x (run_of j.other.id j.other.share ++ j.other.taken) → Among x j.one.taken ⊎ Owns d x
       by (inl a) = inl a
       by (inr b) = inr (owns_back d j.other x other_ids (own_run j.other x b))
 
-  pub joined_owns : OwnsBoth c (Some d) t
+  -- t owns what c owned, and what d did
+  pub joined_owns : AreBoth (Owns c) (Owns d) (Owns t)
   joined_owns x = (to, from)
     where
       spread : Among x j.one.taken ⊎ Owns d x → Owns c x ⊎ OwnedBy (Some d) x
@@ -229,7 +237,7 @@ module _ (c d t : SeatView) (j : JoinsTo c d t) where
 
       of_one : Owns j.one x → Owns t x
       of_one (inl h) = inl (omega (arith, id_is, h.0), omega (arith, id_is, share_is, h.1))
-      of_one (inr h) = inr (subst (λ (ids : List ℕ). Among x ids) (sym taken_is) (among_left x j.one.taken (run_of j.other.id j.other.share ++ j.other.taken) h))
+      of_one (inr h) = inr (subst (λ (ids : List ℕ). Among x ids) (sym taken_is) (among_front j.one.taken (run_of j.other.id j.other.share ++ j.other.taken) x h))
 
       from : Owns c x ⊎ OwnedBy (Some d) x → Owns t x
       from (inl o) = of_one (owns_on c j.one x one_ids o)
@@ -254,17 +262,14 @@ module _ (c d t : SeatView) (j : JoinsTo c d t) where
 
 -- ---- behind a meeting both have seen the same
 
-shorter : {A : Type 0} (xs ys : List A) → IsPrefix xs ys → length xs ≤ length ys
-shorter xs ys begins = omega (arith, ap (λ zs. length zs) begins.1, length-append xs begins.0)
-
 longer_same : {A : Type 0} (xs ys zs us : List A) → LongerOf xs ys zs → LongerOf ys xs us → zs ≡ us
 longer_same {A} xs ys zs us a b = by a.one b.one
   where
     by : (zs ≡ xs) ⊎ (zs ≡ ys) → (us ≡ ys) ⊎ (us ≡ xs) → zs ≡ us
     by (inl p) (inr q) = p ∙ sym q
     by (inr p) (inl q) = p ∙ sym q
-    by (inl p) (inl q) = prefix_whole zs us (subst (λ (l : List A). IsPrefix l us) (sym p) b.theirs) (shorter us zs (subst (λ (l : List A). IsPrefix l zs) (sym q) a.theirs))
-    by (inr p) (inr q) = prefix_whole zs us (subst (λ (l : List A). IsPrefix l us) (sym p) b.own) (shorter us zs (subst (λ (l : List A). IsPrefix l zs) (sym q) a.own))
+    by (inl p) (inl q) = prefix_whole zs us (subst (λ (l : List A). IsPrefix l us) (sym p) b.theirs) (prefix_length us zs (subst (λ (l : List A). IsPrefix l zs) (sym q) a.theirs))
+    by (inr p) (inr q) = prefix_whole zs us (subst (λ (l : List A). IsPrefix l us) (sym p) b.own) (prefix_length us zs (subst (λ (l : List A). IsPrefix l zs) (sym q) a.own))
 
 pub meets_same : (u c w e : SeatView) → Meets u c w e → w.seen ≡ e.seen
 meets_same u c w e m =

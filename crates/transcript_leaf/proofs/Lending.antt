@@ -1,5 +1,5 @@
 -- A burst of a leaf begins, and ends behind what was before it.
-use Rattle.std.proofs.Common.{◌≡◌, ℕ, ◌+◌, ◌<◌, ◌≤◌, List, [], ◌∷◌, ◌++◌, length, map, Option, Some, refl, sym, ap, subst, ◌∙◌, arith}
+use Rattle.std.proofs.Common.{◌≡◌, ℕ, ◌+◌, ◌<◌, ◌≤◌, List, [], ◌∷◌, ◌++◌, length, map, Option, Some, refl, sym, ap, subst, ◌∙◌, le_refl, arith}
 use Rattle.std.specs.Prelude.{slice_get}
 use Rattle.std.specs.List.{AllByRecursion, flat_map}
 use Rattle.std.proofs.lemmas.Grind.{flat_map-append}
@@ -14,23 +14,21 @@ use Rattle.transcript.specs.Histories.{BaseState, InOrder, Rises, Shown, shown, 
 use Rattle.transcript.specs.Transcript.{Known, base_state_of}
 use Rattle.leaf_moves.specs.Stage.{Leaf, seated_of}
 use Rattle.leaf_moves.specs.Holds.{Hold, caller_in, seen_by, seen_in, steward_in}
-use Rattle.transcript_leaf.specs.Session.{AreMet, AreSame, IsWhole, LeafHeld, LeafSession, OneOf, TableSession}
-use Rattle.transcript_leaf.proofs.Lists.{element_at, get_map, name_is, within}
+use Rattle.transcript_leaf.specs.Session.{AreMet, AreSame, IsWhole, LeafHeld, LeafSession, TableSession}
+use Rattle.transcript_leaf.proofs.Lists.{element_at, within}
 use Rattle.transcript_leaf.proofs.Tables.{table_lent}
 use Rattle.transcript_leaf.proofs.Backs.{ones_rise, plays_ones}
-use Rattle.transcript_leaf.proofs.Telling.{pieces_append}
-use Rattle.transcript_leaf.proofs.Whole.{whole_still}
-use Rattle.transcript_leaf.proofs.Places.{caller_is}
-use Rattle.transcript_leaf.proofs.Sessions.{many_seats, many_tables, retell}
+use Rattle.transcript_leaf.proofs.Telling.{pieces_append, retell}
+use Rattle.transcript_leaf.proofs.Growing.{whole_still}
+use Rattle.transcript_leaf.proofs.Places.{caller_is, same_name}
+use Rattle.transcript_leaf.proofs.Sessions.{many_seats, many_tables}
+use Rattle.transcript_leaf.proofs.Merging.{rises_lower, rises_most}
 
 -- ---- one table
 
-same_most : (n : ℕ) → n ≤ n
-same_most n = omega arith
-
 -- lanes of which none has played yet
 pub order_none : (number place low high : ℕ) → low ≤ high → InOrder number place low (Burst [] ∷ []) high
-order_none number place low high l = (high, (l, tt), same_most high)
+order_none number place low high l = (high, (l, tt), le_refl high)
 
 -- all that was seen is the beginning of the burst
 table_lends : (g : BaseState) (start : List Entry) (number place : ℕ) (items : List PlayedItem) (v c : SeatView) → TableSession g start number place items (Some v) (Some c) → seen_of v ≡ seen_of c
@@ -58,18 +56,10 @@ table_lends g start number place items v c t same = record {
 -- ---- the numbers of lanes that were played one after another
 
 rises_split : (low high : ℕ) (xs ys : List Shown) → Rises low (xs ++ ys) high → Rises low xs high × Rises low ys high
-rises_split low high [] ys h = (up low ys h, h)
-  where
-    up : (low : ℕ) (zs : List Shown) → Rises low zs high → low ≤ high
-    up low [] h = h
-    up low (z ∷ zs) h = let further = up z.number zs h.1 in omega (arith, h.0, further)
+rises_split low high [] ys h = (rises_most low high ys h, h)
 rises_split low high (x ∷ xs) ys h =
     let rest = rises_split x.number high xs ys h.1 in
-    ((h.0, rest.0), lower low x.number ys (omega (arith, h.0)) rest.1)
-  where
-    lower : (a b : ℕ) (zs : List Shown) → a ≤ b → Rises b zs high → Rises a zs high
-    lower a b [] l r = omega (arith, l, r)
-    lower a b (z ∷ zs) l r = (omega (arith, l, r.0), r.1)
+    ((h.0, rest.0), rises_lower low x.number ys high (omega (arith, h.0)) rest.1)
 
 shown_pieces : (number place : ℕ) (xs ys : List Played) → shown number place (pieces_in (xs ++ ys)) ≡ shown number place (pieces_in xs) ++ shown number place (pieces_in ys)
 shown_pieces number place xs ys =
@@ -83,15 +73,11 @@ each_rises number place low high (lane ∷ lanes) h =
     (subst (λ (ss : List Shown). Rises low ss high) (shown_pieces number place lane (flat_map (λ l. l) lanes)) h) in
     (two.0, each_rises number place low high lanes two.1)
 
-rises_most : (low high : ℕ) (xs : List Shown) → Rises low xs high → low ≤ high
-rises_most low high [] h = h
-rises_most low high (x ∷ xs) h = let further = rises_most x.number high xs h.1 in omega (arith, h.0, further)
-
 pub order_in_turn : (number place low high : ℕ) (items : List PlayedItem) (lanes : List (List Played))
     → InOrder number place low (items ++ map One (flat_map (λ lane. lane) lanes)) high → InOrder number place low (items ++ Burst lanes ∷ []) high
 order_in_turn number place low high [] lanes h =
     let all = ones_rise number place low high (flat_map (λ l. l) lanes) h in
-    (high, (rises_most low high (shown number place (pieces_in (flat_map (λ l. l) lanes))) all, each_rises number place low high lanes all), same_most high)
+    (high, (rises_most low high (shown number place (pieces_in (flat_map (λ l. l) lanes))) all, each_rises number place low high lanes all), le_refl high)
 order_in_turn number place low high (x ∷ xs) lanes h = (h.0, h.1, order_in_turn number place h.0 high xs lanes h.2)
 
 pub pieces_in_turn : (items : List PlayedItem) (lanes : List (List Played)) → all_pieces (items ++ Burst lanes ∷ []) ≡ all_pieces (items ++ map One (flat_map (λ lane. lane) lanes))
@@ -105,9 +91,9 @@ pieces_in_turn items lanes =
 
 module _ {B : Type 0} (meaning : B → Meaning) (number : ℕ) (names : List (List ℕ)) (known : Option Known) (old : Meaning) (before : List Piece) (start : ℕ → List Entry) (items : List PlayedItem) where
   -- lanes that were played one after another are a burst too
-  pub in_turn : (lanes : List (List Played)) (x : Hold B) → LeafSession meaning number names known old before start (items ++ map One (flat_map (λ lane. lane) lanes)) x
+  pub leaf_in_turn : (lanes : List (List Played)) (x : Hold B) → LeafSession meaning number names known old before start (items ++ map One (flat_map (λ lane. lane) lanes)) x
       → LeafSession meaning number names known old before start (items ++ Burst lanes ∷ []) x
-  in_turn lanes x now = record {
+  leaf_in_turn lanes x now = record {
     named = now.named;
     callers_are = now.callers_are;
     tables = λ place t at.
@@ -121,9 +107,9 @@ module _ {B : Type 0} (meaning : B → Meaning) (number : ℕ) (names : List (Li
     -- the seats of each table
     pub seats_at : (place : ℕ) (t : Shared) → slice_get x.tables place ≡ Some t → (v c : SeatView) × (steward_in x.held place ≡ Some v) × (caller_in x.callers place ≡ Some c) × OwnsTheRest c
     seats_at place t at =
-        let below : place < length x.callers = omega (arith, within x.tables place t at, was.callers_are, many_tables meaning number names known old before start items x was) in
+        let below : place < length x.callers = omega (arith, within x.tables place t at, was.callers_are, many_tables x was) in
         let c = whole.seats place below in
-        let v = element_at (seated_of whole.leaf).seats place (omega (arith, below, many_seats meaning number names known old before start items x was whole.leaf whole.berth whole.held)) in
+        let v = element_at (seated_of whole.leaf).seats place (omega (arith, below, many_seats x was whole.leaf whole.berth whole.held)) in
         (v.0, c.0, ap (λ (h : Option (Leaf × B)). steward_in h place) whole.held ∙ v.1, caller_is x.callers place (Some c.0) c.1, c.2)
 
     -- a table's session, over the seats that are there
@@ -137,18 +123,15 @@ module _ {B : Type 0} (meaning : B → Meaning) (number : ℕ) (names : List (Li
     pub seen_is : (place : ℕ) (v c : SeatView) → steward_in x.held place ≡ Some v → caller_in x.callers place ≡ Some c → seen_in x place ≡ seen_of c
     seen_is place v c sat called = ap (λ (d : Option SeatView). seen_by (steward_in x.held place) d) called ∙ ap (λ (s : Option SeatView). seen_by s (Some c)) sat
 
-    pub lends : LeafSession meaning number names known old (before ++ all_pieces items) (λ place. seen_in x place) (Burst [] ∷ []) x
-    lends = record {
+    pub leaf_lends : LeafSession meaning number names known old (before ++ all_pieces items) (λ place. seen_in x place) (Burst [] ∷ []) x
+    leaf_lends = record {
       named = was.named;
       callers_are = was.callers_are;
       tables = λ place t at.
           let s = seats_at place t at in
           let v = s.0 in
           let c = s.1 in
-          subst (λ (es : List Entry). TableSession (base_state_of known (name_of t)) es number place (Burst [] ∷ []) (steward_in x.held place) (caller_in x.callers place)) (sym (seen_is place v c s.2 s.3))
-          (subst (λ (u : Option SeatView). TableSession (base_state_of known (name_of t)) (seen_of c) number place (Burst [] ∷ []) u (caller_in x.callers place)) (sym s.2)
-          (subst (λ (d : Option SeatView). TableSession (base_state_of known (name_of t)) (seen_of c) number place (Burst [] ∷ []) (Some v) d) (sym s.3)
-          (table_lends (base_state_of known (name_of t)) (start place) number place items v c (table_whole place t v c at s.2 s.3) (met place v c s.2 s.3).0)));
+          rw (s.2, s.3) (table_lends (base_state_of known (name_of t)) (start place) number place items v c (table_whole place t v c at s.2 s.3) (met place v c s.2 s.3).0);
       known_base = was.known_base;
       held = λ l b e. let h = was.held l b e in (h.0, subst (λ (ps : List Piece). LeafHeld number names known old ps l (meaning b)) (sym (append-nil (before ++ all_pieces items))) h.1);
     }
@@ -160,25 +143,10 @@ module _ {B : Type 0} (meaning : B → Meaning) (number : ℕ) (names : List (Li
       y_whole : IsWhole y
       y_whole = whole_still meaning number names known old (before ++ all_pieces items) (λ place. seen_in x place) (Burst lanes ∷ []) x y was.callers_are now same whole
 
-      -- the table of x in that place has its name
-      table_was : (place : ℕ) (t : Shared) → slice_get y.tables place ≡ Some t → (u : Shared) × (slice_get x.tables place ≡ Some u) × (name_of u ≡ name_of t)
-      table_was place t at =
-          let u = element_at x.tables place (omega (
-            arith,
-            within y.tables place t at,
-            many_tables meaning number names known old before start items x was,
-            many_tables meaning number names known old (before ++ all_pieces items) (λ place. seen_in x place) (Burst lanes ∷ []) y now,
-          )) in (
-            u.0,
-            u.1,
-            name_is names place (name_of u.0) (ap (λ (ns : List (List ℕ)). slice_get ns place) (sym was.named) ∙ get_map name_of x.tables place u.0 u.1)
-                ∙ sym (name_is names place (name_of t) (ap (λ (ns : List (List ℕ)). slice_get ns place) (sym now.named) ∙ get_map name_of y.tables place t at)),
-          )
-
       table_joined : (place : ℕ) (t : Shared) → slice_get y.tables place ≡ Some t
           → TableSession (base_state_of known (name_of t)) (start place) number place (items ++ Burst lanes ∷ []) (steward_in y.held place) (caller_in y.callers place)
       table_joined place t at =
-          let u = table_was place t at in
+          let u = same_name names y.tables x.tables now.named was.named place t at in
           let s = seats_at place u.0 u.1 in
           let v = s.0 in
           let c = s.1 in
@@ -186,37 +154,22 @@ module _ {B : Type 0} (meaning : B → Meaning) (number : ℕ) (names : List (Li
             arith,
             within y.tables place t at,
             now.callers_are,
-            many_tables meaning number names known old (before ++ all_pieces items) (λ place. seen_in x place) (Burst lanes ∷ []) y now,
+            many_tables y now,
           ) in
           let c' = y_whole.seats place below in
           let v' = element_at (seated_of y_whole.leaf).seats place (omega (
             arith,
             below,
-            many_seats meaning number names known old (before ++ all_pieces items) (λ place. seen_in x place) (Burst lanes ∷ []) y now y_whole.leaf y_whole.berth y_whole.held,
+            many_seats y now y_whole.leaf y_whole.berth y_whole.held,
           )) in
           let sat : steward_in y.held place ≡ Some v'.0 = ap (λ (h : Option (Leaf × B)). steward_in h place) y_whole.held ∙ v'.1 in
           let called : caller_in y.callers place ≡ Some c'.0 = caller_is y.callers place (Some c'.0) c'.1 in
           let burst : TableSession (base_state_of known (name_of t)) (seen_of c) number place (Burst lanes ∷ []) (Some v'.0) (Some c'.0) =
-          subst (λ (es : List Entry). TableSession (base_state_of known (name_of t)) es number place (Burst lanes ∷ []) (Some v'.0) (Some c'.0)) (seen_is place v c s.2 s.3)
-          (subst (λ (d : Option SeatView). TableSession (base_state_of known (name_of t)) (seen_in x place) number place (Burst lanes ∷ []) (Some v'.0) d) called
-          (subst (λ (w : Option SeatView). TableSession (base_state_of known (name_of t)) (seen_in x place) number place (Burst lanes ∷ []) w (caller_in y.callers place)) sat (now.tables place t at))) in
+          rw (sat, called, s.2, s.3) at (now.tables place t at) in
           let first : TableSession (base_state_of known (name_of t)) (start place) number place items (Some v) (Some c) =
           subst (λ (n : List ℕ). TableSession (base_state_of known n) (start place) number place items (Some v) (Some c)) u.2 (table_whole place u.0 v c u.1 s.2 s.3) in
-          subst (λ (w : Option SeatView). TableSession (base_state_of known (name_of t)) (start place) number place (items ++ Burst lanes ∷ []) w (caller_in y.callers place)) (sym sat)
-          (subst (λ (d : Option SeatView). TableSession (base_state_of known (name_of t)) (start place) number place (items ++ Burst lanes ∷ []) (Some v'.0) d) (sym called)
-          (table_lent (base_state_of known (name_of t)) (start place) number place items lanes v c v'.0 c'.0 first (met place v c s.2 s.3).0 burst
-          (λ id o. one_of y place v'.0 c'.0 id sat called ((same.ids place id).0 (one_as x place v c id s.2 s.3 o)))
-          (λ id o. one_of x place v c id s.2 s.3 ((same.ids place id).1 (one_as y place v'.0 c'.0 id sat called o)))))
-        where
-          one_of : (z : Hold B) (place : ℕ) (v c : SeatView) (id : ℕ) → steward_in z.held place ≡ Some v → caller_in z.callers place ≡ Some c → OneOf (steward_in z.held place) (caller_in z.callers place) id
-              → OneOf (Some v) (Some c) id
-          one_of z place v c id sat called o =
-              subst (λ (d : Option SeatView). OneOf (Some v) d id) called (subst (λ (s : Option SeatView). OneOf s (caller_in z.callers place) id) sat o)
-
-          one_as : (z : Hold B) (place : ℕ) (v c : SeatView) (id : ℕ) → steward_in z.held place ≡ Some v → caller_in z.callers place ≡ Some c → OneOf (Some v) (Some c) id
-              → OneOf (steward_in z.held place) (caller_in z.callers place) id
-          one_as z place v c id sat called o =
-              subst (λ (s : Option SeatView). OneOf s (caller_in z.callers place) id) (sym sat) (subst (λ (d : Option SeatView). OneOf (Some v) d id) (sym called) o)
+          rw (sat, called) (table_lent (base_state_of known (name_of t)) (start place) number place items lanes v c v'.0 c'.0 first (met place v c s.2 s.3).0 burst
+          (rw (s.2, s.3, sat, called) at (same.ids place)))
 
       pub joined_on : LeafSession meaning number names known old before start (items ++ Burst lanes ∷ []) y
       joined_on = record {

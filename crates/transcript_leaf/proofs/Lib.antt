@@ -1,5 +1,4 @@
 pub mod Acting
-pub mod Adding
 pub mod AsHanded
 pub mod Backs
 pub mod Beginning
@@ -13,8 +12,6 @@ pub mod Deeds
 pub mod Drains
 pub mod Durable
 pub mod DurableDrain
-pub mod DurableFlush
-pub mod DurableKill
 pub mod DurableStart
 pub mod Ended
 pub mod Going
@@ -33,11 +30,9 @@ pub mod Named
 pub mod Noting
 pub mod Parts
 pub mod Places
-pub mod Reaching
 pub mod Returning
 pub mod Sessions
 pub mod Standing
-pub mod Starts
 pub mod Stewards
 pub mod TableActs
 pub mod TableCalls
@@ -47,11 +42,8 @@ pub mod Taking
 pub mod Telling
 pub mod Terms
 pub mod ToldOn
-pub mod Unheld
 pub mod Ways
 pub mod Wearing
-pub mod Whole
 pub mod Rising
-pub mod Owning
 pub mod Owned
 pub mod Bounds

@@ -1,7 +1,6 @@
 -- Lists: places, and what stands at them.
-use Rattle.std.proofs.Common.{◌≡◌, ℕ, zero, suc, ◌<◌, ◌≤◌, Bool, true, false, List, [], ◌∷◌, length, map, refl, sym, ap, ◌∙◌, arith, Some}
-use Rattle.std.specs.Prelude.{slice_get, slice_set, nat_lt}
-use Rattle.std.proofs.lemmas.Bool.{ltb-false}
+use Rattle.std.proofs.Common.{◌≡◌, ℕ, zero, suc, ◌<◌, Bool, true, false, List, [], ◌∷◌, length, map, refl, sym, ap, ◌∙◌, arith, Some}
+use Rattle.std.specs.Prelude.{slice_get, slice_set}
 use Rattle.printed_lines.specs.Lines.{name_at}
 
 pub same_some : {X : Type 0} (x y : X) → Some x ≡ Some y → x ≡ y
@@ -48,11 +47,6 @@ name_found (n ∷ ns) (suc i) h = name_found ns i (omega (arith, h))
 -- the name of a place
 pub name_is : (names : List (List ℕ)) (i : ℕ) (name : List ℕ) → slice_get names i ≡ Some name → name ≡ name_at names i
 name_is names i name h = same_some name (name_at names i) (sym h ∙ name_found names i (within names i name h))
-
--- ---- tests of places
-
-pub not_below : (a b : ℕ) → nat_lt a b ≡ false → b ≤ a
-not_below a b e = ltb-false a b e
 
 -- ---- more of lists
 

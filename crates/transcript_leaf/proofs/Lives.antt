@@ -7,7 +7,7 @@ use Rattle.std.proofs.lemmas.Grind.{flat_map-append}
 use Rattle.std.proofs.lemmas.List.{append-nil, append_assoc}
 use Rattle.printed_lines.specs.declared.line.Ending.{Ending}
 use Rattle.printed_lines.specs.declared.line.Deed.{Deed}
-use Rattle.transcript.specs.Pieces.{Acted, Called, Did, Noted, Piece, Says, Worn, deeds, did_in}
+use Rattle.transcript.specs.Pieces.{Acted, Did, Noted, Piece, deeds, did_in}
 use Rattle.transcript.specs.Life.{Columns, Does, Life, Lives}
 use Rattle.transcript_leaf.specs.Session.{HasNoDeed}
 
@@ -35,9 +35,7 @@ none_by false own rest e = refl
 deeds_none : (leaf : ℕ) (ps : List Piece) → HasNoDeed leaf ps → deeds leaf ps ≡ []
 deeds_none leaf [] apart = refl
 deeds_none leaf (Acted l d ns e ∷ ps) apart = none_by (l == leaf) (did d ns e ∷ []) (deeds leaf ps) apart.0 ∙ deeds_none leaf ps apart.1
-deeds_none leaf (Called l t c n said ∷ ps) apart = deeds_none leaf ps apart.1
-deeds_none leaf (Worn l t ∷ ps) apart = deeds_none leaf ps apart.1
-deeds_none leaf (Says line ∷ ps) apart = deeds_none leaf ps apart.1
+deeds_none leaf (p ∷ ps) apart = deeds_none leaf ps apart.1
 
 pub deeds_between : (leaf : ℕ) (before none more : List Piece) → HasNoDeed leaf none → deeds leaf (before ++ (none ++ more)) ≡ deeds leaf (before ++ more)
 deeds_between leaf before none more apart =

@@ -1,22 +1,27 @@
--- In which mode a leaf is, and what stays of its life where nothing was done.
-use Rattle.std.proofs.Common.{◌≡◌, ℕ, zero, suc, List, [], ◌∷◌, length, refl, sym, ap, subst, ◌∙◌, arith, Bool, true, Option, Some, None}
-use Rattle.std.specs.Prelude.{IfSome, IsTrue, is_some, slice_get}
-use Rattle.std.specs.List.{AllByRecursion}
+-- In which mode a leaf is, what stays of its life where nothing was done, and what is given of a deed.
+use Rattle.std.proofs.Common.{◌≡◌, ℕ, List, [], refl, sym, ap, subst, ◌∙◌, Bool, true, Option, Some, None}
+use Rattle.std.specs.Prelude.{IfSome, IsTrue, is_some}
 use Rattle.berth_face.specs.Berth.{Meaning, Pair}
 use Rattle.leaf_words.specs.declared.ways.Way.{Way}
 use Rattle.leaf_opening.specs.Starts.{IsWayLeft}
-use Rattle.leaf_table.specs.Turns.{Shared, is_founded}
-use Rattle.leaf_table.specs.Calls.{SeatView, base_seen, name_of}
-use Rattle.leaf_steward.specs.declared.notes.Note.{Note}
+use Rattle.leaf_table.specs.Calls.{SeatView}
+use Rattle.leaf_machine.specs.declared.faults.StartFault.{StartFault}
+use Rattle.leaf_machine.specs.declared.faults.StartFault.TheVariants as fault
 use Rattle.leaf_steward.specs.Seated.{Seated, AreFounded}
-use Rattle.transcript.specs.Life.{Life, Down, Up, Owed, durable_after, durable_with}
+use Rattle.transcript.specs.Pieces.{Noted}
+use Rattle.transcript.specs.Life.{Life, Down, Up, Owed, IsStartRefusal, OfStart, on, way_refused}
 use Rattle.transcript.specs.Transcript.{Known}
-use Rattle.leaf_moves.specs.Stage.{Leaf, IsDown, IsUp, IsPreparing, with_seats}
+use Rattle.leaf_moves.specs.Stage.{Leaf, IsDown, IsUp, IsPreparing, seated_of, with_seats}
 use Rattle.leaf_moves.specs.Modes.{mode_of}
-use Rattle.leaf_moves.specs.Steps.{IsDownLeaf, IsUpLeaf, noted_all}
-use Rattle.transcript_leaf.specs.Session.{HaveKnownBase, AreInPlace, FitsNext, StandsKnown}
+use Rattle.leaf_moves.specs.Steps.{IsDownLeaf, IsUpLeaf, ending_of}
+use Rattle.transcript_leaf.specs.Session.{HaveKnownBase, AreInPlace, FitsNext, IsOwn, StandsKnown}
 use Rattle.transcript_leaf.specs.Acting.{FitsWay}
-use Rattle.transcript_leaf.proofs.Lists.{element_at, length_mapped, within}
+use Rattle.transcript_leaf.proofs.CountingNotes.{AreStewards, are_founded}
+
+-- what comes of a thing comes of it where there is one
+pub some_weaken : {X : Type 0} (o : Option X) (P Q : X → Type 0) → ((x : X) → P x → Q x) → IfSome o P → IfSome o Q
+some_weaken None P Q f h = tt
+some_weaken (Some x) P Q f h = f x h
 
 -- ---- in which mode a leaf is
 
@@ -63,29 +68,35 @@ pub same_held : (known : Option Known) (leaf : Leaf) (m m' : Meaning) → IfSome
     → IfSome known (λ (k : Known). m'.held.region ≡ m.held.region)
 same_held known leaf m m' stands same = where_known known leaf m (m'.held.region ≡ m.held.region) stands (λ tells. ap (λ (p : Pair). p.region) same)
 
--- as many tables as names
-pub as_many : (names : List (List ℕ)) (x : Seated) → AreInPlace names x → length x.tables ≡ length names
-as_many names x in_place = sym (length_mapped name_of x.tables) ∙ ap (λ (ns : List (List ℕ)). length ns) in_place.named
-
-all_each : {X : Type 0} (P : X → Type 0) (xs : List X) → ((place : ℕ) (x : X) → slice_get xs place ≡ Some x → P x) → AllByRecursion P xs
-all_each P [] each = tt
-all_each P (x ∷ xs) each = (each zero x refl, all_each P xs (λ place y at. each (suc place) y at))
-
--- tables with a base are founded
-pub founded_known : (names : List (List ℕ)) (k : Known) (x : Seated) → AreInPlace names x → HaveKnownBase (Some k) x → AreFounded x
-founded_known names k x in_place known_base = all_each (λ (t : Shared). is_founded (base_seen t) ≡ true) x.tables (λ place t at.
-    let below = within x.tables place t at in
-    let many = as_many names x in_place in
-    let seat = element_at x.seats place (omega (arith, below, many, in_place.seats)) in
-    (known_base place t seat.0 at seat.1).0)
-
 pub founded_where : (names : List (List ℕ)) (known : Option Known) (x : Seated) → AreInPlace names x → HaveKnownBase known x → is_some known ≡ true → AreFounded x
 founded_where names None x in_place known_base is = absurd cc
-founded_where names (Some k) x in_place known_base is = founded_known names k x in_place known_base
+founded_where names (Some k) x in_place known_base is = are_founded names x in_place k.base known_base
 
--- ---- counts
+-- ---- a start that is refused
 
--- where there are no notes, what is claimed of the counts stays
-pub counts_stay : (counts : Option (List ℕ)) (notes : List Note) → notes ≡ [] → counts ≡ durable_with counts (noted_all notes)
-counts_stay None notes e = refl
-counts_stay (Some cs) notes e = ap (λ (ns : List Note). Some (durable_after cs (noted_all ns))) (sym e)
+abbrev pub refused_life : Life → StartFault → Life
+refused_life life f = on life Down (way_refused (ending_of f) life.way) []
+
+module _ (told : Bool) (tables : ℕ) (life : Life) where
+  pub told_refused : (f : StartFault) → life.mode ≡ Down → IsStartRefusal told tables life (ending_of f) → OfStart told tables life [] (ending_of f) (refused_life life f)
+  told_refused fault.RegionFault down refusal = (down, refusal, refl, refl)
+  told_refused f down refusal = (down, refusal, refl, refl)
+
+  pub refused_told : (notes : List Noted) (f : StartFault) (next : Life) → OfStart told tables life notes (ending_of f) next → next ≡ refused_life life f
+  refused_told notes fault.RegionFault next does = does.3
+  refused_told notes f next does = does.3
+
+-- ---- what is given of a deed
+
+-- what stands of a leaf with this life, before a deed of its steward
+pub record Stood (names : List (List ℕ)) (known : Option Known) (life : Life) (leaf : Leaf) (m : Meaning) : Type 0 where
+  pub in_place : AreInPlace names (seated_of leaf)
+  pub known_base : HaveKnownBase known (seated_of leaf)
+  pub stewards : AreStewards (seated_of leaf)
+  pub stands : IfSome known (λ k. StandsKnown k leaf m)
+  pub own : IfSome known (λ k. life.begun ≡ true → IsOwn names (seated_of leaf) m)
+  pub mode : life.mode ≡ mode_of leaf
+  pub next : FitsNext known life leaf m
+
+pub stood_as : (names : List (List ℕ)) (known : Option Known) (life : Life) (leaf l : Leaf) (m : Meaning) → leaf ≡ l → Stood names known life leaf m → Stood names known life l m
+stood_as names known life leaf l m is given = subst (λ k. Stood names known life k m) is given

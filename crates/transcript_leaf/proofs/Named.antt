@@ -21,18 +21,18 @@ use Rattle.printed_lines.specs.declared.line.Ending.TheVariants as ending
 use Rattle.printed_lines.specs.declared.line.Deed.{Deed}
 use Rattle.printed_lines.specs.declared.line.Deed.TheVariants.{Start, Flush, Drain, Kill}
 use Rattle.transcript.specs.Pieces.{Piece, Acted, Did, Noted, deeds}
-use Rattle.transcript.specs.Life.{Columns, Life, LifeMode, Down, Up, Owed, Does, OfFlush, OfDrain, OfKill, BeginsAt, IsStartRefusal, Progress, StageOfDrain}
+use Rattle.transcript.specs.Life.{Columns, Life, LifeMode, Down, Up, Owed, Does, OfStart, OfFlush, OfDrain, OfKill, BeginsAt, Progress, StageOfDrain}
 use Rattle.transcript.specs.Strangers.{Behind, FitsStrangers, StrangersIn}
 use Rattle.transcript.specs.Transcript.{Known, first_life}
 use Rattle.leaf_moves.specs.Stage.{Leaf, IsUp, seated_of}
 use Rattle.leaf_moves.specs.Steps.{Moves, StartMoves, FlushMoves, DrainMoves, KillMoves, IsDownLeaf, Reaches, RegionRefused, ending_of, noted_all}
 use Rattle.leaf_moves.specs.Modes as moves
 use Rattle.transcript_leaf.specs.Session.{AreNamed}
-use Rattle.transcript_leaf.proofs.Modes.{down_leaf, resting_mode}
+use Rattle.transcript_leaf.proofs.Modes.{down_leaf, refused_told, resting_mode}
 use Rattle.transcript_leaf.proofs.AsHanded.{read_named, scan_on, then_read}
 use Rattle.transcript_leaf.proofs.Lives.{deeds_act, did}
-use Rattle.transcript_leaf.proofs.Starts.{Starts, starts}
 use Rattle.transcript_leaf.proofs.Ways.{goes_none, goes_own}
+use Rattle.transcript_leaf.proofs.Lists.{clash_bool}
 
 -- ---- a life that has begun goes on so
 
@@ -42,24 +42,16 @@ begun_of next life now = ap (λ (l : Life). l.begun) now
 mode_of : (next life : Life) → next ≡ life → next.mode ≡ life.mode
 mode_of next life now = ap (λ (l : Life). l.mode) now
 
-start_begun : (told : Bool) (tables : ℕ) (life : Life) (notes : List Noted) (ends : Ending) (next : Life) → Starts told tables life notes ends next → life.begun ≡ true → next.begun ≡ true
-start_begun told tables life notes ends next (Starts.opens way counts down may ways durable count notes_are ended now) begun = begun_of next _ now
-start_begun told tables life notes ends next (Starts.refuses down refusal none now) begun = begun_of next _ now ∙ begun
-start_begun told tables life notes ends next (Starts.not_down up none ended now) begun = begun_of next _ now ∙ begun
-
--- a refused start does not open the tables
-pub never_started : (f : StartFault) (way : Way) → ending_of f ≡ ending.Started way → ⊥
-never_started fault.RegionFault way e = cc
-never_started fault.DiskFault way e = cc
-never_started fault.DiskDamaged way e = cc
-never_started (fault.Stranger name) way e = cc
-never_started fault.NoMemory way e = cc
-never_started (fault.Worn table) way e = cc
+start_begun : (told : Bool) (tables : ℕ) (life next : Life) (m m' : Meaning) (leaf : Leaf) (notes : List Note) (ends : Ending) (leaf' : Leaf) → StartMoves m m' leaf notes ends leaf'
+    → OfStart told tables life (noted_all notes) ends next → life.begun ≡ true → next.begun ≡ true
+start_begun told tables life next m m' leaf notes ends leaf' (StartMoves.opened x s way is owed each came ended now) does begun =
+    let h = subst (λ (e : Ending). OfStart told tables life (noted_all notes) e next) ended does in begun_of next _ h.7
+start_begun told tables life next m m' leaf notes ends leaf' (StartMoves.refused x f is worn undamaged why none ended same) does begun =
+    begun_of next _ (refused_told told tables life (noted_all notes) f next (subst (λ (e : Ending). OfStart told tables life (noted_all notes) e next) ended does)) ∙ begun
+start_begun told tables life next m m' leaf notes ends leaf' (StartMoves.not_down up none still ended same) does begun =
+    let h = subst (λ (e : Ending). OfStart told tables life (noted_all notes) e next) ended does in begun_of next life h.2 ∙ begun
 
 -- ---- no deed but a start begins a life, or does anything of a leaf that is down
-
-both : (b : Bool) → b ≡ true → b ≡ false → ⊥
-both b one other = cc
 
 down_up : (mode : LifeMode) (owed : Option Owed) → mode ≡ Down → mode ≡ Up owed → ⊥
 down_up mode owed down up = cc
@@ -93,15 +85,7 @@ flush_stays table life notes ending.FaultDisk next (inl h) = stays_up life endin
 flush_stays table life notes ending.FaultDisk next (inr h) = stays_up life ending.FaultDisk next _ (Some h.0) h.1 h.3 refl
 flush_stays table life notes ending.Worn next h = stays_up life ending.Worn next _ h.0 h.1 h.3 refl
 flush_stays table life notes ending.NotUp next h = stays_still life next h.2
-flush_stays table life notes ending.NotDown next h = absurd h
-flush_stays table life notes ending.Stopped next h = absurd h
-flush_stays table life notes (ending.Started way) next h = absurd h
-flush_stays table life notes ending.FaultRegion next h = absurd h
-flush_stays table life notes ending.FaultRoom next h = absurd h
-flush_stays table life notes ending.FaultMemory next h = absurd h
-flush_stays table life notes ending.FaultDamaged next h = absurd h
-flush_stays table life notes (ending.FaultStranger name) next h = absurd h
-flush_stays table life notes (ending.FaultWorn other) next h = absurd h
+flush_stays table life notes ends next h = absurd h
 
 pub drain_stays : (told : Bool) (tables : ℕ) (columns : Columns) (stop : Option ℕ) (life : Life) (notes : List Noted) (ends : Ending) (next : Life) → OfDrain told tables columns stop life notes ends next
     → Stays life ends next
@@ -112,34 +96,19 @@ drain_stays told tables columns stop life notes ending.FaultMemory next h = stay
 drain_stays told tables columns stop life notes ending.FaultDisk next h = stays_so life ending.FaultDisk next _ h.5.0 h.5.1 h.10 refl
 drain_stays told tables columns stop life notes ending.Stopped next h = stays_so life ending.Stopped next _ h.6.0 h.6.1 h.10 refl
 drain_stays told tables columns stop life notes ending.NotUp next h = stays_still life next h.2
-drain_stays told tables columns stop life notes ending.NotDown next h = absurd h
-drain_stays told tables columns stop life notes ending.Worn next h = absurd h
-drain_stays told tables columns stop life notes (ending.Started way) next h = absurd h
-drain_stays told tables columns stop life notes ending.FaultDamaged next h = absurd h
-drain_stays told tables columns stop life notes (ending.FaultStranger name) next h = absurd h
-drain_stays told tables columns stop life notes (ending.FaultWorn table) next h = absurd h
+drain_stays told tables columns stop life notes ends next h = absurd h
 
 pub kill_stays : (tables : ℕ) (life : Life) (notes : List Noted) (ends : Ending) (next : Life) → OfKill tables life notes ends next → Stays life ends next
 kill_stays tables life notes ending.Done next h = stays_so life ending.Done next _ h.0 h.1 h.3 refl
 kill_stays tables life notes ending.NotUp next h = stays_still life next h.2
-kill_stays tables life notes ending.NotDown next h = absurd h
-kill_stays tables life notes ending.Worn next h = absurd h
-kill_stays tables life notes ending.Stopped next h = absurd h
-kill_stays tables life notes (ending.Started way) next h = absurd h
-kill_stays tables life notes ending.FaultRegion next h = absurd h
-kill_stays tables life notes ending.FaultRoom next h = absurd h
-kill_stays tables life notes ending.FaultDisk next h = absurd h
-kill_stays tables life notes ending.FaultMemory next h = absurd h
-kill_stays tables life notes ending.FaultDamaged next h = absurd h
-kill_stays tables life notes (ending.FaultStranger name) next h = absurd h
-kill_stays tables life notes (ending.FaultWorn table) next h = absurd h
+kill_stays tables life notes ends next h = absurd h
 
-does_begun : (told : Bool) (tables : ℕ) (columns : Columns) (deed : Deed) (life : Life) (notes : List Noted) (ends : Ending) (next : Life) → Does told tables columns deed life notes ends next
-    → life.begun ≡ true → next.begun ≡ true
-does_begun told tables columns Start life notes ends next does begun = start_begun told tables life notes ends next (starts told tables life notes ends next does) begun
-does_begun told tables columns (Flush table) life notes ends next does begun = (flush_stays table life notes ends next does).begun ∙ begun
-does_begun told tables columns (Drain stop) life notes ends next does begun = (drain_stays told tables columns stop life notes ends next does).begun ∙ begun
-does_begun told tables columns Kill life notes ends next does begun = (kill_stays tables life notes ends next does).begun ∙ begun
+does_begun : (told : Bool) (tables : ℕ) (columns : Columns) (deed : Deed) (life next : Life) (m m' : Meaning) (leaf : Leaf) (notes : List Note) (ends : Ending) (leaf' : Leaf)
+    → Moves deed m m' leaf notes ends leaf' → Does told tables columns deed life (noted_all notes) ends next → life.begun ≡ true → next.begun ≡ true
+does_begun told tables columns Start life next m m' leaf notes ends leaf' moves does begun = start_begun told tables life next m m' leaf notes ends leaf' moves does begun
+does_begun told tables columns (Flush table) life next m m' leaf notes ends leaf' moves does begun = (flush_stays table life (noted_all notes) ends next does).begun ∙ begun
+does_begun told tables columns (Drain stop) life next m m' leaf notes ends leaf' moves does begun = (drain_stays told tables columns stop life (noted_all notes) ends next does).begun ∙ begun
+does_begun told tables columns Kill life next m m' leaf notes ends leaf' moves does begun = (kill_stays tables life (noted_all notes) ends next does).begun ∙ begun
 
 -- nor touches anything
 never_up : (leaf : Leaf) (s : Serving) → IsDownLeaf leaf → leaf ≡ IsUp s → ⊥
@@ -165,17 +134,9 @@ drain_held stop m m' leaf notes ending.FaultMemory leaf' down h = absurd (never_
 drain_held stop m m' leaf notes ending.FaultDisk leaf' down h = absurd (never_reached leaf leaf' notes h.2 down)
 drain_held stop m m' leaf notes ending.Stopped leaf' down h = absurd (never_reached leaf leaf' notes h.2 down)
 drain_held stop m m' leaf notes ending.NotUp leaf' down h = h.2
-drain_held stop m m' leaf notes ending.NotDown leaf' down h = absurd h
-drain_held stop m m' leaf notes ending.Worn leaf' down h = absurd h
-drain_held stop m m' leaf notes (ending.Started way) leaf' down h = absurd h
-drain_held stop m m' leaf notes ending.FaultDamaged leaf' down h = absurd h
-drain_held stop m m' leaf notes (ending.FaultStranger name) leaf' down h = absurd h
-drain_held stop m m' leaf notes (ending.FaultWorn table) leaf' down h = absurd h
+drain_held stop m m' leaf notes ends leaf' down h = absurd h
 
 -- ---- what a start found
-
-one_name : (a b : List ℕ) → opening.Stranger a ≡ opening.Stranger b → a ≡ b
-one_name a b same = cc
 
 abbrev came : Way → Result Way OpenFault
 came way = Ok way
@@ -205,11 +166,8 @@ behind_refused fault.RegionFault m m' P broken now = elim (shut_or_open m'.held.
   | inl shut ↦ inr (m'.held.region, shut, now)
   | inr opened ↦ inl (subst P (broken_same m.held.region m'.held.region broken opened) now)
 ]
-behind_refused fault.DiskFault m m' P left now = (m'.held.region, left_closed m.held.region m'.held.region left, now)
-behind_refused fault.DiskDamaged m m' P left now = (m'.held.region, left_closed m.held.region m'.held.region left, now)
-behind_refused (fault.Stranger name) m m' P left now = (m'.held.region, left_closed m.held.region m'.held.region left, now)
-behind_refused fault.NoMemory m m' P left now = (m'.held.region, left_closed m.held.region m'.held.region left, now)
 behind_refused (fault.Worn table) m m' P same now = subst P same now
+behind_refused f m m' P left now = (m'.held.region, left_closed m.held.region m'.held.region left, now)
 
 module _ (number : ℕ) (names : List (List ℕ)) (held : Pair) where
   -- the disk reads as it was handed
@@ -236,15 +194,11 @@ module _ (number : ℕ) (names : List (List ℕ)) (held : Pair) where
 
   -- one that was refused told the stranger that there is
   refused_fits : (m : Meaning) (f : StartFault) → IsRead m → IsExactRefusal names m.held f → FitsStrangers names m.held.region held.disk (ending_of f)
-  refused_fits m fault.RegionFault read exact = tt
-  refused_fits m fault.DiskFault read exact = tt
-  refused_fits m fault.DiskDamaged read exact = tt
   refused_fits m (fault.Stranger name) read exact = elim exact [
     | inl stranger ↦ inl stranger
     | inr logged ↦ inr (goes_own names m.held.region logged.0, goes_none names m.held.region logged.0, read_named names held.disk m.held.disk name read logged.1)
   ]
-  refused_fits m fault.NoMemory read exact = tt
-  refused_fits m (fault.Worn table) read exact = tt
+  refused_fits m f read exact = tt
 
   -- ---- a deed
 
@@ -264,8 +218,8 @@ module _ (number : ℕ) (names : List (List ℕ)) (held : Pair) where
 
   begun_goes : (life : Life) (ends : Ending) (next : Life) (m m' : Meaning) → life.begun ≡ true → next.begun ≡ true → Goes life ends next m m'
   begun_goes life ends next m m' begun later = record {
-    rest = λ fresh. absurd (both next.begun later fresh);
-    on = λ fresh more all. absurd (both life.begun begun fresh);
+    rest = λ fresh. absurd (clash_bool next.begun later fresh);
+    on = λ fresh more all. absurd (clash_bool life.begun begun fresh);
   }
 
   rests_goes : (life : Life) (ends : Ending) (next : Life) (m m' : Meaning) → life.mode ≡ Down → IsRead m → Rests life ends next → m'.held ≡ m.held → Goes life ends next m m'
@@ -275,46 +229,32 @@ module _ (number : ℕ) (names : List (List ℕ)) (held : Pair) where
         subst (λ (e : Ending). Says m e more) (sym rests.ended) (tt, subst (λ (p : Pair). On more p.region) same (all (begun_of next life rests.now ∙ fresh)));
   }
 
-  -- a start that life tells as refused
-  refused_goes : (tables : ℕ) (life : Life) (m m' : Meaning) (leaf : Leaf) (notes : List Note) (ends : Ending) (leaf' : Leaf) (next : Life) → IsTrue m.tells → IsDownLeaf leaf → (seated_of leaf).names ≡ names
-      → IsRead m → IsStartRefusal true tables life ends → next.mode ≡ Down → next.begun ≡ life.begun → StartMoves m m' leaf notes ends leaf' → Goes life ends next m m'
-  refused_goes tables life m m' leaf notes ends leaf' next tells down same_names read refusal mode begun (StartMoves.opened x s way is owed each told ended now) =
-      absurd (subst (λ (e : Ending). IsStartRefusal true tables life e) ended refusal)
-  refused_goes tables life m m' leaf notes ends leaf' next tells down same_names read refusal mode begun (StartMoves.refused x f is worn undamaged told none ended same) =
+  start_goes : (tables : ℕ) (life : Life) (m m' : Meaning) (leaf : Leaf) (notes : List Note) (ends : Ending) (leaf' : Leaf) (next : Life) → IsTrue m.tells → IsDownLeaf leaf → (seated_of leaf).names ≡ names
+      → life.mode ≡ Down → IsRead m → StartMoves m m' leaf notes ends leaf' → OfStart true tables life (noted_all notes) ends next → Goes life ends next m m'
+  start_goes tables life m m' leaf notes ends leaf' next tells down same_names mode read (StartMoves.opened x s way is owed each told ended now) does =
+      let own : x.names ≡ names = sym (ap (λ (l : Leaf). (seated_of l).names) is) ∙ same_names in
+      let exact : IsAnswer names m.held.region m.held.disk (came way) = subst (λ (ns : List (List ℕ)). IsAnswer ns m.held.region m.held.disk (came way)) own (told tells).exact in
+      let h = subst (λ (e : Ending). OfStart true tables life (noted_all notes) e next) ended does in
+      record {
+        rest = λ fresh. absurd (clash_bool next.begun (begun_of next _ h.7) fresh);
+        on = λ fresh more all. subst (λ (e : Ending). Says m e more) (sym ended) (came_fits m way read exact, tt);
+      }
+  start_goes tables life m m' leaf notes ends leaf' next tells down same_names mode read (StartMoves.refused x f is worn undamaged told none ended same) does =
       let own : x.names ≡ names = sym (ap (λ (l : Leaf). (seated_of l).names) is) ∙ same_names in
       let exact : IsExactRefusal names m.held f = subst (λ (ns : List (List ℕ)). IsExactRefusal ns m.held f) own (told tells).exact in
+      let now = refused_told true tables life (noted_all notes) f next (subst (λ (e : Ending). OfStart true tables life (noted_all notes) e next) ended does) in
       record {
-        rest = λ fresh. (mode, scan_on held.disk m.held.disk m'.held.disk read (told tells).disk);
+        rest = λ fresh. (mode_of next _ now, scan_on held.disk m.held.disk m'.held.disk read (told tells).disk);
         on = λ fresh more all.
-            subst (λ (e : Ending). Says m e more) (sym ended) (refused_fits m f read exact, behind_refused f m m' (On more) (told tells).region (all (begun ∙ fresh)));
+            subst (λ (e : Ending). Says m e more) (sym ended) (refused_fits m f read exact, behind_refused f m m' (On more) (told tells).region (all (begun_of next _ now ∙ fresh)));
       }
-  refused_goes tables life m m' leaf notes ends leaf' next tells down same_names read refusal mode begun (StartMoves.not_down up none still ended same) = absurd (up down)
-
-  -- one that opened the tables
-  opened_on : (m m' : Meaning) (leaf : Leaf) (notes : List Note) (ends : Ending) (leaf' : Leaf) (way : Way) (more : List Did) → IsTrue m.tells → IsDownLeaf leaf → (seated_of leaf).names ≡ names
-      → IsRead m → ends ≡ ending.Started way → StartMoves m m' leaf notes ends leaf' → Says m ends more
-  opened_on m m' leaf notes ends leaf' way more tells down same_names read started (StartMoves.opened x s v is owed each told ended now) =
-      let own : x.names ≡ names = sym (ap (λ (l : Leaf). (seated_of l).names) is) ∙ same_names in
-      let exact : IsAnswer names m.held.region m.held.disk (came v) = subst (λ (ns : List (List ℕ)). IsAnswer ns m.held.region m.held.disk (came v)) own (told tells).exact in
-      subst (λ (e : Ending). Says m e more) (sym ended) (came_fits m v read exact, tt)
-  opened_on m m' leaf notes ends leaf' way more tells down same_names read started (StartMoves.refused x f is worn undamaged told none ended same) = absurd (never_started f way (sym ended ∙ started))
-  opened_on m m' leaf notes ends leaf' way more tells down same_names read started (StartMoves.not_down up none still ended same) = absurd (up down)
-
-  start_goes : (tables : ℕ) (life : Life) (m m' : Meaning) (leaf : Leaf) (notes : List Note) (ends : Ending) (leaf' : Leaf) (next : Life) → IsTrue m.tells → IsDownLeaf leaf → (seated_of leaf).names ≡ names
-      → life.mode ≡ Down → IsRead m → StartMoves m m' leaf notes ends leaf' → Starts true tables life (noted_all notes) ends next → Goes life ends next m m'
-  start_goes tables life m m' leaf notes ends leaf' next tells down same_names mode read moves (Starts.opens way counts is_down may ways durable count notes_are ended now) = record {
-    rest = λ fresh. absurd (both next.begun (begun_of next _ now) fresh);
-    on = λ fresh more all. opened_on m m' leaf notes ends leaf' way more tells down same_names read ended moves;
-  }
-  start_goes tables life m m' leaf notes ends leaf' next tells down same_names mode read moves (Starts.refuses is_down refusal none now) =
-      refused_goes tables life m m' leaf notes ends leaf' next tells down same_names read refusal (mode_of next _ now) (begun_of next _ now) moves
-  start_goes tables life m m' leaf notes ends leaf' next tells down same_names mode read moves (Starts.not_down up none ended now) = absurd (up mode)
+  start_goes tables life m m' leaf notes ends leaf' next tells down same_names mode read (StartMoves.not_down up none still ended same) does = absurd (up down)
 
   -- a deed of a leaf that was never up
   fresh_goes : (tables : ℕ) (columns : Columns) (deed : Deed) (life : Life) (m m' : Meaning) (leaf : Leaf) (notes : List Note) (ends : Ending) (leaf' : Leaf) (next : Life) → IsTrue m.tells → IsDownLeaf leaf
       → (seated_of leaf).names ≡ names → life.mode ≡ Down → IsRead m → Moves deed m m' leaf notes ends leaf' → Does true tables columns deed life (noted_all notes) ends next → Goes life ends next m m'
   fresh_goes tables columns Start life m m' leaf notes ends leaf' next tells down same_names mode read moves does =
-      start_goes tables life m m' leaf notes ends leaf' next tells down same_names mode read moves (starts true tables life (noted_all notes) ends next does)
+      start_goes tables life m m' leaf notes ends leaf' next tells down same_names mode read moves does
   fresh_goes tables columns (Flush table) life m m' leaf notes ends leaf' next tells down same_names mode read moves does =
       rests_goes life ends next m m' mode read ((flush_stays table life (noted_all notes) ends next does).rests mode) (flush_held table m m' leaf notes ends leaf' down moves)
   fresh_goes tables columns (Drain stop) life m m' leaf notes ends leaf' next tells down same_names mode read moves does =
@@ -337,7 +277,7 @@ named_act number names columns held life pieces deed m m' leaf notes ends leaf' 
     goes_named number names held life pieces deed m m' (noted_all notes) ends next (by life.begun refl) named
   where
     by : (b : Bool) → life.begun ≡ b → Goes number names held life ends next m m'
-    by true begun = begun_goes number names held life ends next m m' begun (does_begun true (length names) columns deed life (noted_all notes) ends next does begun)
+    by true begun = begun_goes number names held life ends next m m' begun (does_begun true (length names) columns deed life next m m' leaf notes ends leaf' moves does begun)
     by false fresh =
         let was = named.rest fresh in
         let down : IsDownLeaf leaf = down_leaf leaf (sym fits ∙ was.0) in

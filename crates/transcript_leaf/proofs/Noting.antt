@@ -23,7 +23,7 @@ use Rattle.transcript.specs.Histories.{Shown, ShowsEntry, shown, shown_notes}
 use Rattle.leaf_moves.specs.Steps.{noted_all, said_of_note}
 use Rattle.transcript_leaf.specs.Session.{IsStewards, OwnedBy, TellsOf}
 use Rattle.transcript_leaf.proofs.Lists.{same_some, get_set_same, get_set_other}
-use Rattle.transcript_leaf.proofs.Ids.{SameIds, own_first, owns_back, owns_on, same_here, same_made, same_on, stewards_still}
+use Rattle.transcript_leaf.proofs.Ids.{SameIds, own_first, owns_same, same_back, same_here, same_made, same_on, stewards_still}
 use Rattle.transcript_leaf.proofs.Merging.{tells_past, tells_same}
 
 -- the lines of notes tell what the steward's seat at this table has made
@@ -49,10 +49,7 @@ made_ids base clock v w what made = let one = one_made base clock v w what made 
 
 made_legal : (base : Option TableBase) (clock : ℕ) (v w : SeatView) (what : What) → MadeAs base clock v what w → LegalFrom (is_founded base) (start_of base) (seen_of w)
 made_legal base clock v w (what.Opened n) m = m.1.legal
-made_legal base clock v w (what.Took n) m = m.legal
-made_legal base clock v w (what.Flushed n) m = m.legal
-made_legal base clock v w (what.Closed n) m = m.legal
-made_legal base clock v w what.Handed m = m.legal
+made_legal base clock v w kind m = m.legal
 
 -- what a note shows of a table: one line of its own, or nothing
 shows_here : (place : ℕ) (note : Note) (notes : List Note) → (note.table == place) ≡ true
@@ -88,7 +85,7 @@ note_here place note notes base clock v u w sits here number made more =
     let numbered : note.number ≡ suc (length (seen_of v)) + length m.between = omega (arith, number, size, count) in
     let next : suc (length (seen_of u)) ≡ suc (suc (length (seen_of v)) + length m.between) = omega (arith, count) in
     let tail : TellsOf (OwnedBy (Some v)) (suc (suc (length (seen_of v)) + length m.between)) lines more.entries =
-    tells_same (OwnedBy (Some u)) (OwnedBy (Some v)) (suc (suc (length (seen_of v)) + length m.between)) lines more.entries (λ id o. owns_back v u id same o) (λ id o. owns_on v u id same o)
+    tells_same (OwnedBy (Some u)) (OwnedBy (Some v)) (suc (suc (length (seen_of v)) + length m.between)) lines more.entries (owns_same u v (same_back v u same))
     (subst (λ (k : ℕ). TellsOf (OwnedBy (Some u)) k lines more.entries) next more.tells) in
     let one_line : TellsOf (OwnedBy (Some v)) (suc (length (seen_of v)) + length m.between) (line ∷ lines) (e ∷ more.entries) =
     inr (own_first v (let share = sits.share in omega (arith, share)), line, lines, refl, numbered, one.3, tail) in

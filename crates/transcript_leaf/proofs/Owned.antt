@@ -1,17 +1,16 @@
--- What a leaf that was up owns stays its own, deed by deed.
-use Rattle.std.proofs.Common.{◌≡◌, ◌⊎◌, inl, inr, ◌∙◌, ℕ, zero, suc, Bool, true, List, [], ◌∷◌, length, map, Option, refl, sym, ap, subst, arith}
-use Rattle.std.specs.Prelude.{◌≢◌, IsTrue}
-use Rattle.berth_face.specs.Berth.{Meaning, Pair}
-use Rattle.region_head.proofs.Heads.{shut_head}
+-- What a leaf that was up owns stays its own, deed by deed, and a start over it is told no stranger.
+use Rattle.std.proofs.Common.{◌≡◌, ◌⊎◌, inl, inr, ◌∙◌, ℕ, zero, suc, Bool, true, List, [], ◌∷◌, length, map, Option, refl, sym, ap, subst, arith, ◌<◌, false, ◌++◌, take, cond, length-append, append_assoc}
+use Rattle.std.specs.Prelude.{◌≢◌, IsTrue, ◌||◌, bytes_eq}
+use Rattle.berth_face.specs.Berth.{Meaning, Pair, IsClosed}
+use Rattle.region_head.proofs.Heads.{shut_head, closed_head}
 use Rattle.adopt.specs.Adopting.{HasNoStranger, IsStranger}
 use Rattle.log_recovery.specs.Recovery.{IsRecoveryRefusal}
 use Rattle.log_recovery.specs.declared.fault.RecoveryFault.TheVariants as found
-use Rattle.leaf_words.specs.declared.ways.Way.{Way}
 use Rattle.leaf_opening.proofs.Regions.{left_closed}
 use Rattle.leaf_table.specs.Turns.{Shared}
 use Rattle.leaf_table.specs.Calls.{SeatView, name_of}
 use Rattle.crash_moments.specs.Left.{NamedStates}
-use Rattle.crash_moments.specs.Watched.{Watched, was_opened}
+use Rattle.crash_moments.specs.Watched.{Watched, was_opened, by_name, is_watched, now_of, others_then}
 use Rattle.crash_moments.proofs.Telling.{opened_more}
 use Rattle.leaf_steward.specs.declared.notes.Note.{Note}
 use Rattle.leaf_steward.specs.Seated.{Seated, AreFounded, watch, watched_by}
@@ -28,22 +27,112 @@ use Rattle.transcript.specs.Life.{Columns, Copying, Does, Life, OfStart, Shuttin
 use Rattle.leaf_moves.specs.Stage.{IsDown, IsUp, Leaf, LeafStands, StandsOn, seated_of}
 use Rattle.leaf_moves.specs.Steps.{DrainMoves, FlushMoves, KillMoves, Moves, Reaches, RefusalTold, RegionStopped, StartMoves, Stops}
 use Rattle.transcript_leaf.specs.Session.{AreInPlace, IsOwn}
-use Rattle.transcript_leaf.proofs.AsHanded.{read_named, refused_breaks}
-use Rattle.transcript_leaf.proofs.Starts.{Starts, starts}
-use Rattle.transcript_leaf.proofs.Named.{begun_of, drain_stays, flush_stays, kill_stays, never_started}
-use Rattle.transcript_leaf.proofs.Owning.{broken_own, closed_own, no_stranger}
-use Rattle.transcript_leaf.proofs.Standing.{as_many}
+use Rattle.transcript_leaf.proofs.AsHanded.{read_named, refused_breaks, region_named}
+use Rattle.transcript_leaf.proofs.Named.{begun_of, drain_stays, flush_stays, kill_stays}
+use Rattle.transcript_leaf.proofs.CountingNotes.{as_many}
+use Rattle.transcript_leaf.proofs.Modes.{refused_told}
+use Rattle.std.specs.List.{AllByRecursion, list_any}
+use Rattle.std.proofs.lemmas.Bool.{cond-true, cond-false, or_parts}
+use Rattle.std.proofs.lemmas.Slice.Eq.{bytes_eq-Decides}
+use Rattle.leaf_model.specs.declared.writes.Write.{Write}
+use Rattle.leaf_history.specs.History.{HistoryState}
+use Rattle.row_records.specs.Records.{LogRecord, IsRecord}
+use Rattle.region_head.specs.Closing.{IsBroken}
+use Rattle.disk_backup.specs.Logs.{writes_of}
+use Rattle.disk_backup.specs.Settling.{with_writes}
+use Rattle.disk_backup.specs.SoundLogs.{HasSoundLog}
+use Rattle.disk_backup.proofs.Scanned.{scanned_is_front}
+use Rattle.crash_states.specs.Standing.{Rests, states_of_tables}
 
--- ---- a life that no start began
+-- ---- the region
 
-not_started : (ends : Ending) → ends ≡ ending.NotDown → (way : Way) → ends ≡ ending.Started way → ⊥
-not_started ends is way e = cc
+pub closed_own : (names : List (List ℕ)) (region : List ℕ) → IsClosed region → HasNoStranger names region
+closed_own names region closed name s = closed_head region closed s.0 s.3.head
 
-begun_still : (told : Bool) (tables : ℕ) (life : Life) (notes : List Noted) (ends : Ending) (next : Life) → ((way : Way) → ends ≡ ending.Started way → ⊥) → Starts told tables life notes ends next
-    → next.begun ≡ life.begun
-begun_still told tables life notes ends next not (Starts.opens way counts down may ways durable count notes_are ended now) = absurd (not way ended)
-begun_still told tables life notes ends next not (Starts.refuses down refusal none now) = begun_of next _ now
-begun_still told tables life notes ends next not (Starts.not_down up none ended now) = begun_of next _ now
+-- what a refused start leaves
+pub broken_own : (names : List (List ℕ)) (old now : List ℕ) → IsBroken old now → HasNoStranger names old → HasNoStranger names now
+broken_own names old now broken own name s = own name (region_named names old now name broken s)
+
+-- ---- the log
+
+-- a record of a name has a write of it
+writes_there : (name : List ℕ) (before : List LogRecord) (r : LogRecord) (more : List LogRecord) → r.name ≡ name → 0 < length r.writes → writes_of name (before ++ r ∷ more) ≡ [] → ⊥
+writes_there name [] r more is some none =
+    let own : writes_of name (r ∷ more) ≡ r.writes ++ writes_of name more =
+    cond-true (bytes_eq name r.name) (r.writes ++ writes_of name more) (writes_of name more) ((bytes_eq-Decides name r.name).1 (sym is)) in
+    absurd (omega (arith, some, ap (λ (l : List Write). length l) (sym own ∙ none), length-append r.writes (writes_of name more)))
+writes_there name (s ∷ before) r more is some none = writes_there name before r more is some (rest (bytes_eq name s.name) none)
+  where
+    rest : (b : Bool) → cond b (s.writes ++ writes_of name (before ++ r ∷ more)) (writes_of name (before ++ r ∷ more)) ≡ [] → writes_of name (before ++ r ∷ more) ≡ []
+    rest true e = behind s.writes (writes_of name (before ++ r ∷ more)) e
+      where
+        behind : (xs ys : List Write) → xs ++ ys ≡ [] → ys ≡ []
+        behind [] ys e = e
+        behind (x ∷ xs) ys e = absurd cc
+    rest false e = e
+
+-- a sound log without writes of a name has no record of it
+record_there : (name : List ℕ) (before : List LogRecord) (r : LogRecord) (rest : List LogRecord) → AllByRecursion IsRecord (before ++ r ∷ rest) → 0 < length r.writes
+record_there name [] r rest each = each.0.some
+record_there name (s ∷ before) r rest each = record_there name before r rest each.1
+
+module _ (names : List (List ℕ)) (disk name : List ℕ) (refusal : IsRecoveryRefusal names disk (found.Stranger name)) where
+  no_record_of : (writes : List ℕ → List Write) → HasSoundLog writes disk → writes name ≡ [] → ⊥
+  no_record_of writes log none =
+      let before = refusal.0 in
+      let r = refusal.1 in
+      let all = log.sound.0 in
+      let front = scanned_is_front disk (before ++ r ∷ []) all refusal.2.at log.sound.1 refusal.2.scanned log.sound.2 in
+      let is : all ≡ before ++ r ∷ front.0 = front.1 ∙ append_assoc before (r ∷ []) front.0 in
+      writes_there name before r front.0 refusal.3 (record_there name before r [] refusal.2.scanned.each)
+      (ap (writes_of name) (sym is) ∙ (log.each name ∙ none))
+
+-- ---- a leaf at rest
+
+-- a name that the leaf does not have stands as the others do
+foreign : (state : Watched → HistoryState) (others : NamedStates) (ws : List Watched) (name : List ℕ) → is_watched ws name ≡ false → by_name state others ws name ≡ others name
+foreign state others [] name none = refl
+foreign state others (w ∷ ws) name none =
+    let parts = or_parts (bytes_eq name w.name) (is_watched ws name) none in
+    cond-false (bytes_eq name w.name) (state w) (by_name state others ws name) parts.0 ∙ foreign state others ws name parts.1
+
+not_watched : (ws : List Watched) (name : List ℕ) → list_any (bytes_eq name) (map (λ (w : Watched). w.name) ws) ≡ false → is_watched ws name ≡ false
+not_watched [] name none = refl
+not_watched (w ∷ ws) name none =
+    let parts = or_parts (bytes_eq name w.name) (list_any (bytes_eq name) (map (λ (v : Watched). v.name) ws)) none in
+    both (bytes_eq name w.name) (is_watched ws name) parts.0 (not_watched ws name parts.1)
+  where
+    both : (a b : Bool) → a ≡ false → b ≡ false → (a || b) ≡ false
+    both a b p q = cc
+
+take_nothing : {X : Type 0} (k : ℕ) (l : List X) → l ≡ [] → take k l ≡ []
+take_nothing zero l e = refl
+take_nothing (suc k) [] e = refl
+take_nothing (suc k) (x ∷ l) e = absurd cc
+
+taken_of_none : (least : List Write) (s : HistoryState) → s.writes ≡ [] → least ≡ take (length least) s.writes → least ≡ []
+taken_of_none least s none is = is ∙ take_nothing (length least) s.writes none
+
+module _ (ws : List Watched) (others : NamedStates) (least : List ℕ → List Write) (next : Option LogRecord) (m : Meaning) (rests : Rests ws others least next m) (opened : was_opened m.clock ws ≡ true) where
+  no_writes : (name : List ℕ) → is_watched ws name ≡ false → (states_of_tables others ws m name).writes ≡ []
+  no_writes name none =
+      ap (λ (s : HistoryState). s.writes) (foreign now_of (others_then (was_opened m.clock ws) others) ws name none ∙ ap (λ (b : Bool). others_then b others name) opened)
+
+  -- no record of its log is a stranger's
+  pub rests_own : (name : List ℕ) → IsRecoveryRefusal (map (λ (w : Watched). w.name) ws) m.held.disk (found.Stranger name) → ⊥
+  rests_own name refusal =
+      let none = no_writes name (not_watched ws name refusal.4) in
+      let kept = rests.each name in
+      elim (rests.logs m.held rests.stands.reads) [
+        | inl log ↦ no_record_of (map (λ (w : Watched). w.name) ws) m.held.disk name refusal least log (taken_of_none (least name) (states_of_tables others ws m name) none kept.shortest)
+        | inr log ↦ no_record_of (map (λ (w : Watched). w.name) ws) m.held.disk name refusal (with_writes next least) log (taken_of_none (with_writes next least name) (states_of_tables others ws m name) none kept.longest)
+      ]
+
+  -- a start that is refused over it is told no stranger
+  pub no_stranger : (names : List (List ℕ)) (name : List ℕ) → map (λ (w : Watched). w.name) ws ≡ names → HasNoStranger names m.held.region
+      → IsStranger names m.held.region name ⊎ IsRecoveryRefusal names m.held.disk (found.Stranger name) → ⊥
+  no_stranger names name are own (inl s) = own name s
+  no_stranger names name are own (inr refusal) = rests_own name (subst (λ (ns : List (List ℕ)). IsRecoveryRefusal ns m.held.disk (found.Stranger name)) (sym are) refusal)
 
 -- ---- the region behind a deed
 
@@ -94,12 +183,7 @@ module _ (names : List (List ℕ)) (base : NamedStates) (m m' : Meaning) (met mo
   drain_region stop ending.FaultDisk h own = same_own names m m' (h.7 tells) own
   drain_region stop ending.Stopped h own = stops_own h.0 h.1 h.2 h.4 own
   drain_region stop ending.NotUp h own = held_own names m m' h.2 own
-  drain_region stop ending.NotDown h own = absurd h
-  drain_region stop ending.Worn h own = absurd h
-  drain_region stop (ending.Started way) h own = absurd h
-  drain_region stop ending.FaultDamaged h own = absurd h
-  drain_region stop (ending.FaultStranger name) h own = absurd h
-  drain_region stop (ending.FaultWorn table) h own = absurd h
+  drain_region stop ends h own = absurd h
 
   -- ---- the leaf behind a deed
 
@@ -126,9 +210,10 @@ module _ (names : List (List ℕ)) (base : NamedStates) (m m' : Meaning) (met mo
     start_owned told tables noted (StartMoves.opened x s way is owed each came ended now) does =
         comes s now (closed_own names m'.held.region (left_closed m.held.region m'.held.region (came tells).came.started.region))
     start_owned told tables noted (StartMoves.refused x f is worn damaged why none ended same) does =
-        stays (start_region (StartMoves.refused x f is worn damaged why none ended same)) (begun_still told tables life noted ends next (λ way e. never_started f way (sym ended ∙ e)) (starts told tables life noted ends next does))
+        stays (start_region (StartMoves.refused x f is worn damaged why none ended same))
+        (begun_of next _ (refused_told told tables life noted f next (subst (λ (e : Ending). OfStart told tables life noted e next) ended does)))
     start_owned told tables noted (StartMoves.not_down up none held ended same) does =
-        stays (held_own names m m' held) (begun_still told tables life noted ends next (not_started ends ended) (starts told tables life noted ends next does))
+        let h = subst (λ (e : Ending). OfStart told tables life noted e next) ended does in stays (held_own names m m' held) (begun_of next life h.2)
 
     pub owned : (told : Bool) (tables : ℕ) (columns : Columns) (deed : Deed) (noted : List Noted) → Moves deed m m' met notes ends moved → Does told tables columns deed life noted ends next
         → IsOwn names (seated_of moved) m'
@@ -167,5 +252,5 @@ pub never_stranger : (names : List (List ℕ)) (base : NamedStates) (x : Seated)
 never_stranger names base x m m' f name in_place stands own told = λ is.
     let exact : IsExactRefusal x.names m.held (fault.Stranger name) = subst (λ (g : StartFault). IsExactRefusal x.names m.held g) is told.exact in
     no_stranger (watched_by x) base stands.0 stands.1 m stands.2 own.opened names name
-    (watch_named x.tables x.seats (in_place.seats ∙ sym (as_many names x in_place)) ∙ in_place.named) own.region
+    (watch_named x.tables x.seats (in_place.seats ∙ sym (as_many names x.tables in_place.named)) ∙ in_place.named) own.region
     (subst (λ (ns : List (List ℕ)). IsStranger ns m.held.region name ⊎ IsRecoveryRefusal ns m.held.disk (found.Stranger name)) in_place.same_names (stranger_found x.names m name exact))

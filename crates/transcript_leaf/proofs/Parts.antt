@@ -1,6 +1,5 @@
 -- The seats of a table are parted, before a burst has printed anything: each part has what it needs of the session.
 use Rattle.std.proofs.Common.{◌≡◌, ◌⊎◌, inl, inr, ℕ, suc, ◌+◌, ◌<◌, ◌≤◌, Bool, true, false, List, [], ◌∷◌, ◌++◌, length, Option, Some, None, refl, sym, subst, ◌∙◌, arith, IsPermutation, IfSome}
-use Rattle.std.specs.List.{AllByRecursion}
 use Rattle.std.proofs.lemmas.List.{append-nil, append_assoc}
 use Rattle.std.proofs.lemmas.List.Sorted.{IsPermutation-refl, IsPermutation-sym}
 use Rattle.turnstile.specs.Seats.{Owns, given, keeps_all_but}
@@ -11,11 +10,8 @@ use Rattle.transcript.specs.Pieces.{PlayedItem, all_pieces}
 use Rattle.transcript.specs.Histories.{BaseState, InOrder, Shown, shown}
 use Rattle.leaf_moves.specs.Lanes.{SplitsIf}
 use Rattle.transcript_leaf.specs.Session.{IsCallers, IsStewards, OneOf, OwnedBy, TableSession}
-use Rattle.transcript_leaf.proofs.Ids.{callers_own, given_back, given_callers, given_owns, keeps_callers, keeps_owns, last_apart, parts_own, stewards_own}
-use Rattle.transcript_leaf.proofs.Merging.{tells_none, tells_others}
-use Rattle.transcript_leaf.proofs.Stewards.{others_append, others_weaken}
-use Rattle.transcript_leaf.proofs.Taking.{AreBoth}
-use Rattle.transcript_leaf.proofs.Unheld.{empty_permutation}
+use Rattle.transcript_leaf.proofs.Ids.{callers_own, given_back, given_callers, given_owns, keeps_callers, keeps_owns, kept_both, last_apart, parts_own, stewards_alone, stewards_own}
+use Rattle.transcript_leaf.proofs.Merging.{AreBoth, AreOthers, empty_permutation, others_append, others_weaken, tells_none, tells_others}
 use Rattle.transcript_leaf.proofs.Places.{some_if}
 
 -- ---- a part of a seat
@@ -36,23 +32,15 @@ pub record SplitAt (c off rest : Option SeatView) : Type 0 where
   pub apart : (id : ℕ) → OwnedBy rest id → OwnedBy off id → ⊥
 
 split_none : SplitAt None None None
-split_none = record { off_part = tt; rest_part = tt; both = λ id. (λ o. inl o, from id); apart = λ id a b. a }
-  where
-    from : (id : ℕ) → OwnedBy None id ⊎ OwnedBy None id → OwnedBy None id
-    from id (inl o) = o
-    from id (inr o) = o
+split_none = record { off_part = tt; rest_part = tt; both = kept_both None; apart = λ id a b. a }
 
 split_kept : (s : SeatView) → IsCallers s → SplitAt (Some s) None (Some s)
 split_kept s calls = record {
   off_part = tt;
   rest_part = record { whole = s; is = refl; seen = refl; callers = calls; fewer = λ id o. o };
-  both = λ id. (λ o. inl o, from id);
+  both = kept_both (Some s);
   apart = λ id a b. b;
 }
-  where
-    from : (id : ℕ) → OwnedBy (Some s) id ⊎ OwnedBy None id → OwnedBy (Some s) id
-    from id (inl o) = o
-    from id (inr o) = absurd o
 
 split_given : (s : SeatView) → 1 < s.share → IsCallers s → SplitAt (Some s) (Some (given 1 s)) (Some (keeps_all_but 1 s))
 split_given s more calls = record {
@@ -66,13 +54,10 @@ split_given s more calls = record {
     from id (inl o) = keeps_owns s id o
     from id (inr o) = given_back s id calls.share o
 
-split_as : (c off rest off' rest' : Option SeatView) → off ≡ off' → rest ≡ rest' → SplitAt c off' rest' → SplitAt c off rest
-split_as c off rest off' rest' a b h = subst (λ (o : Option SeatView). SplitAt c o rest) (sym a) (subst (λ (r : Option SeatView). SplitAt c off' r) (sym b) h)
-
 pub split_at : (needed : Bool) (c off rest : Option SeatView) → IfSome c IsCallers → SplitsIf needed c off rest → SplitAt c off rest
-split_at needed None off rest calls h = split_as None off rest None None h.0 h.1 split_none
-split_at true (Some s) off rest calls h = split_as (Some s) off rest (Some (given 1 s)) (Some (keeps_all_but 1 s)) h.1 h.2 (split_given s h.0 calls)
-split_at false (Some s) off rest calls h = split_as (Some s) off rest None (Some s) h.0 h.1 (split_kept s calls)
+split_at needed None off rest calls h = rw (h.0, h.1) split_none
+split_at true (Some s) off rest calls h = rw (h.1, h.2) (split_given s h.0 calls)
+split_at false (Some s) off rest calls h = rw (h.0, h.1) (split_kept s calls)
 
 -- ---- whose an id is
 
@@ -100,18 +85,18 @@ module _ (g : BaseState) (start : List Entry) (number place : ℕ) (items items'
   none_told = append_none t.told t.later (empty_permutation (t.told ++ t.later) (shown number place (all_pieces items)) nothing
       (IsPermutation-sym (shown number place (all_pieces items)) (t.told ++ t.later) t.lines))
 
-  met_others : AllByRecursion (λ (e : Entry). OneOf v c e.caller → ⊥) t.met
+  met_others : AreOthers (OneOf v c) t.met
   met_others = tells_none (OneOf v c) (suc (length start)) t.told t.met none_told.0 t.tells
 
-  since_others : AllByRecursion (λ (e : Entry). OwnedBy c e.caller → ⊥) t.since
+  since_others : AreOthers (OwnedBy c) t.since
   since_others = tells_none (OwnedBy c) (suc (length start) + length t.met) t.later t.since none_told.1 t.tells_later
 
-  all_others : AllByRecursion (λ (e : Entry). OwnedBy c e.caller → ⊥) (t.met ++ t.since)
+  all_others : AreOthers (OwnedBy c) (t.met ++ t.since)
   all_others = others_append (OwnedBy c) t.met t.since (others_weaken (OneOf v c) (OwnedBy c) t.met (λ id o. inr o) met_others) since_others
 
   -- what has been seen since the beginning, of which nothing is told
   made_of : (v' c' : Option SeatView) (met since : List Entry) → IfSome v' IsStewards → IfSome c' IsCallers → IfSome v' (λ s. seen_of s ≡ start ++ met) → IfSome c' (λ s. seen_of s ≡ start ++ (met ++ since))
-      → (c' ≡ None → since ≡ []) × (v' ≡ None → met ≡ []) → AllByRecursion (λ (e : Entry). OneOf v' c' e.caller → ⊥) met → AllByRecursion (λ (e : Entry). OwnedBy c' e.caller → ⊥) since
+      → (c' ≡ None → since ≡ []) × (v' ≡ None → met ≡ []) → AreOthers (OneOf v' c') met → AreOthers (OwnedBy c') since
       → LegalFrom g.founded g.base (start ++ (met ++ since)) → TableSession g start number place items' v' c'
   made_of v' c' met since sits calls seen_v seen_c alone others others_since legal = record {
     stewards = sits;
@@ -142,13 +127,9 @@ module _ (g : BaseState) (start : List Entry) (number place : ℕ) (items items'
       (others_weaken (OwnedBy c) (OwnedBy (Some s)) (t.met ++ t.since) (λ id o. subst (λ (d : Option SeatView). OwnedBy d id) (sym part.is) (part.fewer id o)) all_others) t.legal
   table_part (Some s) None is part =
       made_of (Some s) None t.met [] (some_if v IsStewards s t.stewards is) tt (some_if v (λ d. seen_of d ≡ start ++ t.met) s t.seen_steward is) tt (λ x. refl, λ x. absurd cc)
-      (others_weaken (OneOf v c) (OneOf (Some s) None) t.met (λ id o. inl (subst (λ (d : Option SeatView). OwnedBy d id) (sym is) (alone id o))) met_others) tt
+      (others_weaken (OneOf v c) (OneOf (Some s) None) t.met (λ id o. inl (subst (λ (d : Option SeatView). OwnedBy d id) (sym is) ((stewards_alone (Some s) id).0 o))) met_others) tt
       (subst (λ (es : List Entry). LegalFrom g.founded g.base (start ++ es)) (sym (append-nil t.met)) (front (start ++ t.met) t.since
       (subst (λ (es : List Entry). LegalFrom g.founded g.base es) (sym (append_assoc start t.met t.since)) t.legal)))
-    where
-      alone : (id : ℕ) → OneOf (Some s) None id → OwnedBy (Some s) id
-      alone id (inl o) = o
-      alone id (inr o) = absurd o
   table_part (Some s) (Some d) is part =
       made_of (Some s) (Some d) t.met t.since (some_if v IsStewards s t.stewards is) part.callers (some_if v (λ u. seen_of u ≡ start ++ t.met) s t.seen_steward is)
       (part.seen ∙ some_if c (λ u. seen_of u ≡ start ++ (t.met ++ t.since)) part.whole t.seen_caller part.is) (λ x. absurd cc, λ x. absurd cc)

@@ -1,16 +1,16 @@
 -- The places of a leaf: which seats are there, and how they meet.
-use Rattle.std.proofs.Common.{◌≡◌, ◌⊎◌, inl, inr, ℕ, zero, suc, ◌<◌, ◌≤◌, Bool, true, false, List, [], ◌∷◌, length, map, Option, Some, None, refl, sym, ap, subst, ◌∙◌, arith, IfSome}
-use Rattle.std.specs.Prelude.{nat_lt, slice_get, slice_set}
-use Rattle.std.proofs.lemmas.Bool.{ltb-true}
+use Rattle.std.proofs.Common.{◌≡◌, ℕ, zero, suc, ◌<◌, ◌≤◌, List, [], ◌∷◌, length, map, Option, Some, None, refl, sym, ap, subst, ◌∙◌, arith, IfSome}
+use Rattle.std.specs.Prelude.{slice_get, slice_set}
 use Rattle.berth_face.specs.Berth.{Meaning}
 use Rattle.leaf_table.specs.Turns.{Shared}
 use Rattle.leaf_table.specs.Calls.{SeatView, name_of}
 use Rattle.transcript.specs.Transcript.{Known, base_state_of}
 use Rattle.leaf_moves.specs.Stage.{Leaf, MeetAll, MeetsIf, seated_of}
 use Rattle.leaf_moves.specs.Holds.{caller_in}
-use Rattle.transcript_leaf.proofs.Lists.{element_at, get_map, name_is, get_set_same, length_mapped, not_below, same_some, within}
+use Rattle.transcript_leaf.proofs.Lists.{element_at, get_map, name_is, get_set_same, same_some, within}
 use Rattle.transcript_leaf.proofs.Standing.{LeafMeets, seats_become}
 use Rattle.transcript_leaf.proofs.TableMeets.{HasLearned}
+use Rattle.transcript_leaf.proofs.CountingNotes.{as_many}
 
 -- ---- one of some
 
@@ -25,28 +25,11 @@ some_if (Some y) P x h e = subst P (same_some y x e) h
 pub same_pair : {X Y : Type 0} (P : X × Y → Type 0) (p q : X × Y) → Some p ≡ Some q → P p → P q
 same_pair P p q e h = subst P (same_some p q e) h
 
--- a place is below a count, or not
-pub below_or_not : (place count : ℕ) → (place < count) ⊎ (count ≤ place)
-below_or_not place count = by (nat_lt place count) refl
-  where
-    by : (b : Bool) → nat_lt place count ≡ b → (place < count) ⊎ (count ≤ place)
-    by true e = inl (ltb-true place count e)
-    by false e = inr (not_below place count e)
-
-pub get_beyond : {X : Type 0} (xs : List X) (place : ℕ) → length xs ≤ place → slice_get xs place ≡ None
-get_beyond [] place l = refl
-get_beyond (x ∷ xs) zero l = absurd (omega (arith, l))
-get_beyond (x ∷ xs) (suc place) l = get_beyond xs place (omega (arith, l))
-
--- as many of some as names
-pub as_many_names : (names : List (List ℕ)) (ts : List Shared) → map name_of ts ≡ names → length ts ≡ length names
-as_many_names names ts named = sym (length_mapped name_of ts) ∙ ap (λ (ns : List (List ℕ)). length ns) named
-
 -- tables of the same names, place by place
 pub same_name : (names : List (List ℕ)) (ts us : List Shared) → map name_of ts ≡ names → map name_of us ≡ names → (place : ℕ) (t : Shared) → slice_get ts place ≡ Some t
     → (u : Shared) × (slice_get us place ≡ Some u) × (name_of u ≡ name_of t)
 same_name names ts us named named' place t at =
-    let u = element_at us place (omega (arith, within ts place t at, as_many_names names ts named, as_many_names names us named')) in (
+    let u = element_at us place (omega (arith, within ts place t at, as_many names ts named, as_many names us named')) in (
       u.0,
       u.1,
       name_is names place (name_of u.0) (ap (λ (ns : List (List ℕ)). slice_get ns place) (sym named') ∙ get_map name_of us place u.0 u.1)

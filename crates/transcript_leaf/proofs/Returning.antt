@@ -4,44 +4,29 @@ use Rattle.std.specs.Prelude.{is_some, slice_get}
 use Rattle.std.specs.List.{flat_map}
 use Rattle.std.proofs.lemmas.Grind.{flat_map-append}
 use Rattle.std.proofs.lemmas.List.{append-nil, append_assoc}
+use Rattle.std.proofs.lemmas.Bool.{cases_lt}
+use Rattle.std.proofs.lemmas.Option.{slice_get_past}
 use Rattle.berth_face.specs.Berth.{Meaning}
 use Rattle.leaf_history.specs.History.{Entry}
-use Rattle.leaf_table.specs.Turns.{Shared, history}
+use Rattle.leaf_table.specs.Turns.{Shared}
 use Rattle.leaf_table.specs.Calls.{SeatView, name_of, seen_of}
 use Rattle.transcript.specs.Pieces.{Piece, Played, One, Burst, all_pieces, pieces_in, plays_in}
 use Rattle.transcript.specs.Transcript.{Known, base_state_of}
 use Rattle.leaf_moves.specs.Stage.{Leaf, MeetAll, MeetsIf, seated_of}
 use Rattle.leaf_moves.specs.Holds.{Hold, caller_in, seen_by, seen_in, steward_in}
-use Rattle.leaf_moves.specs.Lanes.{ComesBack, JoinsIf, JoinsTo, TakesBackAt}
+use Rattle.leaf_moves.specs.Lanes.{ComesBack, JoinsIf, TakesBackAt}
 use Rattle.transcript_leaf.specs.Session.{AreApart, HasNoDeed, HoldsBoth, LeafHeld, LeafSession, TableSession}
 use Rattle.transcript_leaf.proofs.Terms.{Grows}
-use Rattle.transcript_leaf.proofs.Ids.{joins_same}
-use Rattle.transcript_leaf.proofs.Backs.{plays_lanes, plays_ones}
+use Rattle.transcript_leaf.proofs.Backs.{joined_learns, plays_lanes, plays_ones}
 use Rattle.transcript_leaf.proofs.Behind.{held_between, held_meets, held_past}
 use Rattle.transcript_leaf.proofs.Standing.{seats_become}
 use Rattle.transcript_leaf.proofs.Taking.{ComesBackAt, back_both, table_back}
-use Rattle.transcript_leaf.proofs.TableMeets.{HasLearned, SeesMore, learns_if, steward_legal, told_more, told_theirs}
-use Rattle.transcript_leaf.proofs.Places.{below_or_not, caller_beyond, get_beyond, leaf_met, met_at, same_name, same_pair, seats_then}
+use Rattle.transcript_leaf.proofs.TableMeets.{HasLearned, learns_if, steward_legal, told_more, told_theirs}
+use Rattle.transcript_leaf.proofs.Places.{caller_beyond, leaf_met, met_at, same_name, same_pair, seats_then}
 use Rattle.transcript_leaf.proofs.Sessions.{many_seats, table_held, table_of}
+use Rattle.transcript_leaf.proofs.Lists.{same_some}
 
 -- ---- what has been seen of a table
-
-sees_on : (u v w : SeatView) → SeesMore u v → SeesMore v w → SeesMore u w
-sees_on u v w a b = (a.0 ++ b.0, b.1 ∙ (ap (λ (es : List Entry). es ++ b.0) a.1 ∙ append_assoc (seen_of u) a.0 b.0))
-
-sees_same : (u v : SeatView) → seen_of v ≡ seen_of u → SeesMore u v
-sees_same u v e = ([], e ∙ sym (append-nil (seen_of u)))
-
-joined_sees : (c d t : SeatView) → JoinsTo c d t → SeesMore c t × SeesMore d t
-joined_sees c d t j =
-    (sees_on c j.one t (told_more c d j.one j.met.steward) (sees_same j.one t same), sees_on d j.one t (told_theirs c d j.one j.met.steward) (sees_same j.one t same))
-  where
-    by : (j.joined.seen ≡ j.one.seen) ⊎ (j.joined.seen ≡ j.other.seen) → j.joined.seen ≡ j.one.seen
-    by (inl x) = x
-    by (inr x) = x ∙ sym (joins_same c d t j)
-
-    same : seen_of t ≡ seen_of j.one
-    same = ap history (ap (λ (s : SeatView). s.seen) j.joined.view ∙ by j.joined.longer.one)
 
 abbrev MoreThan : List Entry → List Entry → Type 0
 MoreThan es fs = (more : List Entry) × (fs ≡ es ++ more)
@@ -52,40 +37,20 @@ all_more fs = (fs, refl)
 no_more : (es : List Entry) → MoreThan es es
 no_more es = ([], sym (append-nil es))
 
-more_as : (es fs gs : List Entry) → gs ≡ fs → MoreThan es fs → MoreThan es gs
-more_as es fs gs e h = subst (λ (xs : List Entry). MoreThan es xs) (sym e) h
-
-same_seat : (x y : SeatView) → Some x ≡ Some y → x ≡ y
-same_seat x y e = cc
+more_on : (es fs gs : List Entry) → MoreThan es fs → MoreThan fs gs → MoreThan es gs
+more_on es fs gs a b = (a.0 ++ b.0, b.1 ∙ (ap (λ (xs : List Entry). xs ++ b.0) a.1 ∙ append_assoc es a.0 b.0))
 
 back_sees : (v c u d t w e : Option SeatView) → JoinsIf c d t → ComesBackAt v u t w e → MoreThan (seen_by v c) (seen_by w e) × MoreThan (seen_by u d) (seen_by w e)
-back_sees v c None None t w e j back =
-    let same : seen_by w e ≡ seen_by v c = ap (λ (s : Option SeatView). seen_by s e) back.0 ∙ ap (λ (s : Option SeatView). seen_by v s) (back.1 ∙ j) in
-    (more_as (seen_by v c) (seen_by v c) (seen_by w e) same (no_more (seen_by v c)), all_more (seen_by w e))
-back_sees v (Some c) None (Some d) (Some t) w e j back =
-    let same : seen_by w e ≡ seen_of t = ap (λ (s : Option SeatView). seen_by s e) back.0 ∙ ap (λ (s : Option SeatView). seen_by v s) back.1 in
-    let sees = joined_sees c d t j in
-    (more_as (seen_of c) (seen_of t) (seen_by w e) same sees.0, more_as (seen_of d) (seen_of t) (seen_by w e) same sees.1)
-back_sees v None None (Some d) t w e j back = absurd j
-back_sees v (Some c) None (Some d) None w e j back = absurd j
+back_sees v c None None t w e j back = rw (back.0, back.1, j) (no_more (seen_by v c), all_more (seen_by v c))
+back_sees v (Some c) None (Some d) (Some t) w e j back = let both = joined_learns c d t j in rw (back.0, back.1) ((both.0.0, both.0.1), (both.1.0, both.1.1))
 back_sees None (Some c) (Some u) None (Some t) (Some w) (Some e) j back =
-    (subst (λ (s : SeatView). MoreThan (seen_of s) (seen_of e)) (same_seat t c j) (told_more t u e back.caller), told_theirs t u e back.caller)
+    (subst (λ (s : SeatView). MoreThan (seen_of s) (seen_of e)) (same_some t c j) (told_more t u e back.caller), told_theirs t u e back.caller)
 back_sees None (Some c) (Some u) (Some d) (Some t) (Some w) (Some e) j back =
-    let sees = joined_sees c d t j in
+    let both = joined_learns c d t j in
     let on = told_more t u e back.caller in
-    (sees_on c t e sees.0 on, sees_on d t e sees.1 on)
-back_sees None None (Some u) None None (Some w) None j back = (all_more (seen_of w), sees_same u w (ap (λ (s : SeatView). seen_of s) back))
-back_sees None None (Some u) None (Some t) w e j back = absurd cc
-back_sees None None (Some u) None None (Some w) (Some e) j back = absurd back
-back_sees None None (Some u) None None None e j back = absurd back
-back_sees None (Some c) (Some u) None None w e j back = absurd cc
-back_sees None (Some c) (Some u) None (Some t) None e j back = absurd back
-back_sees None (Some c) (Some u) None (Some t) (Some w) None j back = absurd back
-back_sees None (Some c) (Some u) (Some d) None w e j back = absurd j
-back_sees None (Some c) (Some u) (Some d) (Some t) None e j back = absurd back
-back_sees None (Some c) (Some u) (Some d) (Some t) (Some w) None j back = absurd back
-back_sees None None (Some u) (Some d) t w e j back = absurd j
-back_sees (Some v) c (Some u) d t w e j back = absurd back
+    (more_on (seen_of c) (seen_of t) (seen_of e) (both.0.0, both.0.1) on, more_on (seen_of d) (seen_of t) (seen_of e) (both.1.0, both.1.1) on)
+back_sees None None (Some u) None None (Some w) None j back = (all_more (seen_of w), subst (λ (s : SeatView). MoreThan (seen_of u) (seen_of s)) (sym back) (no_more (seen_of u)))
+back_sees v c u d t w e j back = absurd (first_of (search, cc))
 
 -- ---- the pieces
 
@@ -122,10 +87,13 @@ module _ {B : Type 0} (meaning : B → Meaning) (number : ℕ) (names : List (Li
     met : MeetAll leaf back.joined leaf_then x.callers (meaning berth)
     now : x.held ≡ Some (leaf_then, berth)
 
-  which : WasAway ⊎ ((off.held ≡ None) × (x.held ≡ rest.held) × (x.callers ≡ back.joined))
+  abbrev Stayed : Type 0
+  Stayed = (off.held ≡ None) × (x.held ≡ rest.held) × (x.callers ≡ back.joined)
+
+  which : WasAway ⊎ Stayed
   which = by off.held refl back.held
     where
-      by : (o : Option (Leaf × B)) → off.held ≡ o → ComesBack meaning o rest.held back.joined x.held x.callers → WasAway ⊎ ((off.held ≡ None) × (x.held ≡ rest.held) × (x.callers ≡ back.joined))
+      by : (o : Option (Leaf × B)) → off.held ≡ o → ComesBack meaning o rest.held back.joined x.held x.callers → WasAway ⊎ Stayed
       by None e h = inr (e, h.0, h.1)
       by (Some l) e h = inl (record { leaf = l.0; berth = l.1; leaf_then = h.0; is = e; met = h.1; now = h.2 })
 
@@ -138,45 +106,39 @@ module _ {B : Type 0} (meaning : B → Meaning) (number : ℕ) (names : List (Li
       by (inr e) = absurd (not_both off.held (w.leaf, w.berth) w.is e)
 
   many : (w : WasAway) → length (seated_of w.leaf).seats ≡ length back.joined
-  many w = many_seats meaning number names known old before start (map One lane) off away w.leaf w.berth w.is ∙ (away.callers_are ∙ (sym main.callers_are ∙ sym back.count))
+  many w = many_seats off away w.leaf w.berth w.is ∙ (away.callers_are ∙ (sym main.callers_are ∙ sym back.count))
 
   -- ---- place by place
 
   steward_of : (h k : Option (Leaf × B)) (place : ℕ) → h ≡ k → steward_in h place ≡ steward_in k place
   steward_of h k place e = ap (λ (o : Option (Leaf × B)). steward_in o place) e
 
-  comes_as : (v u t w e v' u' t' w' e' : Option SeatView) → v ≡ v' → u ≡ u' → t ≡ t' → w ≡ w' → e ≡ e' → ComesBackAt v' u' t' w' e' → ComesBackAt v u t w e
-  comes_as v u t w e v' u' t' w' e' a b c d f h =
-      subst (λ (s : Option SeatView). ComesBackAt s u t w e) (sym a) (subst (λ (s : Option SeatView). ComesBackAt v' s t w e) (sym b) (subst (λ (s : Option SeatView). ComesBackAt v' u' s w e) (sym c)
-      (subst (λ (s : Option SeatView). ComesBackAt v' u' t' s e) (sym d) (subst (λ (s : Option SeatView). ComesBackAt v' u' t' w' s) (sym f) h))))
+  abbrev Comes : ℕ → Type 0
+  Comes place = ComesBackAt (steward_in rest.held place) (steward_in off.held place) (caller_in back.joined place) (steward_in x.held place) (caller_in x.callers place)
 
-  come : (place : ℕ) → ComesBackAt (steward_in rest.held place) (steward_in off.held place) (caller_in back.joined place) (steward_in x.held place) (caller_in x.callers place)
+  come : (place : ℕ) → Comes place
   come place = by which
     where
-      there : (w : WasAway) → (place < length back.joined) ⊎ (length back.joined ≤ place)
-          → ComesBackAt (steward_in rest.held place) (steward_in off.held place) (caller_in back.joined place) (steward_in x.held place) (caller_in x.callers place)
+      there : (w : WasAway) → (place < length back.joined) ⊎ (length back.joined ≤ place) → Comes place
       there w (inl below) =
           let m = met_at w.leaf back.joined w.leaf_then x.callers (meaning w.berth) w.met (many w) place below in
-          comes_as (steward_in rest.held place) (steward_in off.held place) (caller_in back.joined place) (steward_in x.held place) (caller_in x.callers place)
-          None (Some m.steward) (caller_in back.joined place) (Some m.steward_then) (caller_in x.callers place)
-          (steward_of rest.held None place (none_is rest.held (other_none w))) (steward_of off.held (Some (w.leaf, w.berth)) place w.is ∙ m.at) refl (steward_of x.held (Some (w.leaf_then, w.berth)) place w.now ∙ m.at_then) refl
-          m.meets
+          rw (none_is rest.held (other_none w), w.is, w.now, m.at, m.at_then) m.meets
       there w (inr beyond) =
-          comes_as (steward_in rest.held place) (steward_in off.held place) (caller_in back.joined place) (steward_in x.held place) (caller_in x.callers place) None None None None None
-          (steward_of rest.held None place (none_is rest.held (other_none w)))
-          (steward_of off.held (Some (w.leaf, w.berth)) place w.is ∙ get_beyond (seated_of w.leaf).seats place (omega (arith, beyond, many w)))
-          (caller_beyond back.joined place beyond)
-          (steward_of x.held (Some (w.leaf_then, w.berth)) place w.now
-          ∙ (ap (λ (vs : List SeatView). slice_get vs place) (seats_then w.leaf back.joined w.leaf_then x.callers (meaning w.berth) w.met (many w)) ∙ get_beyond w.met.seats place (omega (arith, beyond, w.met.count.0, many w))))
-          (caller_beyond x.callers place (omega (arith, beyond, w.met.count.1)))
+          rw (
+            none_is rest.held (other_none w),
+            w.is,
+            w.now,
+            slice_get_past (seated_of w.leaf).seats place (omega (arith, beyond, many w)),
+            seats_then w.leaf back.joined w.leaf_then x.callers (meaning w.berth) w.met (many w),
+            slice_get_past w.met.seats place (omega (arith, beyond, w.met.count.0, many w)),
+            caller_beyond back.joined place beyond,
+            caller_beyond x.callers place (omega (arith, beyond, w.met.count.1)),
+          )
           (refl, refl)
 
-      by : WasAway ⊎ ((off.held ≡ None) × (x.held ≡ rest.held) × (x.callers ≡ back.joined))
-          → ComesBackAt (steward_in rest.held place) (steward_in off.held place) (caller_in back.joined place) (steward_in x.held place) (caller_in x.callers place)
-      by (inl w) = there w (below_or_not place (length back.joined))
-      by (inr h) =
-          subst (λ (s : Option SeatView). ComesBackAt (steward_in rest.held place) s (caller_in back.joined place) (steward_in x.held place) (caller_in x.callers place)) (sym (steward_of off.held None place h.0))
-          (steward_of x.held rest.held place h.1, ap (λ (cs : List (Option SeatView)). caller_in cs place) h.2)
+      by : WasAway ⊎ Stayed → Comes place
+      by (inl w) = there w (cases_lt place (length back.joined))
+      by (inr h) = rw (h.0, h.1, h.2) (refl, refl)
 
   -- ---- the tables
 
@@ -213,7 +175,7 @@ module _ {B : Type 0} (meaning : B → Meaning) (number : ℕ) (names : List (Li
   module _ (w : WasAway) where
     -- the table of the leaf in that place
     own_table : (place : ℕ) (t : Shared) → slice_get (seated_of w.leaf).tables place ≡ Some t → (u : Shared) × (slice_get off.tables place ≡ Some u) × (name_of u ≡ name_of t)
-    own_table place t at = table_of meaning number names known old before start (map One lane) off away w.leaf w.berth w.is place t at
+    own_table place t at = table_of off away w.leaf w.berth w.is place t at
 
     learned : (place : ℕ) (t : Shared) (u s : SeatView) → slice_get (seated_of w.leaf).tables place ≡ Some t → slice_get (seated_of w.leaf).seats place ≡ Some u → slice_get (seated_of w.leaf_then).seats place ≡ Some s
         → MeetsIf u (caller_in back.joined place) s (caller_in x.callers place) → HasLearned (base_state_of known (name_of t)) u s
@@ -226,7 +188,7 @@ module _ {B : Type 0} (meaning : B → Meaning) (number : ℕ) (names : List (Li
         (subst (λ (v : Option SeatView). TableSession (base_state_of known (name_of y.0)) (start place) number place (Burst (lanes ++ lane ∷ []) ∷ []) v (caller_in x.callers place))
         (steward_of x.held (Some (w.leaf_then, w.berth)) place w.now ∙ sat') (table_then place y.0 y.1)) in
         learns_if (base_state_of known (name_of t)) u s (caller_in back.joined place) (caller_in x.callers place)
-        (table_held meaning number names known old before start (map One lane) off away w.leaf w.berth w.is place there.0 u there.1 sat).stewards meets
+        (table_held off away w.leaf w.berth w.is place there.0 u there.1 sat).stewards meets
         (steward_legal (base_state_of known (name_of t)) (start place) number place (Burst (lanes ++ lane ∷ []) ∷ []) s (caller_in x.callers place) session)
 
     came_held : LeafHeld number names known old (before ++ all_pieces (Burst (lanes ++ lane ∷ []) ∷ [])) w.leaf_then (meaning w.berth)
@@ -248,18 +210,18 @@ module _ {B : Type 0} (meaning : B → Meaning) (number : ℕ) (names : List (Li
   held_then : (k : Leaf) (d : B) → x.held ≡ Some (k, d) → goal (k, d)
   held_then k d e = by which
     where
-      by : WasAway ⊎ ((off.held ≡ None) × (x.held ≡ rest.held) × (x.callers ≡ back.joined)) → goal (k, d)
+      by : WasAway ⊎ Stayed → goal (k, d)
       by (inl w) = same_pair goal (w.leaf_then, w.berth) (k, d) (sym w.now ∙ e) (came w)
       by (inr h) = stayed h.0 h.1 k d e
 
   many_callers : length x.callers ≡ length rest.callers
   many_callers = by which
     where
-      by : WasAway ⊎ ((off.held ≡ None) × (x.held ≡ rest.held) × (x.callers ≡ back.joined)) → length x.callers ≡ length rest.callers
+      by : WasAway ⊎ Stayed → length x.callers ≡ length rest.callers
       by (inl w) = w.met.count.1 ∙ back.count
       by (inr h) = ap (λ (cs : List (Option SeatView)). length cs) h.2 ∙ back.count
 
-  pub back_on : LeafSession meaning number names known old before start (Burst (lanes ++ lane ∷ []) ∷ []) x
+  back_on : LeafSession meaning number names known old before start (Burst (lanes ++ lane ∷ []) ∷ []) x
   back_on = record {
     named = ap (λ (ts : List Shared). map name_of ts) back.tables ∙ main.named;
     callers_are = many_callers ∙ main.callers_are;
@@ -268,14 +230,14 @@ module _ {B : Type 0} (meaning : B → Meaning) (number : ℕ) (names : List (Li
     held = held_then;
   }
 
-  pub back_grows : Grows rest x × Grows off x
+  back_grows : Grows rest x × Grows off x
   back_grows = (λ place. (sees place).0, λ place. (sees place).1)
     where
       sees : (place : ℕ) → MoreThan (seen_in rest place) (seen_in x place) × MoreThan (seen_in off place) (seen_in x place)
       sees place = back_sees (steward_in rest.held place) (caller_in rest.callers place) (steward_in off.held place) (caller_in off.callers place) (caller_in back.joined place)
           (steward_in x.held place) (caller_in x.callers place) (back.seats place) (come place)
 
-  pub back_holds : HoldsBoth rest off x
+  back_holds : HoldsBoth rest off x
   back_holds = record {
     ids = λ place id. back_both (steward_in rest.held place) (caller_in rest.callers place) (steward_in off.held place) (caller_in off.callers place) (caller_in back.joined place)
         (steward_in x.held place) (caller_in x.callers place) (back.seats place) (come place) id;
@@ -283,10 +245,14 @@ module _ {B : Type 0} (meaning : B → Meaning) (number : ℕ) (names : List (Li
     one = one;
   }
     where
-      first : WasAway ⊎ ((off.held ≡ None) × (x.held ≡ rest.held) × (x.callers ≡ back.joined)) → is_some rest.held ≡ false → is_some x.held ≡ is_some off.held
+      first : WasAway ⊎ Stayed → is_some rest.held ≡ false → is_some x.held ≡ is_some off.held
       first (inl w) e = ap is_some w.now ∙ sym (ap is_some w.is)
       first (inr h) e = ap is_some h.1 ∙ (e ∙ sym (ap is_some h.0))
 
-      second : WasAway ⊎ ((off.held ≡ None) × (x.held ≡ rest.held) × (x.callers ≡ back.joined)) → is_some off.held ≡ false → is_some x.held ≡ is_some rest.held
+      second : WasAway ⊎ Stayed → is_some off.held ≡ false → is_some x.held ≡ is_some rest.held
       second (inl w) e = absurd (not_both off.held (w.leaf, w.berth) w.is e)
       second (inr h) e = ap is_some h.1
+
+  -- a lane is taken back
+  pub leaf_back : LeafSession meaning number names known old before start (Burst (lanes ++ lane ∷ []) ∷ []) x × HoldsBoth rest off x × Grows rest x × Grows off x
+  leaf_back = (back_on, back_holds, back_grows.0, back_grows.1)

@@ -18,11 +18,9 @@ use Rattle.transcript.specs.Histories.{BaseState}
 use Rattle.transcript.specs.Moments.{MomentsRise, notes_told}
 use Rattle.leaf_moves.specs.Steps.{noted_all}
 use Rattle.transcript_leaf.specs.Session.{AreToldOn, HasNoDeed}
-use Rattle.transcript_leaf.proofs.Ids.{stewards_still}
-use Rattle.transcript_leaf.proofs.Lists.{element_at, get_set_same, within}
+use Rattle.transcript_leaf.proofs.Lists.{get_set_same}
 use Rattle.transcript_leaf.proofs.Lives.{deeds_act, deeds_between, did, notes_of}
-use Rattle.transcript_leaf.proofs.CountingNotes.{AreStewards, makes_seats}
-use Rattle.transcript_leaf.proofs.Noting.{notes_at}
+use Rattle.transcript_leaf.proofs.CountingNotes.{AreStewards, entry_stewards}
 use Rattle.transcript_leaf.proofs.ToldOn.{told_made}
 use Rattle.transcript_leaf.proofs.Wearing.{seen_length}
 
@@ -47,10 +45,7 @@ stands_at (f ∷ front) e more = stands_at front e more
 made_last : (base : Option TableBase) (clock : ℕ) (v w : SeatView) (kind : What) → MadeAs base clock v kind w
     → (front : List Entry) × (e : Entry) × (seen_of w ≡ front ++ e ∷ []) × (e.clock ≡ clock)
 made_last base clock v w (what.Opened n) m = (seen_of v ++ m.1.between, entry_seen v.id clock _ _, m.1.seen, refl)
-made_last base clock v w (what.Took n) m = (seen_of v ++ m.between, entry_seen v.id clock _ _, m.seen, refl)
-made_last base clock v w (what.Flushed n) m = (seen_of v ++ m.between, entry_seen v.id clock _ _, m.seen, refl)
-made_last base clock v w (what.Closed n) m = (seen_of v ++ m.between, entry_seen v.id clock _ _, m.seen, refl)
-made_last base clock v w what.Handed m = (seen_of v ++ m.between, entry_seen v.id clock _ _, m.seen, refl)
+made_last base clock v w kind m = (seen_of v ++ m.between, entry_seen v.id clock _ _, m.seen, refl)
 
 module _ (base_states : ℕ → BaseState) (histories : ℕ → List Entry) where
   -- histories that go on from the seat have that entry under its number
@@ -67,22 +62,11 @@ module _ (base_states : ℕ → BaseState) (histories : ℕ → List Entry) wher
       ∙ (ap (λ n. slice_get ((last.0 ++ last.1 ∷ []) ++ on.0) n) count ∙ stands_at last.0 last.1 on.0) in
       ap (λ (o : Option Entry). option_map (λ (e : Entry). e.clock) o) here ∙ ap (λ n. Some n) last.3
 
-  one_stewards : (clock to : ℕ) (x : Seated) (note : Note) (y : Seated) → OneEntry clock x note y → clock ≤ to → AreStewards x → AreStewards y
-  one_stewards clock to x note y one low are place w sat =
-      let single : Makes clock to x (note ∷ []) y = Makes.more clock to x (note ∷ []) y clock note [] y (omega arith) one (Makes.none clock to y [] y low refl refl) refl in
-      let count : length y.seats ≡ length x.seats = makes_seats clock to x (note ∷ []) y single in
-      let v = element_at x.seats place (omega (arith, count, within y.seats place w sat)) in
-      stewards_still v.0 w (notes_at clock to x (note ∷ []) y place v.0 w single v.1 sat (are place v.0 v.1)).ids (are place v.0 v.1)
-
-  ends_later : (from to : ℕ) (x : Seated) (notes : List Note) (y : Seated) → Makes from to x notes y → from ≤ to
-  ends_later from to x notes y (Makes.none f u a ns b le is same) = le
-  ends_later from to x notes y (Makes.more f u a ns b clock first rest between le one makes is) = let on = ends_later clock to between rest y makes in omega (arith, le, on)
-
   -- the entries of a deed
   pub makes_rise : (from to : ℕ) (x : Seated) (notes : List Note) (y : Seated) → Makes from to x notes y → AreStewards x → AreToldOn base_states histories y → MomentsRise histories from (noted_all notes) to
   makes_rise from to x notes y (Makes.none f u a ns b le is same) are told = subst (λ (ks : List Note). MomentsRise histories from (noted_all ks) to) (sym is) le
   makes_rise from to x notes y (Makes.more f u a ns b clock first rest between le one makes is) are told =
-      let stewards = one_stewards clock to x first between one (ends_later clock to between rest y makes) are in
+      let stewards = entry_stewards clock x first between one are in
       let later = told_made base_states histories clock to between rest y makes stewards told in
       subst (λ (ks : List Note). MomentsRise histories from (noted_all ks) to) (sym is)
       (clock, moment_is clock x first between one later, le, makes_rise clock to between rest y makes stewards told)

@@ -1,7 +1,6 @@
 -- What stands of a leaf at a meeting, when a run begins, and when it has ended.
-use Rattle.std.proofs.Common.{Option, ◌≡◌, ℕ, zero, suc, ◌+◌, true, List, [], ◌∷◌, length, map, Some, refl, sym, ap, ap₂, subst, ◌∙◌, arith}
+use Rattle.std.proofs.Common.{Option, ◌≡◌, ℕ, zero, suc, ◌+◌, List, [], ◌∷◌, length, map, Some, refl, sym, ap, ap₂, subst, ◌∙◌, arith}
 use Rattle.std.specs.Prelude.{IsTrue, IfSome, slice_get}
-use Rattle.std.specs.List.{AllByRecursion}
 use Rattle.berth_face.specs.Berth.{Meaning}
 use Rattle.berth_face.specs.Moments.{EachNow}
 use Rattle.leaf_history.specs.History.{Entry, HistoryState}
@@ -17,7 +16,7 @@ use Rattle.crash_states.proofs.Lefts.{runs_told, rests_told}
 use Rattle.crash_states.proofs.Whole.{runs_whole, rests_whole}
 use Rattle.crash_states.proofs.Meeting.{callers_between}
 use Rattle.crash_states.specs.Standing.{states_of_tables}
-use Rattle.leaf_table.specs.Turns.{Shared, is_founded, start_of}
+use Rattle.leaf_table.specs.Turns.{Shared, start_of}
 use Rattle.leaf_table.specs.Calls.{SeatView, base_seen, name_of, seen_of}
 use Rattle.leaf_steward.specs.declared.notes.Note.{Note}
 use Rattle.leaf_steward.specs.Seated.{Seated, AreFounded, AtEach, watch, watched_by}
@@ -30,32 +29,9 @@ use Rattle.transcript.specs.Leaving.{LeavesBerth}
 use Rattle.transcript.specs.Histories.{BaseState}
 use Rattle.transcript.specs.Transcript.{Known, base_state_of}
 use Rattle.transcript_leaf.specs.Session.{AreInPlace}
-use Rattle.transcript_leaf.proofs.Lists.{element_at, length_mapped, within}
 use Rattle.transcript_leaf.proofs.TableMeets.{HasLearned}
 use Rattle.transcript_leaf.proofs.Ways.{drained_way, found_way}
-
--- ---- the tables of a leaf, place by place
-
--- the tables are founded with this base
-abbrev pub AreFoundedWith : NamedStates → Seated → Type 0
-AreFoundedWith base x = AtEach (λ place t v. (is_founded (base_seen t) ≡ true) × (start_of (base_seen t) ≡ base (name_of t))) x
-
-all_each : {X : Type 0} (P : X → Type 0) (xs : List X) → ((place : ℕ) (x : X) → slice_get xs place ≡ Some x → P x) → AllByRecursion P xs
-all_each P [] each = tt
-all_each P (x ∷ xs) each = (each zero x refl, all_each P xs (λ place y at. each (suc place) y at))
-
-module _ (names : List (List ℕ)) (x : Seated) (in_place : AreInPlace names x) where
-  pub as_many : length x.tables ≡ length names
-  as_many = sym (length_mapped name_of x.tables) ∙ ap (λ (ns : List (List ℕ)). length ns) in_place.named
-
-  -- where there is a table there is a seat of the steward
-  pub seat_there : (place : ℕ) (t : Shared) → slice_get x.tables place ≡ Some t → (v : SeatView) × (slice_get x.seats place ≡ Some v)
-  seat_there place t at = element_at x.seats place (omega (arith, within x.tables place t at, as_many, in_place.seats))
-
-  pub founded_all : (base : NamedStates) → AreFoundedWith base x → AreFounded x
-  founded_all base founded = all_each (λ (t : Shared). is_founded (base_seen t) ≡ true) x.tables (λ place t at.
-      let seat = seat_there place t at in
-      (founded place t seat.0 at seat.1).0)
+use Rattle.transcript_leaf.proofs.CountingNotes.{AreFoundedWith, are_founded, as_many}
 
 -- ---- the tables of a leaf as they are watched
 
@@ -83,7 +59,7 @@ watch_with base histories first (t ∷ ts) (v ∷ vs) count each =
 watched_as : (names : List (List ℕ)) (base : NamedStates) (histories : ℕ → List Entry) (x : Seated) → AreInPlace names x → AreFoundedWith base x
     → AtEach (λ place t v. seen_of v ≡ histories place) x → watched_by x ≡ watched_from 0 names base histories
 watched_as names base histories x in_place founded seen =
-    watch_with base histories 0 x.tables x.seats (in_place.seats ∙ sym (as_many names x in_place)) each
+    watch_with base histories 0 x.tables x.seats (in_place.seats ∙ sym (as_many names x.tables in_place.named)) each
     ∙ ap (λ (ns : List (List ℕ)). watched_from 0 ns base histories) in_place.named
   where
     none_before : (place : ℕ) → place ≡ 0 + place
@@ -145,7 +121,7 @@ pub stands_met : (names : List (List ℕ)) (base : NamedStates) (known : Option 
     → IsTrue m.tells → AreInPlace names (seated_of leaf) → AreFoundedWith base (seated_of leaf) → LeafStands base leaf m → LeafMeets known leaf leaf' m
     → StandsOn base leaf leaf' m m
 stands_met names base known leaf leaf' m tells in_place founded stands met =
-    let still : LeafStands base leaf' m = met.stands base tells (founded_all names (seated_of leaf) in_place base founded) stands in
+    let still : LeafStands base leaf' m = met.stands base tells (are_founded names (seated_of leaf) in_place base founded) stands in
     record {
       stands = still;
       told = stands_told base leaf' (watched_by (seated_of leaf)) m still (met_more known leaf leaf' m met);
@@ -163,7 +139,7 @@ pub stands_carried : (names : List (List ℕ)) (base : NamedStates) (leaf leaf' 
     → IsTrue m.tells → AreInPlace names (seated_of leaf) → AreFoundedWith base (seated_of leaf) → AreHandedNothing base
     → LeafStands base leaf m → Carries leaf leaf' notes m m' → StandsOn base leaf leaf' m m'
 stands_carried names base leaf leaf' notes m m' tells in_place founded sound stands carries =
-    carries.stands base tells (founded_all names (seated_of leaf) in_place base founded) sound stands
+    carries.stands base tells (are_founded names (seated_of leaf) in_place base founded) sound stands
 
 -- ---- the first moment and the last
 

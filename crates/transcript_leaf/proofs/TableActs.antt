@@ -1,12 +1,12 @@
 -- A table's session goes on by a deed of its leaf's steward, behind which the seats meet, as far as they are there.
-use Rattle.std.proofs.Common.{◌≡◌, ◌⊎◌, inl, inr, ⊎_elim, ℕ, suc, ◌+◌, ◌≤◌, List, [], ◌∷◌, ◌++◌, length, Option, Some, None, refl, sym, ap, subst, ◌∙◌, arith, IsPermutation, IfSome}
-use Rattle.std.specs.List.{AllByRecursion}
-use Rattle.std.proofs.lemmas.List.{append-nil, append_assoc, append_cancel_left, length-append, length-map, map-append}
+use Rattle.std.proofs.Common.{◌≡◌, ◌⊎◌, ⊎_elim, ℕ, suc, ◌+◌, ◌≤◌, List, [], ◌∷◌, ◌++◌, length, Option, Some, None, refl, sym, ap, subst, ◌∙◌, arith, IsPermutation, IfSome}
+use Rattle.std.proofs.lemmas.List.{append-nil, append_assoc, append_cancel_left, length-append, length-map}
 use Rattle.std.proofs.lemmas.List.Sorted.{IsPermutation-append_left}
 use Rattle.turnstile.specs.Ids.{LongerOf}
+use Rattle.turnstile.specs.Seats.{Owns}
 use Rattle.turnstile.proofs.Prefixes.{prefix_whole}
 use Rattle.leaf_history.specs.History.{Entry, LegalFrom}
-use Rattle.leaf_table.specs.Turns.{TurnsTaken, told, history}
+use Rattle.leaf_table.specs.Turns.{told, history}
 use Rattle.leaf_table.specs.Calls.{SeatView, seen_of}
 use Rattle.leaf_steward.specs.declared.notes.Note.{Note}
 use Rattle.printed_lines.specs.declared.line.Ending.{Ending}
@@ -18,13 +18,12 @@ use Rattle.leaf_moves.specs.Stage.{Meets, MeetsIf}
 use Rattle.leaf_moves.specs.Steps.{noted_all}
 use Rattle.transcript_leaf.specs.Session.{IsCallers, IsStewards, OneOf, OwnedBy, TableSession, TellsOf}
 use Rattle.transcript_leaf.proofs.Terms.{with_pieces}
-use Rattle.transcript_leaf.proofs.Ids.{callers_still, meets_same, owns_back, owns_on, same_on, same_told, stewards_still}
-use Rattle.transcript_leaf.proofs.Merging.{tells_append, tells_nothing, tells_rises, tells_same}
-use Rattle.transcript_leaf.proofs.Backs.{others_of}
-use Rattle.transcript_leaf.proofs.Stewards.{tells_wider}
+use Rattle.transcript_leaf.proofs.Ids.{SameIds, callers_still, meets_same, one_same, owns_same, same_on, same_told, stewards_alone, stewards_still}
+use Rattle.transcript_leaf.proofs.Merging.{AreOthers, SameAll, all_back, all_refl, all_swap, all_then, tells_append, tells_nothing, tells_rises, tells_same, tells_wider}
 use Rattle.transcript_leaf.proofs.Telling.{order_more, shown_more}
 use Rattle.transcript_leaf.proofs.Noting.{NotesAt, acted_here}
-use Rattle.transcript_leaf.proofs.TableMeets.{SameAll}
+use Rattle.transcript_leaf.proofs.Tables.{nothing_since}
+use Rattle.transcript_leaf.proofs.Backs.{Learns, learns_by}
 
 -- who has seen no less than the other has seen all that either had
 longest : {A : Type 0} (xs ys zs : List A) → length ys ≤ length xs → LongerOf xs ys zs → zs ≡ xs
@@ -41,17 +40,8 @@ steward_seen v w c v' c' es same more meets =
     let few : length c.seen ≤ length w.seen = omega (arith, old, new, length-map c.seen told, length-map w.seen told) in
     ap history (ap (λ (u : SeatView). u.seen) meets.steward.view ∙ longest w.seen c.seen meets.steward.seen few meets.steward.longer)
 
--- nothing was made since the last meeting
-pub nothing_since : (start met since : List Entry) (v c : List Entry) → v ≡ start ++ met → c ≡ start ++ (met ++ since) → v ≡ c → since ≡ []
-nothing_since start met since v c seen_v seen_c same =
-    append_cancel_left met since [] (append_cancel_left start (met ++ since) (met ++ []) (sym seen_c ∙ (sym same ∙ (seen_v ∙ ap (λ (es : List Entry). start ++ es) (sym (append-nil met))))))
-
 one_out : (n k : ℕ) → suc n + k ≡ suc (n + k)
 one_out n k = omega arith
-
-swapped : (O P : ℕ → Type 0) (id : ℕ) → O id ⊎ P id → P id ⊎ O id
-swapped O P id (inl o) = inr o
-swapped O P id (inr p) = inl p
 
 module _ (g : BaseState) (start : List Entry) (number place : ℕ) (items : List PlayedItem) (c0 : Command) (ps : List Piece) (deed : Deed) (ends : Ending) (notes : List Note) (v w : SeatView) where
   abbrev act : Piece
@@ -80,7 +70,7 @@ module _ (g : BaseState) (start : List Entry) (number place : ℕ) (items : List
         (subst (λ (ss : List Shown). IsPermutation (old ++ lines_of) ss) (sym (append-nil (t.told ++ lines_of)))
         (IsPermutation-append_left lines_of old t.told (subst (λ (ss : List Shown). IsPermutation old ss) (ap (λ (ss : List Shown). t.told ++ ss) no_later ∙ append-nil t.told) t.lines)));
     tells = tells_append (OneOf (Some v') c') (suc (length start)) t.told lines_of t.met es
-        (tells_same (OneOf (Some v) c) (OneOf (Some v') c') (suc (length start)) t.told t.met (λ id. (ids id).0) (λ id. (ids id).1) t.tells) tells;
+        (tells_same (OneOf (Some v) c) (OneOf (Some v') c') (suc (length start)) t.told t.met ids t.tells) tells;
     tells_later = refl;
     order = order_more number place (length start) items c0 ps act (length start + length (t.met ++ t.since)) (length start + length ((t.met ++ es) ++ [])) t.order
         (subst (λ (ss : List Shown). Rises (length start + length (t.met ++ t.since)) ss (length start + length ((t.met ++ es) ++ []))) (sym (acted_here number place deed ends notes))
@@ -107,15 +97,15 @@ module _ (g : BaseState) (start : List Entry) (number place : ℕ) (items : List
         → TableSession g start number place (with_pieces items c0 (ps ++ act ∷ [])) (Some v') (Some c')
     with_callers_seat v' c c' t same meets =
         behind (Some c) v' (Some c') es t (nothing_since start t.met t.since (seen_of v) (seen_of c) t.seen_steward t.seen_caller same)
-        (stewards_still v v' (same_on v w v' made.ids (same_told w c v' meets.steward)) t.stewards)
-        (callers_still c c' (same_told c w c' meets.caller) t.callers)
+        (stewards_still v v' v_ids t.stewards)
+        (callers_still c c' c_ids t.callers)
         seen_v
         (ap history (sym (meets_same w c v' c' meets)) ∙ (seen_v ∙ ap (λ (xs : List Entry). start ++ xs) (sym (append-nil (t.met ++ es)))))
-        (λ id. (to id, from id))
-        (tells_same (λ id. OwnedBy (Some c) id ⊎ OwnedBy (Some v) id) (OneOf (Some v') (Some c')) (suc (length start) + length t.met) lines_of es
-        (λ id o. to id (swapped (OwnedBy (Some c)) (OwnedBy (Some v)) id o)) (λ id o. swapped (OwnedBy (Some v)) (OwnedBy (Some c)) id (from id o))
-        (tells_wider (OwnedBy (Some c)) (OwnedBy (Some v)) (suc (length start) + length t.met) lines_of es others
-        (subst (λ (k : ℕ). TellsOf (OwnedBy (Some v)) k lines_of es) from_is made.tells)))
+        ids
+        (tells_same (λ id. Owns c id ⊎ Owns v id) (OneOf (Some v') (Some c')) (suc (length start) + length t.met) lines_of es
+        (all_then (λ id. Owns c id ⊎ Owns v id) (OneOf (Some v) (Some c)) (OneOf (Some v') (Some c')) (all_swap (Owns c) (Owns v)) ids)
+        (tells_wider (Owns c) (Owns v) (suc (length start) + length t.met) lines_of es others
+        (subst (λ (k : ℕ). TellsOf (Owns v) k lines_of es) from_is made.tells)))
         (subst (λ (xs : List Entry). LegalFrom g.founded g.base xs) (sym seen) legal)
       where
         es : List Entry
@@ -130,27 +120,22 @@ module _ (g : BaseState) (start : List Entry) (number place : ℕ) (items : List
         from_is : suc (length (seen_of v)) ≡ suc (length start) + length t.met
         from_is = omega (arith, ap (λ (xs : List Entry). length xs) t.seen_steward, length-append start t.met)
 
-        to : (id : ℕ) → OneOf (Some v) (Some c) id → OneOf (Some v') (Some c') id
-        to id (inl o) = inl (owns_on v v' id (same_on v w v' made.ids (same_told w c v' meets.steward)) o)
-        to id (inr o) = inr (owns_on c c' id (same_told c w c' meets.caller) o)
+        v_ids : SameIds v v'
+        v_ids = same_on v w v' made.ids (same_told w c v' meets.steward)
 
-        from : (id : ℕ) → OneOf (Some v') (Some c') id → OneOf (Some v) (Some c) id
-        from id (inl o) = inl (owns_back v v' id (same_on v w v' made.ids (same_told w c v' meets.steward)) o)
-        from id (inr o) = inr (owns_back c c' id (same_told c w c' meets.caller) o)
+        c_ids : SameIds c c'
+        c_ids = same_told c w c' meets.caller
+
+        ids : SameAll (OneOf (Some v) (Some c)) (OneOf (Some v') (Some c'))
+        ids = one_same (Some v) (Some v') (Some c) (Some c') (owns_same v v' v_ids) (owns_same c c' c_ids)
 
         -- what the callers' seat learned at the meeting is none of its own
-        more : TurnsTaken
-        more = meets.caller.longer.own.0
+        own : Learns c c'
+        own = learns_by c w c' meets.caller meets.caller_learns
 
-        c_seen : c'.seen ≡ c.seen ++ more
-        c_seen = ap (λ (u : SeatView). u.seen) meets.caller.view ∙ sym meets.caller.longer.own.1
-
-        learned : history more ≡ es
-        learned = append_cancel_left (seen_of c) (history more) es (sym (map-append told c.seen more) ∙ (ap history (sym c_seen)
-            ∙ (ap history (sym (meets_same w c v' c' meets)) ∙ (seen ∙ (made.seen ∙ ap (λ (xs : List Entry). xs ++ es) same)))))
-
-        others : AllByRecursion (λ (e : Entry). OwnedBy (Some c) e.caller → ⊥) es
-        others = subst (λ (xs : List Entry). AllByRecursion (λ (e : Entry). OwnedBy (Some c) e.caller → ⊥) xs) learned (others_of c more (meets.caller_learns more c_seen))
+        others : AreOthers (Owns c) es
+        others = subst (λ (xs : List Entry). AreOthers (Owns c) xs)
+            (append_cancel_left (seen_of c) own.0 es (sym own.1 ∙ (ap history (sym (meets_same w c v' c' meets)) ∙ (seen ∙ (made.seen ∙ ap (λ (xs : List Entry). xs ++ es) same))))) own.2
 
     -- there is no callers' seat
     by_itself : (v' : SeatView) → (t : TableSession g start number place (with_pieces items c0 ps) (Some v) None) → v' ≡ w
@@ -158,29 +143,20 @@ module _ (g : BaseState) (start : List Entry) (number place : ℕ) (items : List
     by_itself v' t now = subst (λ (s : SeatView). TableSession g start number place (with_pieces items c0 (ps ++ act ∷ [])) (Some s) None) (sym now)
         (behind None w None es t (t.alone.0 refl) (stewards_still v w made.ids t.stewards) tt
         (made.seen ∙ (ap (λ (xs : List Entry). xs ++ es) t.seen_steward ∙ append_assoc start t.met es)) tt
-        (λ id. (to id, from id))
-        (tells_same (OwnedBy (Some v)) (OneOf (Some w) None) (suc (length start) + length t.met) lines_of es (λ id o. to id (inl o)) (λ id o. own id (from id o))
-        (subst (λ (k : ℕ). TellsOf (OwnedBy (Some v)) k lines_of es) (omega (arith, ap (λ (xs : List Entry). length xs) t.seen_steward, length-append start t.met)) made.tells))
+        ids
+        (tells_same (Owns v) (OneOf (Some w) None) (suc (length start) + length t.met) lines_of es
+        (all_then (Owns v) (OneOf (Some v) None) (OneOf (Some w) None) (all_back (OneOf (Some v) None) (Owns v) (stewards_alone (Some v))) ids)
+        (subst (λ (k : ℕ). TellsOf (Owns v) k lines_of es) (omega (arith, ap (λ (xs : List Entry). length xs) t.seen_steward, length-append start t.met)) made.tells))
         legal)
       where
         es : List Entry
         es = made.entries
 
-        to : (id : ℕ) → OneOf (Some v) None id → OneOf (Some w) None id
-        to id (inl o) = inl (owns_on v w id made.ids o)
-        to id (inr o) = absurd o
-
-        from : (id : ℕ) → OneOf (Some w) None id → OneOf (Some v) None id
-        from id (inl o) = inl (owns_back v w id made.ids o)
-        from id (inr o) = absurd o
-
-        own : (id : ℕ) → OneOf (Some v) None id → OwnedBy (Some v) id
-        own id (inl o) = o
-        own id (inr o) = absurd o
+        ids : SameAll (OneOf (Some v) None) (OneOf (Some w) None)
+        ids = one_same (Some v) (Some w) None None (owns_same v w made.ids) (all_refl (OwnedBy None))
 
     pub table_acts : (c : Option SeatView) (v' : SeatView) (c' : Option SeatView) → TableSession g start number place (with_pieces items c0 ps) (Some v) c → IfSome c (λ s. seen_of v ≡ seen_of s)
         → MeetsIf w c v' c' → TableSession g start number place (with_pieces items c0 (ps ++ Acted number deed (noted_all notes) ends ∷ [])) (Some v') c'
     table_acts (Some c) v' (Some c') t same meets = with_callers_seat v' c c' t same meets
     table_acts None v' None t same now = by_itself v' t now
-    table_acts (Some c) v' None t same meets = absurd meets
-    table_acts None v' (Some c') t same meets = absurd meets
+    table_acts c v' c' t same meets = absurd meets

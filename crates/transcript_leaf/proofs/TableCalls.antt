@@ -1,5 +1,5 @@
 -- A table's session goes on by a caller's call, and past what shows nothing of the table.
-use Rattle.std.proofs.Common.{◌≡◌, ◌⊎◌, inl, inr, ⊎_elim, ℕ, suc, ◌+◌, ◌≤◌, ◌==◌, false, List, [], ◌∷◌, ◌++◌, length, Option, Some, refl, sym, ap, subst, ◌∙◌, arith, IsPermutation}
+use Rattle.std.proofs.Common.{◌≡◌, ◌⊎◌, inl, inr, ⊎_elim, ℕ, suc, ◌+◌, ◌==◌, false, List, [], ◌∷◌, ◌++◌, length, Option, Some, refl, sym, ap, subst, ◌∙◌, le_refl, arith, IsPermutation}
 use Rattle.std.proofs.lemmas.Bool.{eq-eqb, ne_eqb}
 use Rattle.std.proofs.lemmas.List.{append-nil, append_assoc, length-append}
 use Rattle.std.proofs.lemmas.List.Sorted.{IsPermutation-append_left}
@@ -21,37 +21,18 @@ use Rattle.leaf_moves.specs.Steps.{IsReplyPiece}
 use Rattle.transcript_leaf.specs.Session.{OneOf, OwnedBy, TableSession, TellsOf}
 use Rattle.transcript_leaf.proofs.Lists.{length_mapped}
 use Rattle.transcript_leaf.proofs.Terms.{with_pieces}
-use Rattle.transcript_leaf.proofs.Ids.{SameIds, callers_still, own_first, owns_back, owns_on, same_made}
-use Rattle.transcript_leaf.proofs.Merging.{tells_append, tells_past, tells_same}
-use Rattle.transcript_leaf.proofs.Telling.{order_more, shown_more}
+use Rattle.transcript_leaf.proofs.Ids.{SameIds, callers_still, one_same, own_first, owns_same, same_made}
+use Rattle.transcript_leaf.proofs.Merging.{all_refl, tells_append, tells_past, tells_same}
+use Rattle.transcript_leaf.proofs.Telling.{order_more, retell, shown_more}
 
 -- pieces that show nothing of the table leave what is known of it
 pub other_table : (g : BaseState) (start : List Entry) (number place : ℕ) (items : List PlayedItem) (c0 : Command) (ps : List Piece) (p : Piece) (v c : Option SeatView)
     → TableSession g start number place (with_pieces items c0 ps) v c → shown number place (p ∷ []) ≡ [] → TableSession g start number place (with_pieces items c0 (ps ++ p ∷ [])) v c
-other_table g start number place items c0 ps p v c s none = record {
-  stewards = s.stewards;
-  callers = s.callers;
-  met = s.met;
-  since = s.since;
-  seen_steward = s.seen_steward;
-  seen_caller = s.seen_caller;
-  alone = s.alone;
-  told = s.told;
-  later = s.later;
-  lines = subst (λ (ss : List Shown). IsPermutation ss (s.told ++ s.later)) (sym same) s.lines;
-  tells = s.tells;
-  tells_later = s.tells_later;
-  order = order_more number place (length start) items c0 ps p (length start + length (s.met ++ s.since)) (length start + length (s.met ++ s.since)) s.order
-      (subst (λ (ss : List Shown). Rises (length start + length (s.met ++ s.since)) ss (length start + length (s.met ++ s.since))) (sym none) (most (length start + length (s.met ++ s.since))));
-  legal = s.legal;
-}
-  where
-    most : (n : ℕ) → n ≤ n
-    most n = omega arith
-
-    same : shown number place (all_pieces (with_pieces items c0 (ps ++ p ∷ []))) ≡ shown number place (all_pieces (with_pieces items c0 ps))
-    same = shown_more number place items c0 ps p ∙ (ap (λ (ss : List Shown). shown number place (all_pieces (with_pieces items c0 ps)) ++ ss) none
-        ∙ append-nil (shown number place (all_pieces (with_pieces items c0 ps))))
+other_table g start number place items c0 ps p v c s none =
+    retell g start number place (with_pieces items c0 ps) (with_pieces items c0 (ps ++ p ∷ [])) v c s
+    (shown_more number place items c0 ps p ∙ (ap (λ (ss : List Shown). shown number place (all_pieces (with_pieces items c0 ps)) ++ ss) none
+    ∙ append-nil (shown number place (all_pieces (with_pieces items c0 ps)))))
+    (λ high h. order_more number place (length start) items c0 ps p high high h (subst (λ (ss : List Shown). Rises high ss high) (sym none) (le_refl high)))
 
 -- ---- a caller's call
 
@@ -69,16 +50,7 @@ piece_of leaf table n by called reply.Shut x p tells says = (said.RefusedShut, s
 piece_of leaf table n by called reply.Full x p tells says = (said.RefusedFull, subst (λ y. IsReplyPiece leaf table called y p) tells says, (refl, refl))
 piece_of leaf table n by called reply.NoMemory x p tells says = (said.RefusedMemory, subst (λ y. IsReplyPiece leaf table called y p) tells says, (refl, refl))
 piece_of leaf table n by called (reply.Removed k) x p tells says = (said.Removed k, subst (λ y. IsReplyPiece leaf table called y p) tells says, (refl, refl))
-piece_of leaf table n by called (reply.Counted k) x p tells says = absurd tells
-piece_of leaf table n by called reply.Noted x p tells says = absurd tells
-
-with_same : (v : Option SeatView) (c d : SeatView) → SameIds c d → (id : ℕ) → OneOf v (Some c) id → OneOf v (Some d) id
-with_same v c d same id (inl o) = inl o
-with_same v c d same id (inr o) = inr (owns_on c d id same o)
-
-with_back : (v : Option SeatView) (c d : SeatView) → SameIds c d → (id : ℕ) → OneOf v (Some d) id → OneOf v (Some c) id
-with_back v c d same id (inl o) = inl o
-with_back v c d same id (inr o) = inr (owns_back c d id same o)
+piece_of leaf table n by called r x p tells says = absurd tells
 
 -- an entry was made and its line printed
 entry_table : (g : BaseState) (start : List Entry) (number place : ℕ) (items : List PlayedItem) (c0 : Command) (ps : List Piece) (p : Piece) (t : Shared) (v : Option SeatView) (c c' : SeatView) (called : Call)
@@ -100,8 +72,8 @@ entry_table g start number place items c0 ps p t v c c' called r s now founded f
   later = now.later ++ own ∷ [];
   lines = subst (λ (ss : List Shown). IsPermutation ss (now.told ++ (now.later ++ own ∷ []))) (sym (shown_more number place items c0 ps p ∙ ap (λ (ss : List Shown). old ++ ss) one))
       (subst (λ (ss : List Shown). IsPermutation (old ++ own ∷ []) ss) (append_assoc now.told now.later (own ∷ [])) (IsPermutation-append_left (own ∷ []) old (now.told ++ now.later) now.lines));
-  tells = tells_same (OneOf v (Some c)) (OneOf v (Some c')) (suc (length start)) now.told now.met (with_same v c c' same) (with_back v c c' same) now.tells;
-  tells_later = tells_same (OwnedBy (Some c)) (OwnedBy (Some c')) (suc (length start) + length now.met) (now.later ++ own ∷ []) (now.since ++ new) (λ id. owns_on c c' id same) (λ id. owns_back c c' id same)
+  tells = tells_same (OneOf v (Some c)) (OneOf v (Some c')) (suc (length start)) now.told now.met (one_same v v (Some c) (Some c') (all_refl (OwnedBy v)) (owns_same c c' same)) now.tells;
+  tells_later = tells_same (OwnedBy (Some c)) (OwnedBy (Some c')) (suc (length start) + length now.met) (now.later ++ own ∷ []) (now.since ++ new) (owns_same c c' same)
       (tells_append (OwnedBy (Some c)) (suc (length start) + length now.met) now.later (own ∷ []) now.since new now.tells_later last);
   order = order_more number place (length start) items c0 ps p (length start + length (now.met ++ now.since)) (length start + length (now.met ++ (now.since ++ new))) now.order
       (subst (λ (ss : List Shown). Rises (length start + length (now.met ++ now.since)) ss (length start + length (now.met ++ (now.since ++ new)))) (sym one)
@@ -147,12 +119,7 @@ entry_table g start number place items c0 ps p t v c c' called r s now founded f
 -- a worn seat makes no entry
 worn_or_made : (base : Option TableBase) (v : SeatView) (c : Call) (x : Reply) (w : SeatView) → Answered base v c x w → ((x ≡ shared.Worn) × (w ≡ v)) ⊎ Replied base v c x w
 worn_or_made base v c shared.Worn w a = inl (refl, a.1)
-worn_or_made base v c (shared.Added number kept late) w a = inr a
-worn_or_made base v c (shared.Removed number rows) w a = inr a
-worn_or_made base v c (shared.Groups number gs) w a = inr a
-worn_or_made base v c (shared.Shut number) w a = inr a
-worn_or_made base v c (shared.Full number) w a = inr a
-worn_or_made base v c (shared.NoMemory number) w a = inr a
+worn_or_made base v c r w a = inr a
 
 -- a caller's call adds the line of its entry, or that its seat is worn
 pub call_table : (g : BaseState) (start : List Entry) (number place : ℕ) (items : List PlayedItem) (c0 : Command) (ps : List Piece) (t : Shared) (v : Option SeatView) (c c' : SeatView) (called : Call) (x : Reply) (p : Piece)

@@ -1,9 +1,8 @@
 -- At a table the seats meet, as far as they are there; and what the steward's learns there, and each.
 use Rattle.std.proofs.Common.{◌≡◌, ◌⊎◌, inl, inr, ℕ, suc, ◌+◌, ◌≤◌, List, [], ◌++◌, length, Option, Some, None, refl, sym, ap, subst, ◌∙◌, arith, IsPermutation, IfSome}
-use Rattle.std.specs.List.{AllByRecursion}
 use Rattle.std.proofs.lemmas.List.{append-nil, append_assoc, append_cancel_left, length-append, map-append}
 use mathlib.Core.List.{IsPrefix}
-use Rattle.turnstile.specs.Seats.{AreIds, SeesAlso}
+use Rattle.turnstile.specs.Seats.{AreIds, Owns, SeesAlso}
 use Rattle.turnstile.proofs.Prefixes.{prefix_whole}
 use Rattle.leaf_history.specs.History.{Entry, LegalFrom}
 use Rattle.leaf_history.specs.Laws.{AreCallers}
@@ -17,10 +16,9 @@ use Rattle.leaf_moves.specs.Holds.{seen_by}
 use Rattle.leaf_moves.specs.Stage.{Meets, MeetsIf}
 use Rattle.transcript_leaf.specs.Session.{IsStewards, OneOf, OwnedBy, TableSession}
 use Rattle.transcript_leaf.proofs.Lists.{length_mapped}
-use Rattle.transcript_leaf.proofs.Ids.{SameIds, callers_still, meets_same, owns_back, owns_on, same_here, same_told, stewards_still}
-use Rattle.transcript_leaf.proofs.Merging.{tells_append, tells_same}
-use Rattle.transcript_leaf.proofs.Backs.{others_of}
-use Rattle.transcript_leaf.proofs.Stewards.{tells_wider}
+use Rattle.transcript_leaf.proofs.Ids.{SameIds, callers_still, meets_same, one_same, owns_same, same_here, same_told, stewards_still}
+use Rattle.transcript_leaf.proofs.Merging.{AreOthers, SameAll, all_refl, all_then, tells_append, tells_same, tells_wider}
+use Rattle.transcript_leaf.proofs.Backs.{Learns, learns_by}
 
 -- ---- what a seat learns
 
@@ -49,12 +47,11 @@ pub record HasLearned (g : BaseState) (v w : SeatView) : Type 0 where
 
 pub learns_if : (g : BaseState) (v v' : SeatView) (c c' : Option SeatView) → IsStewards v → MeetsIf v c v' c' → LegalFrom g.founded g.base (seen_of v') → HasLearned g v v'
 learns_if g v v' (Some c) (Some c') is meets legal =
-    let more : TurnsTaken = meets.steward.longer.own.0 in
-    let seen : v'.seen ≡ v.seen ++ more = ap (λ (s : SeatView). s.seen) meets.steward.view ∙ sym meets.steward.longer.own.1 in
+    let own = learns_by v c v' meets.steward meets.steward_learns in
     record {
-      more = history more;
-      callers = callers_of v (history more) is.id (let share = is.share in omega (arith, share)) (others_of v more (meets.steward_learns more seen));
-      seen = ap (λ (es : TurnsTaken). history es) seen ∙ map-append told v.seen more;
+      more = own.0;
+      callers = callers_of v own.0 is.id (let share = is.share in omega (arith, share)) own.2;
+      seen = own.1;
       legal = legal;
       ids = same_told v c v' meets.steward;
     }
@@ -65,23 +62,20 @@ learns_if g v v' None None is same legal = record {
   legal = legal;
   ids = same_here v v' same;
 }
-learns_if g v v' (Some c) None is meets legal = absurd meets
-learns_if g v v' None (Some c') is meets legal = absurd meets
+learns_if g v v' c c' is meets legal = absurd meets
 
 -- ---- what has been seen of the table, and who has which ids
 
 pub sees_if : (v v' : SeatView) (c c' : Option SeatView) → MeetsIf v c v' c' → (more : List Entry) × (seen_by (Some v') c' ≡ seen_by (Some v) c ++ more)
 sees_if v v' (Some c) (Some c') meets = told_more c v c' meets.caller
 sees_if v v' None None same = ([], ap (λ (s : SeatView). seen_of s) same ∙ sym (append-nil (seen_of v)))
-sees_if v v' (Some c) None meets = absurd meets
-sees_if v v' None (Some c') meets = absurd meets
+sees_if v v' c c' meets = absurd meets
 
 -- behind it each has seen what the steward's had
 pub reaches_if : (v v' : SeatView) (c c' : Option SeatView) → MeetsIf v c v' c' → (more : List Entry) × (seen_by (Some v') c' ≡ seen_of v ++ more)
 reaches_if v v' (Some c) (Some c') meets = told_theirs c v c' meets.caller
 reaches_if v v' None None same = ([], ap (λ (s : SeatView). seen_of s) same ∙ sym (append-nil (seen_of v)))
-reaches_if v v' (Some c) None meets = absurd meets
-reaches_if v v' None (Some c') meets = absurd meets
+reaches_if v v' c c' meets = absurd meets
 
 pub reaches_as : (seat : Option SeatView) (v' u w : SeatView) (c' : Option SeatView) → seat ≡ Some v' → u ≡ w → (more : List Entry) × (seen_by (Some v') c' ≡ seen_of u ++ more)
     → (more : List Entry) × (seen_by seat c' ≡ seen_of w ++ more)
@@ -89,37 +83,23 @@ reaches_as seat v' u w c' is same far =
     subst (λ (s : Option SeatView). (more : List Entry) × (seen_by s c' ≡ seen_of w ++ more)) (sym is)
     (subst (λ (s : SeatView). (more : List Entry) × (seen_by (Some v') c' ≡ seen_of s ++ more)) same far)
 
-abbrev pub SameAll : (ℕ → Type 0) → (ℕ → Type 0) → Type 0
-SameAll O P = (id : ℕ) → (O id → P id) × (P id → O id)
-
 pub ids_if : (v v' : SeatView) (c c' : Option SeatView) → MeetsIf v c v' c' → SameAll (OneOf (Some v) c) (OneOf (Some v') c')
-ids_if v v' (Some c) (Some c') meets = both_same v v' c c' (same_told v c v' meets.steward) (same_told c v c' meets.caller)
-  where
-    on : (v v' c c' : SeatView) → SameIds v v' → SameIds c c' → (id : ℕ) → OneOf (Some v) (Some c) id → OneOf (Some v') (Some c') id
-    on v v' c c' a b id (inl o) = inl (owns_on v v' id a o)
-    on v v' c c' a b id (inr o) = inr (owns_on c c' id b o)
-
-    back : (v v' c c' : SeatView) → SameIds v v' → SameIds c c' → (id : ℕ) → OneOf (Some v') (Some c') id → OneOf (Some v) (Some c) id
-    back v v' c c' a b id (inl o) = inl (owns_back v v' id a o)
-    back v v' c c' a b id (inr o) = inr (owns_back c c' id b o)
-
-    both_same : (v v' c c' : SeatView) → SameIds v v' → SameIds c c' → SameAll (OneOf (Some v) (Some c)) (OneOf (Some v') (Some c'))
-    both_same v v' c c' a b id = (on v v' c c' a b id, back v v' c c' a b id)
-ids_if v v' None None same = λ id. (λ o. subst (λ (s : SeatView). OneOf (Some s) None id) (sym same) o, λ o. subst (λ (s : SeatView). OneOf (Some s) None id) same o)
-ids_if v v' (Some c) None meets = absurd meets
-ids_if v v' None (Some c') meets = absurd meets
+ids_if v v' (Some c) (Some c') meets =
+    one_same (Some v) (Some v') (Some c) (Some c') (owns_same v v' (same_told v c v' meets.steward)) (owns_same c c' (same_told c v c' meets.caller))
+ids_if v v' None None same = one_same (Some v) (Some v') None None (owns_same v v' (same_here v v' same)) (all_refl (OwnedBy None))
+ids_if v v' c c' meets = absurd meets
 
 -- of a table more has been seen, and the ids stay
 abbrev pub GrowsAt : Option SeatView → Option SeatView → Option SeatView → Option SeatView → Type 0
 GrowsAt v c v' c' = ((more : List Entry) × (seen_by v' c' ≡ seen_by v c ++ more)) × SameAll (OneOf v c) (OneOf v' c')
 
 pub grows_not : (v c : Option SeatView) → GrowsAt v c v c
-grows_not v c = (([], sym (append-nil (seen_by v c))), λ id. (λ o. o, λ o. o))
+grows_not v c = (([], sym (append-nil (seen_by v c))), all_refl (OneOf v c))
 
 pub grows_then : (v c w d u e : Option SeatView) → GrowsAt v c w d → GrowsAt w d u e → GrowsAt v c u e
 grows_then v c w d u e a b = (
   (a.0.0 ++ b.0.0, b.0.1 ∙ (ap (λ (es : List Entry). es ++ b.0.0) a.0.1 ∙ append_assoc (seen_by v c) a.0.0 b.0.0)),
-  λ id. (λ o. (b.1 id).0 ((a.1 id).0 o), λ o. (a.1 id).1 ((b.1 id).1 o)),
+  all_then (OneOf v c) (OneOf w d) (OneOf u e) a.1 b.1,
 )
 
 pub grows_as : (v c w d v' c' w' d' : Option SeatView) → v ≡ v' → c ≡ c' → w ≡ w' → d ≡ d' → GrowsAt v' c' w' d' → GrowsAt v c w d
@@ -132,19 +112,11 @@ grows_met v v' c c' meets = (sees_if v v' c c' meets, ids_if v v' c c' meets)
 
 -- a steward's seat has made entries
 pub grows_made : (v w : SeatView) (c : Option SeatView) (es : List Entry) → seen_of w ≡ seen_of v ++ es → SameIds v w → GrowsAt (Some v) c (Some w) c
-grows_made v w c es seen same = (by c, λ id. (to id, from id))
+grows_made v w c es seen same = (by c, one_same (Some v) (Some w) c c (owns_same v w same) (all_refl (OwnedBy c)))
   where
     by : (c : Option SeatView) → (more : List Entry) × (seen_by (Some w) c ≡ seen_by (Some v) c ++ more)
     by None = (es, seen)
     by (Some s) = ([], sym (append-nil (seen_of s)))
-
-    to : (id : ℕ) → OneOf (Some v) c id → OneOf (Some w) c id
-    to id (inl o) = inl (owns_on v w id same o)
-    to id (inr o) = inr o
-
-    from : (id : ℕ) → OneOf (Some w) c id → OneOf (Some v) c id
-    from id (inl o) = inl (owns_back v w id same o)
-    from id (inr o) = inr o
 
 -- ---- the session
 
@@ -178,7 +150,7 @@ both_met g start number place items v v' c c' t meets = record {
   told = t.told ++ t.later;
   later = [];
   lines = subst (λ (ss : List Shown). IsPermutation (shown number place (all_pieces items)) ss) (sym (append-nil (t.told ++ t.later))) t.lines;
-  tells = tells_same (OneOf (Some v) (Some c)) (OneOf (Some v') (Some c')) (suc (length start)) (t.told ++ t.later) (t.met ++ t.since) (λ id. (ids_if v v' (Some c) (Some c') meets id).0) (λ id. (ids_if v v' (Some c) (Some c') meets id).1)
+  tells = tells_same (OneOf (Some v) (Some c)) (OneOf (Some v') (Some c')) (suc (length start)) (t.told ++ t.later) (t.met ++ t.since) (ids_if v v' (Some c) (Some c') meets)
       (tells_append (OneOf (Some v) (Some c)) (suc (length start)) t.told t.later t.met t.since t.tells
       (tells_wider (OwnedBy (Some v)) (OwnedBy (Some c)) (suc (length start) + length t.met) t.later t.since others t.tells_later));
   tells_later = refl;
@@ -199,28 +171,23 @@ both_met g start number place items v v' c c' t meets = record {
     same' = sym (meets_same v c v' c' meets) ∙ same
 
     -- what the steward's seat learned are others' entries
-    more : TurnsTaken
-    more = meets.steward.longer.own.0
+    own : Learns v v'
+    own = learns_by v c v' meets.steward meets.steward_learns
 
-    learned : history more ≡ t.since
-    learned = append_cancel_left (seen_of v) (history more) t.since (sym (map-append told v.seen more) ∙ (ap history (meets.steward.longer.own.1 ∙ (sym view ∙ same)) ∙ ahead))
-
-    others : AllByRecursion (λ (e : Entry). OwnedBy (Some v) e.caller → ⊥) t.since
-    others = subst (λ (es : List Entry). AllByRecursion (λ (e : Entry). OwnedBy (Some v) e.caller → ⊥) es) learned (others_of v more (meets.steward_learns more (view ∙ sym meets.steward.longer.own.1)))
+    others : AreOthers (Owns v) t.since
+    others = subst (λ (es : List Entry). AreOthers (Owns v) es) (append_cancel_left (seen_of v) own.0 t.since (sym own.1 ∙ (ap history same ∙ ahead))) own.2
 
 pub table_meets : (g : BaseState) (start : List Entry) (number place : ℕ) (items : List PlayedItem) (v v' : SeatView) (c c' : Option SeatView)
     → TableSession g start number place items (Some v) c → MeetsIf v c v' c' → TableSession g start number place items (Some v') c'
 table_meets g start number place items v v' (Some c) (Some c') t meets = both_met g start number place items v v' c c' t meets
 table_meets g start number place items v v' None None t same = subst (λ (s : SeatView). TableSession g start number place items (Some s) None) (sym same) t
-table_meets g start number place items v v' (Some c) None t meets = absurd meets
-table_meets g start number place items v v' None (Some c') t meets = absurd meets
+table_meets g start number place items v v' c c' t meets = absurd meets
 
 -- behind it both have seen the same
 pub same_if : (v v' : SeatView) (c c' : Option SeatView) → MeetsIf v c v' c' → IfSome c' (λ s. (seen_of v' ≡ seen_of s) × AreIds s.seen)
 same_if v v' (Some c) (Some c') meets = (ap history (meets_same v c v' c' meets), meets.ids)
 same_if v v' None None same = tt
-same_if v v' (Some c) None meets = absurd meets
-same_if v v' None (Some c') meets = absurd meets
+same_if v v' c c' meets = absurd meets
 
 -- what the steward's seat has seen is legal
 pub steward_legal : (g : BaseState) (start : List Entry) (number place : ℕ) (items : List PlayedItem) (v : SeatView) (c : Option SeatView)

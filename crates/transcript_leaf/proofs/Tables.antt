@@ -9,21 +9,17 @@ use Rattle.leaf_table.specs.Calls.{SeatView, seen_of}
 use Rattle.transcript.specs.Pieces.{Piece, Played, PlayedItem, One, Burst, pieces_in, plays_in, plays_of}
 use Rattle.transcript.specs.Histories.{BaseState, Shown, Rises, ItemRises, InOrder, shown, shown_in}
 use Rattle.transcript_leaf.specs.Session.{TableSession, TellsOf, OneOf, OwnedBy}
-use Rattle.transcript_leaf.proofs.Merging.{tells_append, tells_same}
+use Rattle.transcript_leaf.proofs.Merging.{SameAll, rises_lower, tells_append, tells_nothing, tells_same}
 
 -- ---- the order
-
-pub Rises_lower : (low low' : ℕ) (ss : List Shown) (high : ℕ) → low ≤ low' → Rises low' ss high → Rises low ss high
-Rises_lower low low' [] high l h = omega (arith, l, h)
-Rises_lower low low' (s ∷ ss) high l h = (omega (arith, l, h.0), h.1)
 
 pub each_lower : (leaf table low low' : ℕ) (lanes : List (List Played)) (high : ℕ) → low ≤ low'
     → AllByRecursion (λ lane. Rises low' (shown leaf table (pieces_in lane)) high) lanes → AllByRecursion (λ lane. Rises low (shown leaf table (pieces_in lane)) high) lanes
 each_lower leaf table low low' [] high l h = tt
-each_lower leaf table low low' (lane ∷ lanes) high l h = (Rises_lower low low' (shown leaf table (pieces_in lane)) high l h.0, each_lower leaf table low low' lanes high l h.1)
+each_lower leaf table low low' (lane ∷ lanes) high l h = (rises_lower low low' (shown leaf table (pieces_in lane)) high l h.0, each_lower leaf table low low' lanes high l h.1)
 
 item_lower : (leaf table low low' : ℕ) (x : PlayedItem) (high : ℕ) → low ≤ low' → ItemRises leaf table low' x high → ItemRises leaf table low x high
-item_lower leaf table low low' (One p) high l h = Rises_lower low low' (shown leaf table p.pieces) high l h
+item_lower leaf table low low' (One p) high l h = rises_lower low low' (shown leaf table p.pieces) high l h
 item_lower leaf table low low' (Burst lanes) high l h = (omega (arith, l, h.0), each_lower leaf table low low' lanes high l h.1)
 
 order_lower : (leaf table low low' : ℕ) (xs : List PlayedItem) (high : ℕ) → low ≤ low' → InOrder leaf table low' xs high → InOrder leaf table low xs high
@@ -44,15 +40,19 @@ shown_items leaf table xs ys =
 
 -- ---- the burst
 
+-- nothing was made since the last meeting
+pub nothing_since : (start met since : List Entry) (v c : List Entry) → v ≡ start ++ met → c ≡ start ++ (met ++ since) → v ≡ c → since ≡ []
+nothing_since start met since v c seen_v seen_c same =
+    append_cancel_left met since [] (append_cancel_left start (met ++ since) (met ++ []) (sym seen_c ∙ (sym same ∙ (seen_v ∙ ap (λ (es : List Entry). start ++ es) (sym (append-nil met))))))
+
 -- The steward's seat took part, and had met the callers'.
 pub table_lent : (g : BaseState) (start : List Entry) (leaf table : ℕ) (items : List PlayedItem) (lanes : List (List Played)) (v c v' c' : SeatView)
     → TableSession g start leaf table items (Some v) (Some c)
     → seen_of v ≡ seen_of c
     → TableSession g (seen_of c) leaf table (Burst lanes ∷ []) (Some v') (Some c')
-    → ((id : ℕ) → OneOf (Some v) (Some c) id → OneOf (Some v') (Some c') id)
-    → ((id : ℕ) → OneOf (Some v') (Some c') id → OneOf (Some v) (Some c) id)
+    → SameAll (OneOf (Some v) (Some c)) (OneOf (Some v') (Some c'))
     → TableSession g start leaf table (items ++ Burst lanes ∷ []) (Some v') (Some c')
-table_lent g start leaf table items lanes v c v' c' t met b to from = record {
+table_lent g start leaf table items lanes v c v' c' t met b same = record {
   stewards = b.stewards;
   callers = b.callers;
   met = t.met ++ b.met;
@@ -67,7 +67,7 @@ table_lent g start leaf table items lanes v c v' c' t met b to from = record {
       (IsPermutation-append (shown leaf table (pieces_in (plays_in items))) t.told (shown leaf table (pieces_in (plays_in (Burst lanes ∷ [])))) (b.told ++ b.later)
       (subst (λ (ss : List Shown). IsPermutation (shown leaf table (pieces_in (plays_in items))) ss) (ap (λ (ss : List Shown). t.told ++ ss) no_later ∙ append-nil t.told) t.lines) b.lines));
   tells = tells_append (OneOf (Some v') (Some c')) (suc (length start)) t.told b.told t.met b.met
-      (tells_same (OneOf (Some v) (Some c)) (OneOf (Some v') (Some c')) (suc (length start)) t.told t.met to from t.tells)
+      (tells_same (OneOf (Some v) (Some c)) (OneOf (Some v') (Some c')) (suc (length start)) t.told t.met same t.tells)
       (subst (λ (k : ℕ). TellsOf (OneOf (Some v') (Some c')) k b.told b.met) (omega (arith, c_length)) b.tells);
   tells_later = subst (λ (k : ℕ). TellsOf (OwnedBy (Some c')) k b.later b.since) later_is b.tells_later;
   order = subst (λ (k : ℕ). InOrder leaf table (length start) (items ++ Burst lanes ∷ []) k) high_is
@@ -76,19 +76,11 @@ table_lent g start leaf table items lanes v c v' c' t met b to from = record {
   legal = subst (λ (es : List Entry). LegalFrom g.founded g.base es) whole b.legal;
 }
   where
-    -- nothing was made since the last meeting
     none : t.since ≡ []
-    none = by t.since (append_cancel_left t.met t.since [] (append_cancel_left start (t.met ++ t.since) (t.met ++ []) (sym t.seen_caller ∙ (sym met ∙ (t.seen_steward ∙ ap (λ (es : List Entry). start ++ es) (sym (append-nil t.met)))))))
-      where
-        by : (es : List Entry) → es ≡ [] → es ≡ []
-        by es e = e
+    none = nothing_since start t.met t.since (seen_of v) (seen_of c) t.seen_steward t.seen_caller met
 
     no_later : t.later ≡ []
-    no_later = nothing t.later t.since none t.tells_later
-      where
-        nothing : (ss : List Shown) (es : List Entry) → es ≡ [] → TellsOf (OwnedBy (Some c)) (suc (length start) + length t.met) ss es → ss ≡ []
-        nothing ss [] e h = h
-        nothing ss (x ∷ xs) e h = absurd cc
+    no_later = tells_nothing (OwnedBy (Some c)) (suc (length start) + length t.met) t.later t.since none t.tells_later
 
     c_is : seen_of c ≡ start ++ t.met
     c_is = sym met ∙ t.seen_steward

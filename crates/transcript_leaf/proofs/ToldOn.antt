@@ -15,10 +15,10 @@ use Rattle.transcript.specs.Histories.{BaseState}
 use Rattle.transcript.specs.Transcript.{Known, base_state_of}
 use Rattle.leaf_moves.specs.Stage.{Leaf, seated_of, seated_with}
 use Rattle.transcript_leaf.specs.Session.{HaveKnownBase, AreInPlace, AreToldOn}
-use Rattle.transcript_leaf.proofs.CountingNotes.{AreStewards, makes_seats}
+use Rattle.transcript_leaf.proofs.CountingNotes.{AreStewards, as_many, makes_seats}
 use Rattle.transcript_leaf.proofs.Lists.{element_at, get_map, name_is, within}
 use Rattle.transcript_leaf.proofs.Noting.{notes_at}
-use Rattle.transcript_leaf.proofs.Standing.{LeafMeets, as_many, seats_become}
+use Rattle.transcript_leaf.proofs.Standing.{LeafMeets, seats_become}
 
 module _ (base_states : ℕ → BaseState) (histories : ℕ → List Entry) where
   -- tables and as many seats stay, and each seat has then seen what it had, and more
@@ -55,7 +55,7 @@ module _ (base_states : ℕ → BaseState) (histories : ℕ → List Entry) wher
       learned : (place : ℕ) (v w : SeatView) → slice_get (seated_of leaf).seats place ≡ Some v → slice_get (seated_of leaf').seats place ≡ Some w → (more : List Entry) × (seen_of w ≡ seen_of v ++ more)
       learned place v w was sat =
           let below = within (seated_of leaf).seats place v was in
-          let t = element_at (seated_of leaf).tables place (omega (arith, below, as_many names (seated_of leaf) in_place, in_place.seats)) in
+          let t = element_at (seated_of leaf).tables place (omega (arith, below, as_many names (seated_of leaf).tables in_place.named, in_place.seats)) in
           let has = met.each place t.0 v w t.1 was (ap (λ (s : Seated). slice_get s.seats place) (sym now) ∙ sat) in
           (has.more, has.seen)
 

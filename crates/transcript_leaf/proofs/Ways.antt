@@ -6,10 +6,9 @@ use Rattle.berth_face.specs.Berth.{Meaning, Pair, IsClosed}
 use Rattle.region_head.specs.declared.head.Head.{Head}
 use Rattle.region_head.specs.declared.head.Head.TheVariants as head
 use Rattle.region_head.specs.declared.head.Head.TheVariants.{Version}
-use Rattle.region_layout.specs.Images.{TableImage}
 use Rattle.region_head.specs.Head.{head_of, version_of}
 use Rattle.region_head.proofs.Heads.{closed_head, shut_head}
-use Rattle.region_layout.specs.Region.{IsAdoptable, layout, reads}
+use Rattle.region_layout.specs.Region.{layout, reads}
 use Rattle.leaf_words.specs.declared.ways.WhyDisk.{WhyDisk}
 use Rattle.leaf_words.specs.declared.ways.WhyDisk.TheVariants as why
 use Rattle.adopt.specs.Adopting.{HasNoStranger, IsLeftBehind, IsNoImage, IsStranger, IsWhy}
@@ -17,88 +16,32 @@ use Rattle.leaf_words.specs.declared.ways.Way.{Way}
 use Rattle.leaf_words.specs.declared.ways.Way.TheVariants.{Memory, Disk}
 use Rattle.leaf_opening.specs.Answers.{GoesToLog}
 use Rattle.leaf_opening.specs.Starts.{IsWayLeft, IsWayOf, way_after}
-use Rattle.leaf_opening.proofs.Exact.{why_alone}
+use Rattle.leaf_opening.proofs.OneAnswer.{image_alone, image_why}
 use Rattle.crash_moments.specs.Left.{NamedStates, RegionLeft}
 use Rattle.leaf_steward.specs.Seated.{Seated}
 use Rattle.transcript.specs.Life.{MayCome}
 use Rattle.leaf_moves.specs.Stage.{IsDown, LeafStands}
-use Rattle.transcript_leaf.proofs.Lists.{clash_bool}
 
 -- a head has one version, and that is of one that is read or not
 read_not : (h : Head) (v w : ℕ) → h ≡ head.Version v → h ≡ head.Version w → reads v ≡ true → reads w ≡ false → ⊥
-read_not h v w e f r n = clash_bool (reads v) r (ap (λ (k : ℕ). reads k) (same h e f) ∙ n)
-  where
-    same : (x : Head) → x ≡ head.Version v → x ≡ head.Version w → v ≡ w
-    same x e f = cc
-
-no_why : (region : List ℕ) (images : List TableImage) (log_end : ℕ) → IsAdoptable region images log_end → (w : WhyDisk) → IsWhy region w → ⊥
-no_why region images log_end a why.NoHead h = clash (head_of region) a.version a.is.has.head h
-  where
-    clash : (x : Head) (v : ℕ) → x ≡ head.Version v → x ≡ head.NoHead → ⊥
-    clash x v e f = cc
-no_why region images log_end a (why.Closed b) h = clash (head_of region) a.version a.is.has.head h
-  where
-    clash : (x : Head) (v : ℕ) → x ≡ head.Version v → x ≡ head.Closed b → ⊥
-    clash x v e f = cc
-no_why region images log_end a (why.OtherVersion v) h = read_not (head_of region) a.version v a.is.has.head h.0 a.reads_it h.1
-no_why region images log_end a why.NoImage h = h.3 images log_end a
+read_not h v w e f r n = cc
 
 same_why : (region : List ℕ) (v w : WhyDisk) → IsWhy region v → IsWhy region w → v ≡ w
-same_why region why.NoHead why.NoHead g h = refl
-same_why region why.NoHead (why.Closed b) g h = absurd (cc)
-same_why region why.NoHead (why.OtherVersion n) g h = absurd (clash (head_of region) g h.0)
-  where
-    clash : (x : Head) → x ≡ head.NoHead → x ≡ head.Version n → ⊥
-    clash x e f = cc
-same_why region why.NoHead why.NoImage g h = absurd (clash (head_of region) h.0 g h.1)
-  where
-    clash : (x : Head) (v : ℕ) → x ≡ head.NoHead → x ≡ head.Version v → ⊥
-    clash x v e f = cc
-same_why region (why.Closed a) why.NoHead g h = absurd (clash (head_of region) g h)
-  where
-    clash : (x : Head) → x ≡ head.Closed a → x ≡ head.NoHead → ⊥
-    clash x e f = cc
-same_why region (why.Closed a) (why.Closed b) g h = ap why.Closed (same (head_of region) g h)
-  where
-    same : (x : Head) → x ≡ head.Closed a → x ≡ head.Closed b → a ≡ b
-    same x e f = cc
-same_why region (why.Closed a) (why.OtherVersion n) g h = absurd (clash (head_of region) g h.0)
-  where
-    clash : (x : Head) → x ≡ head.Closed a → x ≡ head.Version n → ⊥
-    clash x e f = cc
-same_why region (why.Closed a) why.NoImage g h = absurd (clash (head_of region) h.0 g h.1)
-  where
-    clash : (x : Head) (v : ℕ) → x ≡ head.Closed a → x ≡ head.Version v → ⊥
-    clash x v e f = cc
-same_why region (why.OtherVersion m) why.NoHead g h = absurd (clash (head_of region) g.0 h)
-  where
-    clash : (x : Head) → x ≡ head.Version m → x ≡ head.NoHead → ⊥
-    clash x e f = cc
-same_why region (why.OtherVersion m) (why.Closed b) g h = absurd (clash (head_of region) g.0 h)
-  where
-    clash : (x : Head) → x ≡ head.Version m → x ≡ head.Closed b → ⊥
-    clash x e f = cc
-same_why region (why.OtherVersion m) (why.OtherVersion n) g h = ap why.OtherVersion (same (head_of region) g.0 h.0)
-  where
-    same : (x : Head) → x ≡ head.Version m → x ≡ head.Version n → m ≡ n
-    same x e f = cc
-same_why region (why.OtherVersion m) why.NoImage g h = absurd (read_not (head_of region) h.0 m h.1 g.0 h.2 g.1)
-same_why region why.NoImage why.NoHead g h = absurd (clash (head_of region) g.0 g.1 h)
-  where
-    clash : (x : Head) (v : ℕ) → x ≡ head.Version v → x ≡ head.NoHead → ⊥
-    clash x v e f = cc
-same_why region why.NoImage (why.Closed b) g h = absurd (clash (head_of region) g.0 g.1 h)
-  where
-    clash : (x : Head) (v : ℕ) → x ≡ head.Version v → x ≡ head.Closed b → ⊥
-    clash x v e f = cc
-same_why region why.NoImage (why.OtherVersion n) g h = absurd (read_not (head_of region) g.0 n g.1 h.0 g.2 h.1)
 same_why region why.NoImage why.NoImage g h = refl
+same_why region why.NoImage (why.OtherVersion v) g h = absurd (read_not (head_of region) g.0 v g.1 h.0 g.2 h.1)
+same_why region (why.OtherVersion v) why.NoImage g h = absurd (read_not (head_of region) h.0 v h.1 g.0 h.2 g.1)
+same_why region (why.OtherVersion v) (why.OtherVersion w) g h = cc (g.0, h.0)
+same_why region why.NoImage w g h = cc (g.1)
+same_why region (why.OtherVersion v) w g h = cc (g.0)
+same_why region v why.NoImage g h = cc (h.1)
+same_why region v (why.OtherVersion w) g h = cc (h.0)
+same_why region v w g h = cc
 
 -- a region has one way
 pub same_way : (region : List ℕ) (v w : Way) → IsWayOf region v → IsWayOf region w → v ≡ w
 same_way region Memory Memory g h = refl
-same_way region Memory (Disk w) g h = absurd (no_why region g.0 g.1 g.2 w h)
-same_way region (Disk v) Memory g h = absurd (no_why region h.0 h.1 h.2 v g)
+same_way region Memory (Disk w) g h = absurd (image_alone region g.0 g.1 w g.2 h)
+same_way region (Disk v) Memory g h = absurd (image_alone region h.0 h.1 v h.2 g)
 same_way region (Disk v) (Disk w) g h = ap Disk (same_why region v w g h)
 
 -- ---- what a start leaves
@@ -133,11 +76,8 @@ pub left_as : (begun : Bool) (region : List ℕ) (way : Way) → IsWayOf region 
 left_as begun region way is other = (is, λ up memory. absurd (other memory))
 
 pub after_start : (way : Way) → way_after way ≢ Memory
-after_start Memory = λ e. cc
 after_start (Disk why.NoHead) = λ e. cc
-after_start (Disk (why.Closed flag)) = λ e. cc
-after_start (Disk (why.OtherVersion version)) = λ e. cc
-after_start (Disk why.NoImage) = λ e. cc
+after_start way = λ e. cc
 
 -- ---- what a leaf left is never bytes that are no image
 
@@ -148,18 +88,12 @@ left_why tables p (RegionLeft.image v images end read is same log) w = w.3 image
 
 -- a start over any berth, and over one of a leaf at rest
 pub may_come : (way : Way) → MayCome false way
-may_come Memory = tt
-may_come (Disk why.NoHead) = tt
-may_come (Disk (why.Closed flag)) = tt
-may_come (Disk (why.OtherVersion version)) = tt
 may_come (Disk why.NoImage) = refl
+may_come way = tt
 
 pub comes_known : (base : NamedStates) (x : Seated) (m : Meaning) (way : Way) → LeafStands base (IsDown x) m → IsWayOf m.held.region way → MayCome true way
-comes_known base x m Memory stands is = tt
-comes_known base x m (Disk why.NoHead) stands is = tt
-comes_known base x m (Disk (why.Closed flag)) stands is = tt
-comes_known base x m (Disk (why.OtherVersion version)) stands is = tt
 comes_known base x m (Disk why.NoImage) stands is = absurd (left_why _ _ (stands.2.region m.held stands.2.stands.reads) is)
+comes_known base x m way stands is = tt
 
 -- ---- a region that goes to the log
 
@@ -175,7 +109,7 @@ goes_own names region (why.NoImage, w) name s = w.1 name s
 
 -- and no image, so no start comes from memory
 pub goes_none : (names : List (List ℕ)) (region : List ℕ) → GoesToLog names region → IsNoImage region
-goes_none names region goes = λ images log_end is. no_why region images log_end is goes.0 (why_alone names region goes.0 goes.1)
+goes_none names region goes = λ images log_end is. image_why names region images log_end goes.0 is goes.1
 
 pub not_memory : (names : List (List ℕ)) (region : List ℕ) (way : Option Way) → GoesToLog names region → IfSome way (IsWayOf region) → way ≢ Some Memory
 not_memory names region way goes is e = let image = subst (λ (w : Option Way). IfSome w (IsWayOf region)) e is in goes_none names region goes image.0 image.1 image.2

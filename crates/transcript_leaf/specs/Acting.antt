@@ -1,15 +1,12 @@
 -- What a deed does to the life of its leaf.
-use Rattle.std.specs.Prelude.{◌≡◌, ℕ, ◌≤◌, Bool, true, false, List, Option, Some, None, IfSome, is_some, length, map}
+use Rattle.std.specs.Prelude.{◌≡◌, ℕ, ◌≤◌, Bool, true, false, List, Option, Some, None, IfSome, is_some, length}
 use Rattle.berth_face.specs.Berth.{Meaning}
-use Rattle.leaf_words.specs.declared.ways.Way.{Way}
 use Rattle.leaf_opening.specs.Starts.{IsWayLeft}
 use Rattle.printed_lines.specs.declared.line.Ending.{Ending}
-use Rattle.printed_lines.specs.declared.line.Ending.TheVariants as ends
-use Rattle.printed_lines.specs.declared.line.Said.TheVariants.{Opened}
 use Rattle.printed_lines.specs.declared.line.Deed.{Deed}
 use Rattle.printed_lines.specs.declared.line.Deed.TheVariants.{Start}
 use Rattle.transcript.specs.Pieces.{Noted}
-use Rattle.transcript.specs.Life.{Columns, Life, Does, NotesFrom, claimed, durable_with}
+use Rattle.transcript.specs.Life.{Columns, Life, Does, claimed, durable_with}
 use Rattle.transcript.specs.Counts.{is_disk_fault}
 use Rattle.leaf_history.specs.History.{Entry}
 use Rattle.transcript.specs.Histories.{BaseState}
@@ -18,7 +15,7 @@ use Rattle.transcript.specs.Transcript.{Known}
 use Rattle.leaf_steward.specs.Seated.{AtEach}
 use Rattle.leaf_moves.specs.Stage.{Leaf, seated_of}
 use Rattle.leaf_moves.specs.Modes.{mode_of}
-use Rattle.transcript_leaf.specs.Session.{AreToldOn, IsNoted}
+use Rattle.transcript_leaf.specs.Session.{AreToldOn, IsDurable, IsNoted}
 
 -- a fault of the disk at a flush or a drain ends the claim on the counts; one at a start leaves the log's records as
 -- they were
@@ -27,11 +24,11 @@ loses_counts Start ending = false
 loses_counts _ ending = is_disk_fault ending
 
 -- the claim on the counts after a deed: it goes on by the notes; or it ended, as the disk failed; or a start made it
--- anew
-pub data CountsGo (told : Bool) (deed : Deed) (life : Life) (notes : List Noted) (ending : Ending) (next : Life) : Type 0 where
-  keeps : loses_counts deed ending ≡ false → next.durable ≡ durable_with life.durable notes → CountsGo told deed life notes ending next
-  lost : next.durable ≡ None → CountsGo told deed life notes ending next
-  opened : (way : Way) (counts : List ℕ) → ending ≡ ends.Started way → NotesFrom 0 (map Opened counts) notes → next.durable ≡ claimed told counts → CountsGo told deed life notes ending next
+-- anew, with counts that are flushed where the base is known
+pub data CountsGo (known : Option Known) (deed : Deed) (life : Life) (notes : List Noted) (ending : Ending) (next : Life) (leaf : Leaf) (m : Meaning) : Type 0 where
+  keeps : loses_counts deed ending ≡ false → next.durable ≡ durable_with life.durable notes → CountsGo known deed life notes ending next leaf m
+  lost : next.durable ≡ None → CountsGo known deed life notes ending next leaf m
+  opened : (counts : List ℕ) → next.durable ≡ claimed (is_some known) counts → IfSome known (λ k. IsDurable k.base counts leaf m) → CountsGo known deed life notes ending next leaf m
 
 -- the way of the next start, if one is claimed
 abbrev pub FitsWay : Option Known → Life → Meaning → Type 0
@@ -55,6 +52,6 @@ pub record Lived (known : Option Known) (tables : ℕ) (deed : Deed) (life : Lif
   pub next : Life
   pub hands : Hands leaf
   pub does : (columns : Columns) → columns.least hands.handed ≤ hands.columns → (is_some known ≡ true → (hands.most ≤ columns.most) × (hands.bulk ≤ columns.bulk)) → Does (is_some known) tables columns deed life notes ending next
-  pub counts : CountsGo (is_some known) deed life notes ending next
+  pub counts : CountsGo known deed life notes ending next leaf m
   pub mode : next.mode ≡ mode_of leaf
   pub way : FitsWay known next m
