@@ -77,29 +77,17 @@ module _ {B : Type 0} where
   base_states_at (x ∷ xs) zero table y t at there = ap (λ (h : Hold B). base_state_at h.tables table) (same_some x y at) ∙ base_state_is y.tables table t there
   base_states_at (x ∷ xs) (suc leaf) table y t at there = base_states_at xs leaf table y t at there
 
+no_number : (number : ℕ) → Some number ≡ None → ⊥
+no_number number is = cc
+
 -- the number of an answer's entry is how much its seat has seen
 told_number : (n : ℕ) (made : reply.EntryReply) (number : ℕ) (x : Reply) → IsToldAs n made x → number_named x ≡ Some number → number ≡ n
 told_number n (reply.Groups gs) number x is named = same_some number n (sym named ∙ ap number_named is)
-told_number n (reply.Added kept late) number x is named = absurd (clash (sym named ∙ ap number_named is))
-  where
-    clash : Some number ≡ None → ⊥
-    clash e = cc
-told_number n reply.Shut number x is named = absurd (clash (sym named ∙ ap number_named is))
-  where
-    clash : Some number ≡ None → ⊥
-    clash e = cc
-told_number n reply.Full number x is named = absurd (clash (sym named ∙ ap number_named is))
-  where
-    clash : Some number ≡ None → ⊥
-    clash e = cc
-told_number n reply.NoMemory number x is named = absurd (clash (sym named ∙ ap number_named is))
-  where
-    clash : Some number ≡ None → ⊥
-    clash e = cc
-told_number n (reply.Removed k) number x is named = absurd (clash (sym named ∙ ap number_named is))
-  where
-    clash : Some number ≡ None → ⊥
-    clash e = cc
+told_number n (reply.Added kept late) number x is named = absurd (no_number number (sym named ∙ ap number_named is))
+told_number n reply.Shut number x is named = absurd (no_number number (sym named ∙ ap number_named is))
+told_number n reply.Full number x is named = absurd (no_number number (sym named ∙ ap number_named is))
+told_number n reply.NoMemory number x is named = absurd (no_number number (sym named ∙ ap number_named is))
+told_number n (reply.Removed k) number x is named = absurd (no_number number (sym named ∙ ap number_named is))
 told_number n (reply.Counted k) number x is named = absurd is
 told_number n reply.Noted number x is named = absurd is
 

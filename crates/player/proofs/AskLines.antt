@@ -3,6 +3,7 @@ use Rattle.std.proofs.Common.{◌≡◌, ◌≢◌, ℕ, zero, suc, ◌+◌, ◌
 use Rattle.std.specs.Prelude.{slice_get}
 use Rattle.std.specs.List.{AllByRecursion}
 use Rattle.std.proofs.lemmas.Bool.{eq-eqb, ne_eqb}
+use Rattle.std.proofs.lemmas.List.{take_all}
 use Rattle.leaf_table.specs.declared.replies.Reply.{Reply}
 use Rattle.leaf_table.specs.declared.replies.Reply.TheVariants as told
 use Rattle.aggregator.specs.declared.lists.Named.{Named}
@@ -148,12 +149,6 @@ take_one [] i x at = absurd cc
 take_one (y ∷ ys) zero x at = ap (λ z. z ∷ []) (same_some y x at)
 take_one (y ∷ ys) (suc i) x at = ap (λ zs. y ∷ zs) (take_one ys i x at)
 
-take_whole : {A : Type 0} (xs : List A) (n : ℕ) → n ≡ length xs → take n xs ≡ xs
-take_whole [] zero is = refl
-take_whole [] (suc n) is = refl
-take_whole (x ∷ xs) zero is = absurd (omega (arith, is))
-take_whole (x ∷ xs) (suc n) is = ap (λ zs. x ∷ zs) (take_whole xs n (omega (arith, is)))
-
 all_at : {A : Type 0} (P : A → Type 0) (xs : List A) (i : ℕ) (x : A) → AllByRecursion P xs → slice_get xs i ≡ Some x → P x
 all_at P [] i x all at = absurd cc
 all_at P (y ∷ ys) zero x all at = subst P (same_some y x at) all.0
@@ -170,4 +165,4 @@ module _ (table : ℕ) (rs : List Reply) (f : Fanned) (sorts : Sorts rs f) (answ
       ap (λ (ls : List Line). ls ++ asked_line n table f ∷ []) (first_asked n (omega (arith, few))) ∙ sym (take_one (reply_lines 0 table rs) n (asked_line n table f) stands)
 
   pub asked_are : (n : ℕ) → n ≡ length rs → asked_lines n table f ≡ reply_lines 0 table rs
-  asked_are n all = first_asked n (omega (arith, all)) ∙ take_whole (reply_lines 0 table rs) n (omega (arith, all, reply_count 0 table rs))
+  asked_are n all = first_asked n (omega (arith, all)) ∙ take_all n (reply_lines 0 table rs) (omega (arith, all, reply_count 0 table rs))

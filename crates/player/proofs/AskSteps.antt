@@ -1,50 +1,41 @@
 -- All leaves are asked, one call after another.
-use Rattle.std.proofs.Common.{◌≡◌, ℕ, zero, suc, ◌+◌, ◌<◌, List, [], ◌∷◌, ◌++◌, length, Some, refl, sym, ap, ap₂, subst, ◌∙◌, arith, append_assoc}
-use Rattle.std.specs.Prelude.{slice_get, slice_set, Bool, Option, None}
+use Rattle.std.proofs.Common.{◌≡◌, ℕ, zero, suc, ◌+◌, List, [], ◌∷◌, ◌++◌, length, map, Some, refl, sym, ap, ap₂, subst, arith, append_assoc, length-append}
+use Rattle.std.specs.Prelude.{slice_get, slice_set, Option, None}
 use Rattle.std.specs.List.{AllByRecursion, AllZip, range_with_len}
 use Rattle.row_model.specs.declared.rows.Row.{Row}
 use Rattle.leaf_model.specs.declared.queries.Query.{Query}
-use Rattle.berth_face.specs.Berth.{Meaning}
 use Rattle.leaf_history.specs.Calls as call
 use Rattle.leaf_table.specs.declared.replies.Reply.{Reply}
 use Rattle.leaf_table.specs.declared.replies.Reply.TheVariants as told
 use Rattle.leaf_table.specs.Turns.{Shared}
 use Rattle.leaf_table.specs.Calls.{SeatView}
-use Rattle.leaf_table.specs.Lists.{row}
 use Rattle.aggregator.specs.Asks.{Asked, IsAsked}
 use Rattle.aggregator.specs.Sorts.{by_leaf}
-use Rattle.printed_lines.specs.declared.line.Ending.{Ending}
+use Rattle.tailer.specs.Calls.{CallsOn, LeafCall}
 use Rattle.printed_lines.specs.declared.line.Line.{Line}
-use Rattle.printed_lines.specs.Lines.{IsOf}
-use Rattle.printed_lines.specs.declared.line.Deed.{Deed}
-use Rattle.transcript.specs.Pieces.{Piece, lines_in}
+use Rattle.transcript.specs.Pieces.{Piece}
 use Rattle.transcript.specs.Shapes.{CallPiece, named, named_in}
-use Rattle.transcript.specs.Counts.{deeds_in}
 use Rattle.transcript.specs.Answers.{AnswerIs}
-use Rattle.leaf_moves.specs.Holds.{Hold, with_callers}
-use Rattle.leaf_moves.specs.Plays as going
-use Rattle.leaf_moves.specs.Steps.{CallStep, IsReplyPiece}
-use Rattle.leaf_moves.specs.Plays.{Goes}
+use Rattle.leaf_moves.specs.Steps.{IsReplyPiece}
 use Rattle.player.proofs.AskLines.{number_named, reply_lines}
+use Rattle.player.specs.Lines.{reply_line}
 use Rattle.player.proofs.CallPieces.{call_prints, reply_piece}
+use Rattle.player.proofs.Columns.{get_behind}
+use Rattle.player.proofs.TailCalls.{call_pieces}
 
 -- ---- the pieces of the replies
 
+-- an ask of each leaf from that one on, with these replies
+abbrev pub ask_calls : ℕ → Query → List Reply → List LeafCall
+ask_calls leaf q [] = []
+ask_calls leaf q (r ∷ rs) = record { leaf = leaf; call = call.Ask q; reply = r } ∷ ask_calls (suc leaf) q rs
+
 abbrev pub ask_pieces : ℕ → ℕ → Query → List Reply → List Piece
-ask_pieces leaf table q [] = []
-ask_pieces leaf table q (r ∷ rs) = (reply_piece leaf table (call.Ask q) r).piece ∷ ask_pieces (suc leaf) table q rs
+ask_pieces leaf table q rs = call_pieces table (ask_calls leaf q rs)
 
-pub ask_lines : (leaf table : ℕ) (q : Query) (rs : List Reply) → lines_in (ask_pieces leaf table q rs) ≡ reply_lines leaf table rs
+pub ask_lines : (leaf table : ℕ) (q : Query) (rs : List Reply) → map (λ (c : LeafCall). reply_line c.leaf table c.reply) (ask_calls leaf q rs) ≡ reply_lines leaf table rs
 ask_lines leaf table q [] = refl
-ask_lines leaf table q (r ∷ rs) = ap₂ (λ (xs ys : List Line). xs ++ ys) (reply_piece leaf table (call.Ask q) r).line_is (ask_lines (suc leaf) table q rs)
-
-pub ask_calm : (test : Deed → Ending → Bool) (number leaf table : ℕ) (q : Query) (rs : List Reply) → deeds_in test number (ask_pieces leaf table q rs) ≡ 0
-ask_calm test number leaf table q [] = refl
-ask_calm test number leaf table q (r ∷ rs) = (reply_piece leaf table (call.Ask q) r).calm test number (ask_pieces (suc leaf) table q rs) ∙ ask_calm test number (suc leaf) table q rs
-
-pub ask_fit : (names : List (List ℕ)) (leaf table : ℕ) (q : Query) (rs : List Reply) → table < length names → AllByRecursion (IsOf names) (reply_lines leaf table rs)
-ask_fit names leaf table q [] within = tt
-ask_fit names leaf table q (r ∷ rs) within = ((reply_piece leaf table (call.Ask q) r).fits names within, ask_fit names (suc leaf) table q rs within)
+ask_lines leaf table q (r ∷ rs) = ap (λ (ls : List Line). reply_line leaf table r ∷ ls) (ask_lines (suc leaf) table q rs)
 
 -- one of each leaf, in their order
 abbrev pub AreAsked : ℕ → Query → List ℕ → List Piece → Type 0
@@ -143,67 +134,33 @@ module _ (q : Query) (fleet : List (List Shared)) (table : ℕ) where
 
   -- ---- the chain of calls
 
-  -- each leaf has its tables, and the seat of its callers there is this one
-  abbrev pub AreAt : {B : Type 0} → ℕ → List (Hold B) → List SeatView → Type 0
-  AreAt leaf [] [] = Unit {0}
-  AreAt leaf [] (v ∷ vs) = ⊥
-  AreAt leaf (x ∷ xs) [] = ⊥
-  AreAt leaf (x ∷ xs) (v ∷ vs) = (x.tables ≡ row fleet leaf) × (slice_get x.callers table ≡ Some (Some v)) × AreAt (suc leaf) xs vs
-
-  -- they have become these
-  abbrev pub asked_holds : {B : Type 0} → List (Hold B) → List SeatView → List (Hold B)
-  asked_holds [] ws = []
-  asked_holds (x ∷ xs) [] = x ∷ xs
-  asked_holds (x ∷ xs) (w ∷ ws) = with_callers x (slice_set x.callers table (Some w)) ∷ asked_holds xs ws
-
-  one_step : (leaf : ℕ) (tables : List Shared) (callers : List (Option SeatView)) (v : SeatView) (r : Reply) (w : SeatView) → tables ≡ row fleet leaf → slice_get callers table ≡ Some (Some v)
-      → IsAsked q fleet table leaf v r w → CallStep leaf table (call.Ask q) tables callers (reply_piece leaf table (call.Ask q) r).piece (slice_set callers table (Some w))
-  one_step leaf tables callers v r w same was asked = record {
-    shared = asked.shared;
-    before = v;
-    after = w;
-    reply = r;
-    at = ap (λ (ts : List Shared). slice_get ts table) same ∙ asked.stands;
-    was = was;
-    answered = asked.answered;
-    now = refl;
-    says = (reply_piece leaf table (call.Ask q) r).says;
-  }
-
-  -- what stands behind others, and is set there
-  behind_get : {A : Type 0} (done : List A) (x : A) (others : List A) (n : ℕ) → n ≡ length done → slice_get (done ++ x ∷ others) n ≡ Some x
-  behind_get [] x others zero is = refl
-  behind_get [] x others (suc n) is = absurd (omega (arith, is))
-  behind_get (y ∷ done) x others zero is = absurd (omega (arith, is))
-  behind_get (y ∷ done) x others (suc n) is = behind_get done x others n (omega (arith, is))
-
   behind_set : {A : Type 0} (done : List A) (x y : A) (others : List A) (n : ℕ) → n ≡ length done → slice_set (done ++ x ∷ others) n y ≡ (done ++ y ∷ []) ++ others
   behind_set [] x y others zero is = refl
   behind_set [] x y others (suc n) is = absurd (omega (arith, is))
   behind_set (z ∷ done) x y others zero is = absurd (omega (arith, is))
   behind_set (z ∷ done) x y others (suc n) is = ap (λ zs. z ∷ zs) (behind_set done x y others n (omega (arith, is)))
 
-  one_longer : {A : Type 0} (done : List A) (y : A) → length (done ++ y ∷ []) ≡ suc (length done)
-  one_longer [] y = refl
-  one_longer (x ∷ done) y = ap suc (one_longer done y)
-
-  pub asks_go : {B : Type 0} (meaning : B → Meaning) (done xs : List (Hold B)) (leaf : ℕ) (vs : List SeatView) (rs : List Reply) (ws : List SeatView) → leaf ≡ length done → AreAt leaf xs vs
-      → Asked q fleet table leaf vs rs ws → Goes meaning (done ++ xs) (ask_pieces leaf table q rs) (done ++ asked_holds xs ws)
-  asks_go meaning done [] leaf [] [] [] is are h = going.none (done ++ []) [] (done ++ []) refl refl
-  asks_go {B} meaning done (x ∷ xs) leaf (v ∷ vs) (r ∷ rs) (w ∷ ws) is are h =
-      let y : Hold B = with_callers x (slice_set x.callers table (Some w)) in
-      let p : Piece = (reply_piece leaf table (call.Ask q) r).piece in
-      let ys : List (Hold B) = asked_holds xs ws in
-      let others : Goes meaning ((done ++ y ∷ []) ++ xs) (ask_pieces (suc leaf) table q rs) ((done ++ y ∷ []) ++ ys) =
-      asks_go meaning (done ++ y ∷ []) xs (suc leaf) vs rs ws (ap suc is ∙ sym (one_longer done y)) are.2 h.1 in
-      let here : Goes meaning (slice_set (done ++ x ∷ xs) leaf y) (ask_pieces (suc leaf) table q rs) (done ++ y ∷ ys) =
-      subst (λ (zs : List (Hold B)). Goes meaning zs (ask_pieces (suc leaf) table q rs) (done ++ y ∷ ys)) (sym (behind_set done x y xs leaf is))
-      (subst (λ (zs : List (Hold B)). Goes meaning ((done ++ y ∷ []) ++ xs) (ask_pieces (suc leaf) table q rs) zs) (append_assoc done (y ∷ []) ys) others) in
-      going.call (done ++ x ∷ xs) (p ∷ ask_pieces (suc leaf) table q rs) (done ++ y ∷ ys) leaf table (call.Ask q) x (slice_set x.callers table (Some w)) p (ask_pieces (suc leaf) table q rs)
-      (behind_get done x xs leaf is) (one_step leaf x.tables x.callers v r w are.0 are.1 h.0) here refl
-  asks_go meaning done [] leaf (v ∷ vs) rs ws is are h = absurd are
-  asks_go meaning done (x ∷ xs) leaf [] rs ws is are h = absurd are
-  asks_go meaning done [] leaf [] [] (w ∷ ws) is are h = absurd h
-  asks_go meaning done [] leaf [] (r ∷ rs) ws is are h = absurd h
-  asks_go meaning done (x ∷ xs) leaf (v ∷ vs) [] ws is are h = absurd h
-  asks_go meaning done (x ∷ xs) leaf (v ∷ vs) (r ∷ rs) [] is are h = absurd h
+  pub asked_on : (done : List SeatView) (leaf : ℕ) (vs : List SeatView) (rs : List Reply) (ws : List SeatView) → leaf ≡ length done → Asked q fleet table leaf vs rs ws
+      → CallsOn fleet table (done ++ vs) (ask_calls leaf q rs) (done ++ ws)
+  asked_on done leaf [] [] [] is h = refl
+  asked_on done leaf (v ∷ vs) (r ∷ rs) (w ∷ ws) is h =
+      let asked = h.0 in
+      let next : suc leaf ≡ length (done ++ w ∷ []) = omega (arith, is, length-append done (w ∷ [])) in (
+        (done ++ w ∷ []) ++ vs,
+        record {
+          shared = asked.shared;
+          before = v;
+          after = w;
+          stands = asked.stands;
+          was = get_behind done v vs leaf is;
+          answered = asked.answered;
+          seat = asked.seat;
+          same = asked.same;
+          now = sym (behind_set done v w vs leaf is);
+        },
+        subst (λ (us : List SeatView). CallsOn fleet table ((done ++ w ∷ []) ++ vs) (ask_calls (suc leaf) q rs) us) (append_assoc done (w ∷ []) ws) (asked_on (done ++ w ∷ []) (suc leaf) vs rs ws next h.1),
+      )
+  asked_on done leaf [] [] (w ∷ ws) is h = absurd h
+  asked_on done leaf [] (r ∷ rs) ws is h = absurd h
+  asked_on done leaf (v ∷ vs) [] ws is h = absurd h
+  asked_on done leaf (v ∷ vs) (r ∷ rs) [] is h = absurd h

@@ -2,6 +2,7 @@
 use Rattle.std.proofs.Common.{◌≡◌, ◌⊎◌, inl, inr, ⊎_elim, ℕ, zero, suc, ◌+◌, ◌<◌, ◌≤◌, List, [], ◌∷◌, ◌++◌, length, map, take, drop, Option, Some, refl, sym, ap, ap₂, subst, ◌∙◌, arith, length-append, Vec, Global}
 use Rattle.std.specs.Prelude.{slice_get, slice_index_or, is_some}
 use Rattle.std.specs.List.{AllByRecursion}
+use Rattle.std.proofs.lemmas.List.{length-take-le}
 use Rattle.std.proofs.lemmas.Option.{slice_get_within}
 use Rattle.berth_face.specs.Berth.{Meaning}
 use Rattle.region_layout.specs.Names.{AreNames}
@@ -52,11 +53,6 @@ take_get zero i xs below = absurd (omega (arith, below))
 take_get (suc n) i [] below = refl
 take_get (suc n) zero (x ∷ xs) below = refl
 take_get (suc n) (suc i) (x ∷ xs) below = take_get n i xs (omega (arith, below))
-
-take_count : {A : Type 0} (n : ℕ) (xs : List A) → n ≤ length xs → length (take n xs) ≡ n
-take_count zero xs few = refl
-take_count (suc n) [] few = absurd (omega (arith, few))
-take_count (suc n) (x ∷ xs) few = ap suc (take_count n xs (omega (arith, few)))
 
 map_is : {A C : Type 0} (f : A → C) (xs : List A) (ys : List C) → length xs ≡ length ys → ((i : ℕ) (x : A) (y : C) → slice_get xs i ≡ Some x → slice_get ys i ≡ Some y → f x ≡ y) → map f xs ≡ ys
 map_is f [] [] same each = refl
@@ -112,7 +108,7 @@ module _ {B : Type 0} (meaning : B → Meaning) (names : List (List ℕ)) (table
   pub begun_holds : (count : ℕ) (leaves : List (Option (OneLeaf B))) (callers : List (List SeatView)) → count ≤ length berths → AreBegun meaning names tables stewards berths count leaves
       → holds_from 0 tables leaves callers ≡ new_holds 0 names tables stewards callers (take count berths)
   begun_holds count leaves callers enough begun =
-      holds_new 0 leaves (take count berths) callers (begun.length_is ∙ sym (take_count count berths enough))
+      holds_new 0 leaves (take count berths) callers (begun.length_is ∙ sym (length-take-le count berths enough))
       (λ i leaf x is at.
       let same : leaf ≡ i = omega (arith, is) in
       let here = begun.each i x at in (

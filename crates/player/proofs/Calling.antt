@@ -1,5 +1,5 @@
 -- The callers' seats at a leaf's tables, over their calls and over meetings.
-use Rattle.std.proofs.Common.{◌≡◌, ◌≢◌, ◌⊎◌, inl, inr, ℕ, ◌<◌, List, length, Some, refl, sym, ap, subst, ◌∙◌, length-set}
+use Rattle.std.proofs.Common.{◌≡◌, ◌≢◌, ◌⊎◌, inl, inr, ℕ, ◌<◌, List, length, Option, Some, refl, sym, ap, subst, ◌∙◌, length-set}
 use Rattle.std.specs.Prelude.{slice_get, slice_set, slice_index_or}
 use Rattle.std.proofs.lemmas.Option.{slice_get_read}
 use Rattle.leaf_history.specs.Calls.{Call}
@@ -73,32 +73,26 @@ module _ (x : SeatRow) (table : ℕ) (t : Shared) (v : SeatView) (are : AreCalle
 -- ---- meetings
 
 -- the seat in that place is a seat of the leaf's table
-pub meets_legal : (x self : SeatRow) (y : Seated) (table : ℕ) (c : SeatView) → AreCalled x → x ≡ self → self.tables ≡ y.tables → table < length self.tables → slice_get x.seats table ≡ Some (Some c)
+pub meets_legal : (y : Seated) (seats : List (Option SeatView)) (table : ℕ) (c : SeatView) → AreCalled (record { tables = y.tables; seats = seats }) → slice_get seats table ≡ Some (Some c)
     → AtPlace (λ t v. IsSeatOf c t.site × LegalFrom (is_founded (base_seen t)) (start_of (base_seen t)) (seen_of c)) y table
-meets_legal x self y table c are is same within read = λ t v at seat.
-    let tables : x.tables ≡ y.tables = ap (λ (z : SeatRow). z.tables) is ∙ same in
-    let here : IsCallersAt t c = are.each table t c (subst (λ (ts : List Shared). slice_get ts table ≡ Some t) (sym tables) at) read in
-    (here.seat, here.legal)
+meets_legal y seats table c are read = λ t v at seat. let here : IsCallersAt t c = are.each table t c at read in (here.seat, here.legal)
 
-module _ (x self : SeatRow) (leaf : Leaf) (table : ℕ) (c c' : SeatView) (are : AreCalled x) (is : x ≡ self) (same : self.tables ≡ (seated_of leaf).tables)
-    (count : length (seated_of leaf).seats ≡ length (seated_of leaf).tables) (within : table < length self.tables) (the_seat : slice_get x.seats table ≡ Some (Some c))
+module _ (seats : List (Option SeatView)) (leaf : Leaf) (table : ℕ) (c c' : SeatView) (are : AreCalled (record { tables = (seated_of leaf).tables; seats = seats }))
+    (count : length (seated_of leaf).seats ≡ length (seated_of leaf).tables) (within : table < length (seated_of leaf).tables) (the_seat : slice_get seats table ≡ Some (Some c))
     (met : AtPlace (IsMetSeat c c') (seated_of leaf) table) where
   there : IsThere (seated_of leaf) table
-  there = is_there (seated_of leaf) table (subst (λ (ts : List Shared). table < length ts) same within) count
+  there = is_there (seated_of leaf) table within count
 
-  the_table : slice_get x.tables table ≡ Some there.shared
-  the_table = subst (λ (ts : List Shared). slice_get ts table ≡ Some there.shared) (sym (ap (λ (z : SeatRow). z.tables) is ∙ same)) there.at
-
-  pub called_met : AreCalled (record { tables = x.tables; seats = slice_set x.seats table (Some c') })
+  pub called_met : AreCalled (record { tables = (seated_of leaf).tables; seats = slice_set seats table (Some c') })
   called_met =
       let seat = met there.shared there.seat there.at there.was in
-      let before : IsCallersAt there.shared c = are.each table there.shared c the_table the_seat in
-      called_with x table there.shared c' are the_table
+      let before : IsCallersAt there.shared c = are.each table there.shared c there.at the_seat in
+      called_with (record { tables = (seated_of leaf).tables; seats = seats }) table there.shared c' are there.at
       (record { seat = seat.0; caller = subst (λ (n : ℕ). 0 < n) (sym (ap (λ (s : SeatView). s.id) seat.1.view)) before.caller; legal = seat.3 })
 
   pub meets_at : (leaf' : Leaf) → AreIds c'.seen
       → AtPlace (λ t v. (w : SeatView) × (leaf' ≡ with_seats leaf (slice_set (seated_of leaf).seats table w)) × SeesAlso v c w × LearnsOthers v w) (seated_of leaf) table
-      → MeetsAt table leaf self.seats leaf' (slice_set x.seats table (Some c'))
+      → MeetsAt table leaf seats leaf' (slice_set seats table (Some c'))
   meets_at leaf' ids learns =
       let seat = met there.shared there.seat there.at there.was in
       let learned = learns there.shared there.seat there.at there.was in
@@ -108,8 +102,8 @@ module _ (x self : SeatRow) (leaf : Leaf) (table : ℕ) (c c' : SeatView) (are :
         steward_then = learned.0;
         caller_then = Some c';
         was = there.was;
-        was_caller = subst (λ (z : SeatRow). slice_get z.seats table ≡ Some (Some c)) is the_seat;
+        was_caller = the_seat;
         meets = record { steward = learned.2; caller = seat.1; steward_learns = learned.3; caller_learns = seat.2; ids = ids };
         leaf_is = learned.1;
-        callers_are = ap (λ (z : SeatRow). slice_set z.seats table (Some c')) is;
+        callers_are = refl;
       }

@@ -1,7 +1,8 @@
 -- Chains of what callers and stewards of the leaves do.
-use Rattle.std.proofs.Common.{◌≡◌, ◌≢◌, ◌⊎◌, inl, inr, ℕ, ◌+◌, ◌-◌, ◌^◌, ◌≤◌, Bool, List, [], ◌∷◌, ◌++◌, length, Option, Some, Result, Ok, Err, Vec, Global, refl, sym, ap, subst, ◌∙◌, arith, length-set, append_assoc}
+use Rattle.std.proofs.Common.{◌≡◌, ◌≢◌, ◌⊎◌, inl, inr, ℕ, ◌+◌, ◌-◌, ◌^◌, ◌≤◌, Bool, List, [], ◌∷◌, ◌++◌, length, map, Option, Some, Result, Ok, Err, Vec, Global, refl, sym, ap, ap₂, subst, ◌∙◌, arith, length-set}
 use Rattle.std.specs.Prelude.{min, IfOk, None, is_some, slice_get, slice_set}
 use Rattle.std.specs.List.{AllByRecursion}
+use Rattle.std.proofs.lemmas.Grind.{flat_map-append}
 use Rattle.std.proofs.lemmas.Option.{slice_get_within}
 use Rattle.berth_face.specs.Berth.{Meaning, Passes}
 use Rattle.berth_face.proofs.Moments.{passes_none, passes_on}
@@ -15,7 +16,6 @@ use Rattle.printed_lines.specs.declared.line.Deed.{Deed}
 use Rattle.transcript.specs.Pieces.{Acted, Called, Piece, Says, Worn, lines_in, piece_lines}
 use Rattle.transcript.specs.Counts.{CountRose, CountsRose, deeds_in, is_disk_fault, is_region_fault, reads_disk}
 use Rattle.leaf_moves.specs.Holds.{Hold, caller_in, with_callers, with_leaf}
-use Rattle.leaf_moves.specs.Steps as step
 use Rattle.leaf_moves.specs.Plays as going
 use Rattle.leaf_moves.specs.Steps.{noted_all}
 use Rattle.leaf_moves.specs.Plays.{Goes}
@@ -35,8 +35,17 @@ all_more P [] ys a b = b
 all_more P (x ∷ xs) ys a b = (a.0, all_more P xs ys a.1 b)
 
 pub lines_more : (ps qs : List Piece) → lines_in (ps ++ qs) ≡ lines_in ps ++ lines_in qs
-lines_more [] qs = refl
-lines_more (p ∷ ps) qs = ap (λ (ls : List Line). piece_lines p ++ ls) (lines_more ps qs) ∙ sym (append_assoc (piece_lines p) (lines_in ps) (lines_in qs))
+lines_more ps qs = flat_map-append piece_lines ps qs
+
+-- ---- lines that tell no entry
+
+pub lines_said : (ls : List Line) → lines_in (map Says ls) ≡ ls
+lines_said [] = refl
+lines_said (l ∷ ls) = ap (λ (ks : List Line). l ∷ ks) (lines_said ls)
+
+deeds_said : (test : Deed → Ending → Bool) (leaf : ℕ) (ls : List Line) → deeds_in test leaf (map Says ls) ≡ 0
+deeds_said test leaf [] = refl
+deeds_said test leaf (l ∷ ls) = deeds_said test leaf ls
 
 -- ---- counts
 
@@ -197,17 +206,19 @@ module _ {B : Type 0} (meaning : B → Meaning) where
   between : (xs ys : List (Hold B)) → length ys ≡ length xs → (leaf : ℕ) (x : Hold B) → slice_get xs leaf ≡ Some x → (y : Hold B) × (slice_get ys leaf ≡ Some y)
   between xs ys count leaf x at = element_at ys leaf (omega (arith, count, slice_get_within xs leaf x at))
 
-  joined_lines : {E : Type 0} (first second both : Result (Vec Line Global) E) (ps qs : List Piece) → IfOk first (λ lines. lines.items ≡ lines_in ps) → IfOk second (λ lines. lines.items ≡ lines_in qs)
-      → IfOk both (λ lines. AreJoined first second lines.items) → IfOk both (λ lines. lines.items ≡ lines_in (ps ++ qs))
-  joined_lines (Ok first) (Ok second) (Ok both) ps qs one other are =
-      are ∙ (ap (λ (ls : List Line). ls ++ second.items) one ∙ (ap (λ (ls : List Line). lines_in ps ++ ls) other ∙ sym (lines_more ps qs)))
-  joined_lines (Ok first) (Err e) (Ok both) ps qs one other are = absurd are
-  joined_lines (Err e) second (Ok both) ps qs one other are = absurd are
-  joined_lines first second (Err e) ps qs one other are = tt
+  pub still_more : (xs ys zs : List (Hold B)) → StillHas xs ys → StillHas ys zs → StillHas xs zs
+  still_more xs ys zs one other = record {
+    count = other.count ∙ one.count;
+    each = λ leaf x z was now.
+        let y = between xs ys one.count leaf x was in
+        let first = one.each leaf x y.0 was y.1 in
+        let second = other.each leaf y.0 z y.1 now in
+        (second.0 ∙ first.0, λ table. second.1 table ∙ first.1 table);
+  }
 
-  pub goes_with_more : {E : Type 0} (names : List (List ℕ)) (xs ys zs : List (Hold B)) (ps qs : List Piece) (first second both : Result (Vec Line Global) E)
-      → GoesWith meaning names xs first ps ys → GoesWith meaning names ys second qs zs → IfOk both (λ lines. AreJoined first second lines.items) → GoesWith meaning names xs both (ps ++ qs) zs
-  goes_with_more names xs ys zs ps qs first second both one other joined = record {
+  pub goes_with_more : {E F G : Type 0} (names : List (List ℕ)) (xs ys zs : List (Hold B)) (ps qs : List Piece) (first : Result (Vec Line Global) E) (second : Result (Vec Line Global) F) (both : Result (Vec Line Global) G)
+      → GoesWith meaning names xs first ps ys → GoesWith meaning names ys second qs zs → IfOk both (λ lines. lines.items ≡ lines_in (ps ++ qs)) → GoesWith meaning names xs both (ps ++ qs) zs
+  goes_with_more names xs ys zs ps qs first second both one other told = record {
     goes = goes_more xs ys zs ps qs one.goes other.goes;
     counted = record {
       count = other.time.count ∙ one.time.count;
@@ -221,16 +232,9 @@ module _ {B : Type 0} (meaning : B → Meaning) where
           let y = between xs ys one.time.count leaf x was in
           passes_if_on x.held y.0.held z.held (one.time.each leaf x y.0 was y.1) (other.time.each leaf y.0 z y.1 now);
     };
-    still = record {
-      count = other.still.count ∙ one.still.count;
-      each = λ leaf x z was now.
-          let y = between xs ys one.time.count leaf x was in
-          let first = one.still.each leaf x y.0 was y.1 in
-          let second = other.still.each leaf y.0 z y.1 now in
-          (second.0 ∙ first.0, λ table. second.1 table ∙ first.1 table);
-    };
+    still = still_more xs ys zs one.still other.still;
     fit = subst (AllByRecursion (IsOf names)) (sym (lines_more ps qs)) (all_more (IsOf names) (lines_in ps) (lines_in qs) one.fit other.fit);
-    lines_are = joined_lines first second both ps qs one.lines_are other.lines_are joined;
+    lines_are = told;
   }
 
   -- nothing was done
@@ -246,15 +250,36 @@ module _ {B : Type 0} (meaning : B → Meaning) where
     each = λ leaf x y was now. (ap (λ (z : Hold B). is_some z.held) (sym (same_at xs leaf x y was now)), λ table. ap (λ (z : Hold B). is_some (caller_in z.callers table)) (sym (same_at xs leaf x y was now)));
   }
 
-  pub goes_with_none : {E : Type 0} (names : List (List ℕ)) (xs : List (Hold B)) (result : Result (Vec Line Global) E) → IfOk result (λ lines. lines.items ≡ []) → GoesWith meaning names xs result [] xs
-  goes_with_none names xs result empty = record {
-    goes = going.none xs [] xs refl refl;
+  -- only lines were said
+  goes_said : (xs : List (Hold B)) (ls : List Line) → Goes meaning xs (map Says ls) xs
+  goes_said xs [] = going.none xs [] xs refl refl
+  goes_said xs (l ∷ ls) = going.say xs (map Says (l ∷ ls)) xs l (map Says ls) (goes_said xs ls) refl
+
+  pub goes_with_said : {E : Type 0} (names : List (List ℕ)) (xs : List (Hold B)) (ls : List Line) (result : Result (Vec Line Global) E) → AllByRecursion (IsOf names) ls → IfOk result (λ lines. lines.items ≡ ls)
+      → GoesWith meaning names xs result (map Says ls) xs
+  goes_with_said names xs ls result fit told = record {
+    goes = goes_said xs ls;
     counted = record {
       count = refl;
-      each = λ leaf x y was now. subst (λ (z : Hold B). CountedIf meaning leaf [] x.held z.held) (same_at xs leaf x y was now) (counted_calm leaf [] x.held (λ test. refl));
+      each = λ leaf x y was now.
+          subst (λ (z : Hold B). CountedIf meaning leaf (map Says ls) x.held z.held) (same_at xs leaf x y was now) (counted_calm leaf (map Says ls) x.held (λ test. deeds_said test leaf ls));
     };
     time = time_none xs;
     still = still_none xs;
-    fit = tt;
-    lines_are = empty;
+    fit = subst (AllByRecursion (IsOf names)) (sym (lines_said ls)) fit;
+    lines_are = subst (λ (ks : List Line). IfOk result (λ lines. lines.items ≡ ks)) (sym (lines_said ls)) told;
   }
+
+-- the lines of two lists of pieces, with some between them
+pub joined_lines : {E : Type 0} (first second both : Result (Vec Line Global) E) (between : List Line) (ps qs : List Piece) → IfOk first (λ lines. lines.items ≡ lines_in ps) → IfOk second (λ lines. lines.items ≡ lines_in qs)
+    → IfOk both (λ lines. AreJoined first between second lines.items) → IfOk both (λ lines. lines.items ≡ lines_in (ps ++ (map Says between ++ qs)))
+joined_lines (Ok first) (Ok second) (Ok both) between ps qs one other are =
+    are ∙ ap₂ (λ (ls ks : List Line). ls ++ (between ++ ks)) one other
+    ∙ sym (lines_more ps (map Says between ++ qs) ∙ ap (λ (ls : List Line). lines_in ps ++ ls) (lines_more (map Says between) qs ∙ ap (λ (ls : List Line). ls ++ lines_in qs) (lines_said between)))
+joined_lines (Ok first) (Err e) (Ok both) between ps qs one other are = absurd are
+joined_lines (Err e) second (Ok both) between ps qs one other are = absurd are
+joined_lines first second (Err e) between ps qs one other are = tt
+
+-- no lines are asked of what was done
+abbrev pub no_lines : Result (Vec Line Global) (Unit {0})
+no_lines = Err tt

@@ -1,5 +1,5 @@
 -- A crew is cut in two.
-use Rattle.std.proofs.Common.{◌≡◌, ◌⊎◌, inl, inr, Bool, true, false, ℕ, zero, suc, ◌<◌, ◌≤◌, List, [], ◌∷◌, length, map, Option, Some, None, refl, sym, ap, subst, ◌∙◌, arith}
+use Rattle.std.proofs.Common.{◌≡◌, ◌⊎◌, inl, Bool, true, false, ℕ, ◌<◌, ◌≤◌, List, [], length, map, Option, Some, None, sym, ap, subst, ◌∙◌, arith}
 use Rattle.std.specs.Prelude.{slice_get, MatchBool}
 use Rattle.std.proofs.lemmas.Option.{slice_get_within}
 use Rattle.turnstile.specs.Seats.{given, keeps_all_but}
@@ -19,9 +19,10 @@ use Rattle.player.specs.Rows.{AreRows, IsCallersAt, IsColumn}
 use Rattle.player.specs.Stage.{held_of, hold_at}
 use Rattle.player.specs.Members.{AreMembers, fleet_in, holds_in}
 use Rattle.player.specs.Lending.{MaySplit, RowSplits, RowsSplit, SlotSplits, SlotsSplit}
-use Rattle.player.proofs.Columns.{caller_at, column_count, column_get, element_at}
+use Rattle.player.proofs.Columns.{caller_at, column_count, column_get, element_at, row_size, same_size}
 use Rattle.player.proofs.HoldLists.{holds_at, holds_back, holds_count}
 use Rattle.player.proofs.Lent.{callers_split, column_of, each_row, given_seat, kept_seat, no_seat}
+use Rattle.player.proofs.MemberSteps.{seat_of}
 
 held_split : {B : Type 0} (b : Bool) (x o r : Option (OneLeaf B)) → SlotSplits b x o r → MatchBool b ((held_of o ≡ held_of x) × (held_of r ≡ None)) ((held_of o ≡ None) × (held_of r ≡ held_of x))
 held_split true x o r is = (ap (λ (z : Option (OneLeaf _)). held_of z) is.0, ap (λ (z : Option (OneLeaf _)). held_of z) is.1)
@@ -91,25 +92,12 @@ module _ {B : Type 0} (x off rest : Members B) (needs acts : ℕ → Bool) (k m 
   -- ---- both are members
 
   row_off : (table : ℕ) (b : Bool) → RowSplits b (row xs table) (row os table) (row rs table) → (row xs table ≡ []) ⊎ (length (row xs table) ≡ count) → (row os table ≡ []) ⊎ (length (row os table) ≡ count)
-  row_off table true is (inl none) = inr_empty (is.counts.1 ∙ ap (λ (vs : List SeatView). length vs) none)
-    where
-      empty : (vs : List SeatView) → length vs ≡ 0 → vs ≡ []
-      empty [] same = refl
-      empty (v ∷ vs) same = absurd (omega (arith, same))
-
-      inr_empty : length (row os table) ≡ 0 → (row os table ≡ []) ⊎ (length (row os table) ≡ count)
-      inr_empty zero_is = inl (empty (row os table) zero_is)
-  row_off table true is (inr all) = inr (is.counts.1 ∙ all)
+  row_off table true is old = same_size count (row xs table) (row os table) is.counts.1 old
   row_off table false is old = inl is.0
 
   row_rest : (table : ℕ) (b : Bool) → RowSplits b (row xs table) (row os table) (row rs table) → (row xs table ≡ []) ⊎ (length (row xs table) ≡ count) → (row rs table ≡ []) ⊎ (length (row rs table) ≡ count)
-  row_rest table true is (inl none) = inl (empty (row rs table) (is.counts.0 ∙ ap (λ (vs : List SeatView). length vs) none))
-    where
-      empty : (vs : List SeatView) → length vs ≡ 0 → vs ≡ []
-      empty [] same = refl
-      empty (v ∷ vs) same = absurd (omega (arith, same))
-  row_rest table true is (inr all) = inr (is.counts.0 ∙ all)
-  row_rest table false is old = subst (λ (vs : List SeatView). (vs ≡ []) ⊎ (length vs ≡ count)) (sym is.1) old
+  row_rest table true is old = same_size count (row xs table) (row rs table) is.counts.0 old
+  row_rest table false is old = same_size count (row xs table) (row rs table) (ap (λ (vs : List SeatView). length vs) is.1) old
 
   -- a seat that there was
   seat_was : (leaf table : ℕ) (t : Shared) (s : SeatView) → leaf < count → slice_get (row x.tables.now leaf) table ≡ Some t → place xs table leaf ≡ Some s → IsCallersAt t s
@@ -193,46 +181,15 @@ module _ {B : Type 0} (x off rest : Members B) (needs acts : ℕ → Bool) (k m 
 
 -- a row of which each seat has two ids may be split
 pub may_split : {B : Type 0} (x : Members B) (table : ℕ) → AreMembers x → Spares (holds_in x) table 2 → MaySplit x.tables.now table (row (lists_in x.rows.items) table)
-may_split {B} x table are spares = record {
-  few = omega (arith, size, are.few.few);
-  count = omega (arith, size, are.tables);
-  each = λ leaf s at.
-      let below : leaf < leaf_count (fleet_in x) = omega (arith, slice_get_within the_row leaf s at, size) in
-      let column_is = are.columns leaf below in
-      let low : table < length rows = within rows table leaf s at in
-      let t = element_at (row x.tables.now leaf) table (omega (arith, low, column_is.sizes.count)) in
-      let slot = element_at x.leaves.items leaf (omega (arith, below, are.leaves)) in
-      let callers = column_is.called.each table t.0 s t.1 (column_get leaf rows table low ∙ ap (λ (o : Option SeatView). Some o) at) in
-      let two = spares leaf (hold_at leaf x.tables.now rows slot.0) s (holds_at 0 leaf leaf x.tables.now x.leaves.items slot.0 rows (omega arith) slot.1) (caller_at leaf rows table ∙ at) in
-      (t.0, t.1, callers.seat, omega (arith, two));
-}
-  where
-    rows : List (List SeatView)
-    rows = lists_in x.rows.items
-
-    the_row : List SeatView
-    the_row = row (lists_in x.rows.items) table
-
-    within : (ls : List (List SeatView)) (i j : ℕ) (s : SeatView) → slice_get (row ls i) j ≡ Some s → i < length ls
-    within [] i j s at = absurd cc
-    within (l ∷ ls) zero j s at = omega arith
-    within (l ∷ ls) (suc i) j s at = let below = within ls i j s at in omega (arith, below)
-
-    size : length (row (lists_in x.rows.items) table) ≤ leaf_count (fleet_in x)
-    size = pick (lt_or table (length x.names))
-      where
-        lt_or : (a b : ℕ) → (a < b) ⊎ (b ≤ a)
-        lt_or a b = grind arith
-
-        none_there : (ls : List (List SeatView)) (i : ℕ) → length ls ≤ i → length (row ls i) ≡ 0
-        none_there [] i few = refl
-        none_there (l ∷ ls) zero few = absurd (omega (arith, few))
-        none_there (l ∷ ls) (suc i) few = none_there ls i (omega (arith, few))
-
-        one_row : (row (lists_in x.rows.items) table ≡ []) ⊎ (length (row (lists_in x.rows.items) table) ≡ leaf_count (fleet_in x)) → length (row (lists_in x.rows.items) table) ≤ leaf_count (fleet_in x)
-        one_row (inl none) = omega (arith, ap (λ (vs : List SeatView). length vs) none)
-        one_row (inr all) = omega (arith, all)
-
-        pick : (table < length x.names) ⊎ (length x.names ≤ table) → length (row (lists_in x.rows.items) table) ≤ leaf_count (fleet_in x)
-        pick (inl below) = one_row (are.rows.each table below)
-        pick (inr above) = let zero_is = none_there (lists_in x.rows.items) table (omega (arith, above, are.rows.count)) in omega (arith, zero_is)
+may_split x table are spares =
+    let rows = lists_in x.rows.items in
+    let size = row_size (length x.names) (leaf_count (fleet_in x)) rows table are.rows in
+    record {
+      few = omega (arith, size, are.few.few);
+      count = omega (arith, size, are.tables);
+      each = λ leaf s at.
+          let found = seat_of x table leaf s are at in
+          let slot = element_at x.leaves.items leaf (omega (arith, slice_get_within (row rows table) leaf s at, size, are.leaves)) in
+          let two = spares leaf (hold_at leaf x.tables.now rows slot.0) s (holds_at 0 leaf leaf x.tables.now x.leaves.items slot.0 rows (omega arith) slot.1) (caller_at leaf rows table ∙ at) in
+          (found.0, found.1, found.2.seat, omega (arith, two));
+    }

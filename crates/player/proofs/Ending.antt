@@ -1,8 +1,9 @@
 -- The leaves are abandoned one after another, from the last to the first.
-use Rattle.std.proofs.Common.{◌≡◌, ◌≢◌, ◌⊎◌, inl, inr, true, false, ℕ, zero, suc, ◌<◌, ◌≤◌, List, [], ◌∷◌, ◌++◌, length, map, Option, Some, None, refl, sym, ap, subst, ◌∙◌, arith, append_assoc, length-append}
+use Rattle.std.proofs.Common.{◌≡◌, ◌≢◌, ◌⊎◌, inl, inr, true, false, ℕ, suc, ◌<◌, ◌≤◌, List, [], ◌∷◌, ◌++◌, length, map, Option, Some, None, refl, sym, ap, subst, ◌∙◌, arith, append_assoc, length-append}
 use Rattle.std.specs.Prelude.{is_some, slice_get}
 use Rattle.std.proofs.lemmas.Bool.{cases_eq}
 use Rattle.std.proofs.lemmas.List.{append-nil}
+use Rattle.std.proofs.lemmas.Option.{slice_get_within}
 use Rattle.berth_face.specs.Berth.{Meaning}
 use Rattle.leaf_table.specs.Calls.{SeatView}
 use Rattle.leaf_table.specs.Turns.{Shared}
@@ -17,12 +18,7 @@ use Rattle.player.specs.Rows.{AreCalled, AreRows, MayMeet, OnlyColumn}
 use Rattle.leaf_deeds.specs.Held.{berth_of, seats_of, leaf_state}
 use Rattle.player.specs.Stage.{hold_at, own_berth}
 use Rattle.player.specs.Members.{holds_from}
-use Rattle.player.proofs.Columns.{only_rows}
-
--- the element behind others
-pub behind_at : {A : Type 0} (done : List A) (x : A) (others : List A) → slice_get (done ++ x ∷ others) (length done) ≡ Some x
-behind_at [] x others = refl
-behind_at (y ∷ done) x others = behind_at done x others
+use Rattle.player.proofs.Columns.{get_behind, only_rows}
 
 pub no_one : {A : Type 0} (o : Option A) → o ≡ None → is_some o ≡ true → ⊥
 no_one o none some = by (ap (λ p. is_some p) (sym none) ∙ some)
@@ -54,12 +50,6 @@ pub record Abandoned {B : Type 0} (meaning : B → Meaning) (full : List (Option
   pub owned : map Some own ≡ map own_berth done
   pub berths_are : berths ≡ own ++ old
 
--- nothing stands beyond the end
-none_beyond : {A : Type 0} (xs : List A) (i : ℕ) (x : A) → length xs ≤ i → slice_get xs i ≡ Some x → ⊥
-none_beyond [] i x beyond at = cc
-none_beyond (y ∷ ys) zero x beyond at = omega (arith, beyond)
-none_beyond (y ∷ ys) (suc i) x beyond at = none_beyond ys i x (omega (arith, beyond)) at
-
 module _ {B : Type 0} (meaning : B → Meaning) where
   pub abandoned_none : (full : List (Option (OneLeaf B))) (first : List (List SeatView)) (old : List B) → Abandoned meaning full first old full first old
   abandoned_none full first old = record {
@@ -67,7 +57,7 @@ module _ {B : Type 0} (meaning : B → Meaning) where
     split = sym (append-nil full);
     columns = λ other below. refl;
     sizes = λ count size has. has;
-    met = λ tables leaf x beyond at. absurd (none_beyond full leaf (Some x) beyond at);
+    met = λ tables leaf x beyond at. absurd (omega (arith, beyond, slice_get_within full leaf (Some x) at));
     own = [];
     owned = refl;
     berths_are = refl;
@@ -79,7 +69,7 @@ module _ {B : Type 0} (meaning : B → Meaning) where
   last_at full first old leaves now rows berths slot so_far popped =
       ap (λ (ls : List (Option (OneLeaf B))). slice_get ls (length now))
       (so_far.split ∙ (ap (λ (ls : List (Option (OneLeaf B))). ls ++ so_far.done) popped ∙ append_assoc now (slot ∷ []) so_far.done))
-      ∙ behind_at now slot so_far.done
+      ∙ get_behind now slot so_far.done (length now) refl
 
   -- one leaf more
   module _ (full : List (Option (OneLeaf B))) (first : List (List SeatView)) (old : List B) (leaves now : List (Option (OneLeaf B))) (rows : List (List SeatView)) (berths : List B) (leaf : OneLeaf B)
@@ -91,7 +81,7 @@ module _ {B : Type 0} (meaning : B → Meaning) where
     split_now = so_far.split ∙ (ap (λ (ls : List (Option (OneLeaf B))). ls ++ so_far.done) popped ∙ append_assoc now (Some leaf ∷ []) so_far.done)
 
     pub there : slice_get full (length now) ≡ Some (Some leaf)
-    there = ap (λ (ls : List (Option (OneLeaf B))). slice_get ls (length now)) split_now ∙ behind_at now (Some leaf) so_far.done
+    there = last_at full first old leaves now rows berths (Some leaf) so_far popped
 
     pub may_now : MayMeet (length now) (seats_of leaf) first → MayMeet (length now) (seats_of leaf) rows
     may_now may = may_still (length now) (seats_of leaf) first rows so_far.sizes (so_far.columns (length now) (omega (arith, longer))) may

@@ -13,25 +13,7 @@ use Rattle.leaf_moves.specs.Lanes.{SplitsIf}
 use Rattle.player.specs.Crew.{column}
 use Rattle.player.specs.Rows.{AreRows, IsCallersAt, IsColumn}
 use Rattle.player.specs.Lending.{AreRoomy, RowSplits, RowsSplit, SlotSplits, SlotsSplit, SplitsFirst}
-use Rattle.player.proofs.Columns.{caller_at, column_back, column_count}
-
--- ---- lists
-
-get_front : {A : Type 0} (xs ys : List A) (i : ℕ) (x : A) → slice_get xs i ≡ Some x → slice_get (xs ++ ys) i ≡ Some x
-get_front [] ys i x at = absurd cc
-get_front (z ∷ xs) ys zero x at = at
-get_front (z ∷ xs) ys (suc i) x at = get_front xs ys i x at
-
-get_end : {A : Type 0} (xs : List A) (x : A) (i : ℕ) → i ≡ length xs → slice_get (xs ++ x ∷ []) i ≡ Some x
-get_end [] x zero is = refl
-get_end [] x (suc i) is = absurd (omega (arith, is))
-get_end (z ∷ xs) x zero is = absurd (omega (arith, is))
-get_end (z ∷ xs) x (suc i) is = get_end xs x i (omega (arith, is))
-
-get_back : {A : Type 0} (xs : List A) (x y : A) (i : ℕ) → i < length xs → slice_get (xs ++ x ∷ []) i ≡ Some y → slice_get xs i ≡ Some y
-get_back [] x y i below at = absurd (omega (arith, below))
-get_back (z ∷ xs) x y zero below at = at
-get_back (z ∷ xs) x y (suc i) below at = get_back xs x y i (omega (arith, below)) at
+use Rattle.player.proofs.Columns.{below_or_not, caller_at, column_back, column_count, get_behind, get_front, row_beyond}
 
 -- ---- one row
 
@@ -64,13 +46,13 @@ module _ (k next : ℕ) (seats off rest off' rest' : List SeatView) (s : SeatVie
           let seat : s ≡ u = same_seat u (subst (λ (n : ℕ). slice_get seats n ≡ Some u) here was) in
           subst (λ (v : SeatView). (1 < v.share) × (slice_get off' leaf ≡ Some (given 1 v)) × (slice_get rest' leaf ≡ Some (keeps_all_but 1 v))) seat (
             ids,
-            ap (λ (vs : List SeatView). slice_get vs leaf) off_is ∙ get_end off (given 1 s) leaf (omega (arith, here, so_far.counts.1)),
+            ap (λ (vs : List SeatView). slice_get vs leaf) off_is ∙ get_behind off (given 1 s) [] leaf (omega (arith, here, so_far.counts.1)),
             ap (λ (vs : List SeatView). slice_get vs leaf) rest_is ∙ (ap (λ (n : ℕ). slice_get (slice_set rest k (keeps_all_but 1 s)) n) here ∙ set_get rest k s (keeps_all_but 1 s) at),
           )
       by leaf u below was (inr apart) =
           let old = so_far.split leaf u (omega (arith, below, is, apart)) was in (
             old.0,
-            ap (λ (vs : List SeatView). slice_get vs leaf) off_is ∙ get_front off (given 1 s ∷ []) leaf (given 1 u) old.1,
+            ap (λ (vs : List SeatView). slice_get vs leaf) off_is ∙ get_front off (given 1 s ∷ []) leaf (slice_get_within off leaf (given 1 u) old.1) ∙ old.1,
             ap (λ (vs : List SeatView). slice_get vs leaf) rest_is ∙ (set_other rest k leaf (keeps_all_but 1 s) apart ∙ old.2),
           )
 
@@ -100,14 +82,14 @@ module _ {A : Type 0} (needs : ℕ → Bool) where
         by : (leaf : ℕ) (x o r : Option A) → leaf < next → slice_get slots leaf ≡ Some x → slice_get off' leaf ≡ Some o → slice_get rest' leaf ≡ Some r → (leaf ≡ k) ⊎ (leaf ≢ k) → SlotSplits (needs leaf) x o r
         by leaf x o r below was there now (inl here) =
             let the_slot : slot ≡ x = same_at rest k slot x at (so_far.others k (omega arith) ∙ subst (λ (n : ℕ). slice_get slots n ≡ Some x) here was) in
-            let the_cut : cut ≡ o = same_at off' leaf cut o (ap (λ (os : List (Option A)). slice_get os leaf) off_is ∙ get_end off cut leaf (omega (arith, here, so_far.counts.1))) there in
+            let the_cut : cut ≡ o = same_at off' leaf cut o (ap (λ (os : List (Option A)). slice_get os leaf) off_is ∙ get_behind off cut [] leaf (omega (arith, here, so_far.counts.1))) there in
             let the_rest : left ≡ r = same_at rest' leaf left r
             (ap (λ (os : List (Option A)). slice_get os leaf) rest_is ∙ (ap (λ (n : ℕ). slice_get (slice_set rest k left) n) here ∙ set_get rest k slot left at)) now in
             subst (λ (n : ℕ). SlotSplits (needs n) x o r) (sym here)
             (subst (λ (z : Option A). SlotSplits (needs k) z o r) the_slot (subst (λ (z : Option A). SlotSplits (needs k) slot z r) the_cut (subst (λ (z : Option A). SlotSplits (needs k) slot cut z) the_rest split)))
         by leaf x o r below was there now (inr apart) =
             so_far.split leaf x o r (omega (arith, below, is, apart)) was
-            (get_back off cut o leaf (omega (arith, below, is, apart, so_far.counts.1)) (ap (λ (os : List (Option A)). slice_get os leaf) (sym off_is) ∙ there))
+            (sym (get_front off (cut ∷ []) leaf (omega (arith, below, is, apart, so_far.counts.1))) ∙ (ap (λ (os : List (Option A)). slice_get os leaf) (sym off_is) ∙ there))
             (sym (ap (λ (os : List (Option A)). slice_get os leaf) rest_is ∙ set_other rest k leaf left apart) ∙ now)
 
 -- ---- the rows
@@ -118,12 +100,6 @@ rows_none needs rows offs count none = record {
   split = λ table below. absurd (omega (arith, below));
   others = λ table above. (refl, none table);
 }
-
-row_set : {A : Type 0} (rows : List (List A)) (i : ℕ) (r : List A) → i < length rows → row (slice_set rows i r) i ≡ r
-row_set rows i r below = get_or-set_same rows i r [] below
-
-row_apart : {A : Type 0} (rows : List (List A)) (i j : ℕ) (r : List A) → j ≢ i → row (slice_set rows i r) j ≡ row rows j
-row_apart rows i j r apart = get_or-set_other rows i j r [] apart
 
 pub rows_more : (k next : ℕ) (needs : ℕ → Bool) (rows offs rests offs' rests' : List (List SeatView)) (off rest : List SeatView) → next ≡ suc k → k < length rows → RowsSplit k needs rows offs rests
     → RowSplits (needs k) (row rests k) off rest → offs' ≡ slice_set offs k off → rests' ≡ slice_set rests k rest → RowsSplit next needs rows offs' rests'
@@ -136,22 +112,22 @@ rows_more k next needs rows offs rests offs' rests' off rest is inside so_far sp
   others = λ table above.
       let apart : table ≢ k = λ same. omega (arith, same, above, is) in
       let old = so_far.others table (omega (arith, above, is)) in (
-        ap (λ (ls : List (List SeatView)). row ls table) rests_are ∙ (row_apart rests k table rest apart ∙ old.0),
-        ap (λ (ls : List (List SeatView)). row ls table) offs_are ∙ (row_apart offs k table off apart ∙ old.1),
+        ap (λ (ls : List (List SeatView)). row ls table) rests_are ∙ (get_or-set_other rests k table rest [] apart ∙ old.0),
+        ap (λ (ls : List (List SeatView)). row ls table) offs_are ∙ (get_or-set_other offs k table off [] apart ∙ old.1),
       );
 }
   where
     by : (table : ℕ) → table < next → (table ≡ k) ⊎ (table ≢ k) → RowSplits (needs table) (row rows table) (row offs' table) (row rests' table)
     by table below (inl here) =
-        let now_off : row offs' k ≡ off = ap (λ (ls : List (List SeatView)). row ls k) offs_are ∙ row_set offs k off (omega (arith, inside, so_far.counts.1)) in
-        let now_rest : row rests' k ≡ rest = ap (λ (ls : List (List SeatView)). row ls k) rests_are ∙ row_set rests k rest (omega (arith, inside, so_far.counts.0)) in
+        let now_off : row offs' k ≡ off = ap (λ (ls : List (List SeatView)). row ls k) offs_are ∙ get_or-set_same offs k off [] (omega (arith, inside, so_far.counts.1)) in
+        let now_rest : row rests' k ≡ rest = ap (λ (ls : List (List SeatView)). row ls k) rests_are ∙ get_or-set_same rests k rest [] (omega (arith, inside, so_far.counts.0)) in
         subst (λ (n : ℕ). RowSplits (needs n) (row rows n) (row offs' n) (row rests' n)) (sym here)
         (subst (λ (vs : List SeatView). RowSplits (needs k) vs (row offs' k) (row rests' k)) (so_far.others k (omega arith)).0
         (subst (λ (vs : List SeatView). RowSplits (needs k) (row rests k) vs (row rests' k)) (sym now_off)
         (subst (λ (vs : List SeatView). RowSplits (needs k) (row rests k) off vs) (sym now_rest) split)))
     by table below (inr apart) =
-        subst (λ (vs : List SeatView). RowSplits (needs table) (row rows table) vs (row rests' table)) (sym (ap (λ (ls : List (List SeatView)). row ls table) offs_are ∙ row_apart offs k table off apart))
-        (subst (λ (vs : List SeatView). RowSplits (needs table) (row rows table) (row offs table) vs) (sym (ap (λ (ls : List (List SeatView)). row ls table) rests_are ∙ row_apart rests k table rest apart))
+        subst (λ (vs : List SeatView). RowSplits (needs table) (row rows table) vs (row rests' table)) (sym (ap (λ (ls : List (List SeatView)). row ls table) offs_are ∙ get_or-set_other offs k table off [] apart))
+        (subst (λ (vs : List SeatView). RowSplits (needs table) (row rows table) (row offs table) vs) (sym (ap (λ (ls : List (List SeatView)). row ls table) rests_are ∙ get_or-set_other rests k table rest [] apart))
         (so_far.split table (omega (arith, below, is, apart))))
 
 -- ---- seats that were split
@@ -174,15 +150,12 @@ column_of leaf size tables rows are within few each = record {
 }
 
 pub no_seat : {A : Type 0} (i : ℕ) (xs : List A) (x : A) → xs ≡ [] → slice_get xs i ≡ Some x → ⊥
-no_seat i xs x none at = by (slice_get_within xs i x at) (ap (λ ys. length ys) none)
-  where
-    by : i < length xs → length xs ≡ 0 → ⊥
-    by below zero_is = omega (arith, below, zero_is)
+no_seat {A} i xs x none at = omega (arith, slice_get_within xs i x at, ap (λ (ys : List A). length ys) none)
 
 module _ (k : ℕ) (needs : ℕ → Bool) (rows offs rests : List (List SeatView)) (split : RowsSplit k needs rows offs rests) (all : length rows ≤ k) where
   -- each table of them
   pub each_row : (table : ℕ) → RowSplits (needs table) (row rows table) (row offs table) (row rests table)
-  each_row table = by (needs table) refl
+  each_row table = by (below_or_not table k)
     where
       beyond : k ≤ table → RowSplits (needs table) (row rows table) (row offs table) (row rests table)
       beyond above = out (needs table)
@@ -190,31 +163,17 @@ module _ (k : ℕ) (needs : ℕ → Bool) (rows offs rests : List (List SeatView
           old : (row rests table ≡ row rows table) × (row offs table ≡ [])
           old = split.others table above
 
-          empty : row rows table ≡ []
-          empty = none_there rows table (omega (arith, all, above))
-            where
-              none_there : (ls : List (List SeatView)) (i : ℕ) → length ls ≤ i → row ls i ≡ []
-              none_there [] i few = refl
-              none_there (l ∷ ls) zero few = absurd (omega (arith, few))
-              none_there (l ∷ ls) (suc i) few = none_there ls i (omega (arith, few))
-
           out : (b : Bool) → RowSplits b (row rows table) (row offs table) (row rests table)
           out true = record {
-            counts = (ap (λ (vs : List SeatView). length vs) old.0, ap (λ (vs : List SeatView). length vs) (old.1 ∙ sym empty));
-            split = λ leaf s below at. absurd (no_seat leaf (row rows table) s empty at);
+            counts = (ap (λ (vs : List SeatView). length vs) old.0, ap (λ (vs : List SeatView). length vs) (old.1 ∙ sym (row_beyond rows table (omega (arith, all, above)))));
+            split = λ leaf s below at. absurd (no_seat leaf (row rows table) s (row_beyond rows table (omega (arith, all, above))) at);
             others = λ leaf above. ap (λ (vs : List SeatView). slice_get vs leaf) old.0;
           }
           out false = (old.1, old.0)
 
-      by : (b : Bool) → needs table ≡ b → RowSplits (needs table) (row rows table) (row offs table) (row rests table)
-      by b is = pick (cases_le table)
-        where
-          cases_le : (n : ℕ) → (n < k) ⊎ (k ≤ n)
-          cases_le n = grind arith
-
-          pick : (table < k) ⊎ (k ≤ table) → RowSplits (needs table) (row rows table) (row offs table) (row rests table)
-          pick (inl below) = split.split table below
-          pick (inr above) = beyond above
+      by : (table < k) ⊎ (k ≤ table) → RowSplits (needs table) (row rows table) (row offs table) (row rests table)
+      by (inl below) = split.split table below
+      by (inr above) = beyond above
 
   -- one seat of them
   seats_split : (leaf table : ℕ) (b : Bool) → RowSplits b (row rows table) (row offs table) (row rests table) → SplitsIf b (place rows table leaf) (place offs table leaf) (place rests table leaf)
@@ -266,9 +225,9 @@ module _ (needs : ℕ → Bool) (room : ℕ) where
     where
       by : (table : ℕ) (u : Vec SeatView Global) → slice_get (rows ++ v ∷ []) table ≡ Some u → (table ≡ k) ⊎ (table ≢ k) → (u.items ≡ []) × (needs table ≡ true → room ≤ vec_capacity u)
       by table u at (inl here) =
-          let is : v ≡ u = same_at (rows ++ v ∷ []) table v u (get_end rows v table (omega (arith, here, count))) at in
+          let is : v ≡ u = same_at (rows ++ v ∷ []) table v u (get_behind rows v [] table (omega (arith, here, count))) at in
           subst (λ (w : Vec SeatView Global). (w.items ≡ []) × (needs table ≡ true → room ≤ vec_capacity w)) is
           (none, subst (λ (n : ℕ). needs n ≡ true → room ≤ vec_capacity v) (sym here) space)
       by table u at (inr apart) =
           let below : table < length rows = omega (arith, apart, count, slice_get_within (rows ++ v ∷ []) table u at, length-append rows (v ∷ [])) in
-          roomy.each table u (get_back rows v u table below at)
+          roomy.each table u (sym (get_front rows (v ∷ []) table below) ∙ at)

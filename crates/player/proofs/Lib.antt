@@ -17,6 +17,7 @@ pub mod AskSteps
 pub mod AskRows
 pub mod SameLeaves
 pub mod AskKnown
+pub mod RowCalls
 pub mod Asking
 pub mod AskLeaf
 pub mod TailCalls
@@ -31,9 +32,8 @@ pub mod MeetLeaves
 pub mod Lent
 pub mod CutInTwo
 mod Restarting
-pub mod RolledLines
+pub mod WaveLines
 mod Rolling
-mod Weaving
 mod RollPlays
 pub mod Returned
 pub mod TakenBack

@@ -7,7 +7,7 @@ use Rattle.berth_face.specs.Berth.{Meaning}
 use Rattle.berth_face.proofs.Moments.{passes_none}
 use Rattle.leaf_table.specs.Calls.{SeatView}
 use Rattle.leaf_table.specs.Lists.{lists_in, row}
-use Rattle.leaf_steward.proofs.Seating.{same_at, set_either}
+use Rattle.leaf_steward.proofs.Seating.{same_at, set_either, set_other}
 use Rattle.leaf_moves.specs.Stage.{Leaf, MeetAll, MeetsIf, seated_of}
 use Rattle.leaf_moves.specs.Holds.{AllMeet, Hold, HoldMeets, caller_in, with_leaf}
 use Rattle.leaf_deeds.specs.declared.leaf.OneLeaf.{OneLeaf}
@@ -122,16 +122,9 @@ module _ {B : Type 0} (meaning : B → Meaning) where
           subst (λ (h : Hold B). HoldMeets meaning h z) before (subst (λ (h : Hold B). HoldMeets meaning one.before h) (sym here.1) one.meets)
       by leaf x z below at (inr apart) = so_far.met leaf x z (omega (arith, below, is, apart.0)) at apart.1
 
-      set_apart : (hs : List (Hold B)) (i j : ℕ) (h : Hold B) → j ≢ i → slice_get (slice_set hs i h) j ≡ slice_get hs j
-      set_apart [] i j h apart = refl
-      set_apart (g ∷ hs) zero zero h apart = absurd (apart refl)
-      set_apart (g ∷ hs) zero (suc j) h apart = refl
-      set_apart (g ∷ hs) (suc i) zero h apart = refl
-      set_apart (g ∷ hs) (suc i) (suc j) h apart = set_apart hs i j h (λ e. apart (ap suc e))
-
       elsewhere : (leaf : ℕ) → next ≤ leaf → slice_get zs leaf ≡ slice_get xs leaf
       elsewhere leaf above =
-          ap (λ (hs : List (Hold B)). slice_get hs leaf) one.now ∙ (set_apart ys k leaf one.after (λ same. omega (arith, same, above, is)) ∙ so_far.others leaf (omega (arith, above, is)))
+          ap (λ (hs : List (Hold B)). slice_get hs leaf) one.now ∙ (set_other ys k leaf one.after (λ same. omega (arith, same, above, is)) ∙ so_far.others leaf (omega (arith, above, is)))
 
   pub leaves_all : (k : ℕ) (xs ys : List (Hold B)) → length xs ≤ k → MeetLeaves meaning k xs ys → AllMeet meaning xs ys
   leaves_all k xs ys all met = record { count = met.count; each = λ leaf x y at now. met.met leaf x y (omega (arith, slice_get_within xs leaf x at, all)) at now }
@@ -143,16 +136,6 @@ module _ {B : Type 0} (meaning : B → Meaning) where
 
   pub all_pass : (xs ys : List (Hold B)) → AllMeet meaning xs ys → AllPass meaning xs ys
   all_pass xs ys met = record { count = met.count; each = λ leaf x y at now. passes x y (met.each leaf x y at now) }
-
-  pub still_more : (xs ys zs : List (Hold B)) → StillHas xs ys → StillHas ys zs → StillHas xs zs
-  still_more xs ys zs one other = record {
-    count = other.count ∙ one.count;
-    each = λ leaf x z was now.
-        let y = element_at ys leaf (omega (arith, one.count, slice_get_within xs leaf x was)) in
-        let first = one.each leaf x y.0 was y.1 in
-        let second = other.each leaf y.0 z y.1 now in
-        (second.0 ∙ first.0, λ table. second.1 table ∙ first.1 table);
-  }
 
 -- ---- ids
 

@@ -2,23 +2,24 @@
 use Rattle.std.proofs.Common.{◌≡◌, ◌≢◌, ◌⊎◌, inl, inr, ℕ, zero, suc, ◌<◌, List, [], ◌∷◌, length, map, Option, Some, None, Result, Vec, Global, refl, sym, ap, subst, ◌∙◌, arith, length-set}
 use Rattle.std.specs.Prelude.{slice_get, slice_set, slice_index_or, is_some}
 use Rattle.std.proofs.lemmas.Bool.{cases_eq}
+use Rattle.std.proofs.lemmas.Option.{slice_get_within}
 use Rattle.berth_face.specs.Berth.{Meaning, Passes}
 use Rattle.leaf_history.specs.Calls.{Call}
 use Rattle.leaf_table.specs.Turns.{Shared}
 use Rattle.leaf_table.specs.Calls.{SeatView, name_of}
-use Rattle.leaf_table.specs.Lists.{lists_in, row}
+use Rattle.leaf_table.specs.Lists.{lists_in, place, row}
 use Rattle.leaf_steward.proofs.Seating.{same_at, set_either, set_same, some_same}
 use Rattle.printed_lines.specs.declared.line.Line.{Line}
 use Rattle.script_text.specs.Commands.{leaf_count}
 use Rattle.printed_lines.specs.declared.line.Deed.{Deed}
-use Rattle.leaf_moves.specs.Holds.{caller_in, with_callers, with_leaf}
+use Rattle.leaf_moves.specs.Holds.{Hold, caller_in, with_callers, with_leaf}
 use Rattle.leaf_moves.specs.Steps.{noted_all}
 use Rattle.leaf_deeds.specs.declared.leaf.OneLeaf.{OneLeaf}
 use Rattle.player.specs.declared.members.Members.{Members}
 use Rattle.player.specs.declared.answer.DeedOutcome.{DeedOutcome}
 use Rattle.script_text.specs.declared.order.TableRequest.{TableRequest}
-use Rattle.player.specs.Crew.{HasLeaf, column}
-use Rattle.player.specs.Rows.{AreCalled, IsColumn, OnlyColumn}
+use Rattle.player.specs.Crew.{HasLeaf, SameSeats, column}
+use Rattle.player.specs.Rows.{AreCalled, AreRows, IsCallersAt, IsColumn, OnlyColumn}
 use Rattle.leaf_deeds.specs.Held.{berth_of, seats_of, leaf_state}
 use Rattle.player.specs.Stage.{IsMember, hold_at}
 use Rattle.player.specs.Lines.{CallsWith}
@@ -27,9 +28,9 @@ use Rattle.transcript.specs.Shapes.{call_of}
 use Rattle.player.specs.Commands.{ActsWith, CallsAt, DeedAt}
 use Rattle.player.proofs.CallPieces.{call_prints}
 use Rattle.player.proofs.Chains.{one_act, one_called}
-use Rattle.player.proofs.Columns.{caller_at, element_at, only_rows}
+use Rattle.player.proofs.Columns.{caller_at, column_get, element_at, only_rows, row_size, within_rows}
 use Rattle.player.proofs.Calling.{stands_at}
-use Rattle.player.proofs.HoldLists.{holds_at, holds_set, leaf_held}
+use Rattle.player.proofs.HoldLists.{holds_at, holds_back, holds_count, holds_set, leaf_held}
 use Rattle.player.proofs.NoteTables.{count_of}
 
 -- ---- the other leaves
@@ -56,6 +57,17 @@ pub seats_still : (leaf : ℕ) (rows rows' : List (List SeatView)) → ((t : ℕ
 seats_still leaf rows rows' lengths table =
     ap (λ (o : Option SeatView). is_some o) (caller_at leaf rows' table)
     ∙ (some_length (row rows table) (row rows' table) leaf (lengths table) ∙ ap (λ (o : Option SeatView). is_some o) (sym (caller_at leaf rows table)))
+
+pub seats_of_rows : {B : Type 0} (tables : List (List Shared)) (xs ys : List (Option (OneLeaf B))) (rows rows' : List (List SeatView)) → length ys ≡ length xs
+    → ((t : ℕ) → length (row rows' t) ≡ length (row rows t)) → SameSeats (holds_from 0 tables xs rows) (holds_from 0 tables ys rows')
+seats_of_rows {B} tables xs ys rows rows' count lengths = record {
+  count = omega (arith, holds_count 0 tables ys rows', holds_count 0 tables xs rows, count);
+  each = λ leaf x y at now table.
+      let a = holds_back 0 leaf leaf tables xs x rows (omega arith) at in
+      let b = holds_back 0 leaf leaf tables ys y rows' (omega arith) now in
+      ap (λ (h : Hold B). is_some (caller_in h.callers table)) b.2
+      ∙ (seats_still leaf rows rows' lengths table ∙ ap (λ (h : Hold B). is_some (caller_in h.callers table)) (sym a.2));
+}
 
 pub set_twice : {A : Type 0} (xs : List A) (i : ℕ) (x y : A) → slice_set (slice_set xs i x) i y ≡ slice_set xs i y
 set_twice [] i x y = refl
@@ -111,6 +123,51 @@ module _ {B : Type 0} where
       by (inl same) = subst (λ (n : ℕ). IsColumn n (row x.tables.now n) rows) (sym same) column
       by (inr apart) = other_column number leaf (row x.tables.now leaf) (lists_in x.rows.items) rows only apart (are.columns leaf below)
 
+  -- the callers' seats have become others
+  pub with_rows : (x : Members B) (rows : Vec (Vec SeatView Global) Global) → AreMembers x → AreRows (length x.names) (leaf_count (fleet_in x)) (lists_in rows.items)
+      → ((leaf : ℕ) → leaf < leaf_count (fleet_in x) → IsColumn leaf (row x.tables.now leaf) (lists_in rows.items)) → AreMembers (with_parts x x.leaves rows)
+  with_rows x rows are sizes columns = record {
+    named = are.named;
+    few = are.few;
+    leaves = are.leaves;
+    tables = are.tables;
+    rows = sizes;
+    names = are.names;
+    columns = columns;
+    each = λ leaf z at. let was = are.each leaf z at in record { names = was.names; tables = was.tables; seats = was.seats };
+  }
+
+  -- a leaf and its column have
+  pub members_with : (x : Members B) (number : ℕ) (next : OneLeaf B) (leaves : Vec (Option (OneLeaf B)) Global) (rows : Vec (Vec SeatView Global) Global) → AreMembers x → leaves.items ≡ slice_set x.leaves.items number (Some next)
+      → OnlyColumn number (lists_in x.rows.items) (lists_in rows.items) → IsColumn number (row x.tables.now number) (lists_in rows.items) → IsLeafOf x number next → AreMembers (with_parts x leaves rows)
+  members_with x number next leaves rows are now only column own = record {
+    named = are.named;
+    few = are.few;
+    leaves = ap (λ (ls : List (Option (OneLeaf B))). length ls) now ∙ length-set x.leaves.items number (Some next) ∙ are.leaves;
+    tables = are.tables;
+    rows = only_rows number (length x.names) (leaf_count (fleet_in x)) (lists_in x.rows.items) (lists_in rows.items) only are.rows;
+    names = are.names;
+    columns = columns_then x number (lists_in rows.items) are only column;
+    each = λ leaf z there. by leaf z (set_either x.leaves.items number leaf (Some next) (Some z) (subst (λ (ls : List (Option (OneLeaf B))). slice_get ls leaf ≡ Some (Some z)) now there));
+  }
+    where
+      by : (leaf : ℕ) (z : OneLeaf B) → ((leaf ≡ number) × (Some z ≡ Some next)) ⊎ ((leaf ≢ number) × (slice_get x.leaves.items leaf ≡ Some (Some z))) → IsLeafOf (with_parts x leaves rows) leaf z
+      by leaf z (inl h) =
+          subst (λ (n : ℕ). IsLeafOf (with_parts x leaves rows) n z) (sym h.0)
+          (subst (λ (y : OneLeaf B). IsLeafOf (with_parts x leaves rows) number y) (sym (some_same z next h.1)) (record { names = own.names; tables = own.tables; seats = own.seats }))
+      by leaf z (inr h) = let was = are.each leaf z h.1 in record { names = was.names; tables = was.tables; seats = was.seats }
+
+  -- a seat of the rows is a callers' seat at its table
+  pub seat_of : (x : Members B) (table leaf : ℕ) (s : SeatView) → AreMembers x → place (lists_in x.rows.items) table leaf ≡ Some s → (t : Shared) × (place x.tables.now leaf table ≡ Some t) × IsCallersAt t s
+  seat_of x table leaf s are at =
+      let rows = lists_in x.rows.items in
+      let size = row_size (length x.names) (leaf_count (fleet_in x)) rows table are.rows in
+      let below : leaf < leaf_count (fleet_in x) = omega (arith, slice_get_within (row rows table) leaf s at, size) in
+      let column_is = are.columns leaf below in
+      let low = within_rows rows table leaf s at in
+      let t = element_at (row x.tables.now leaf) table (omega (arith, low, column_is.sizes.count)) in
+      (t.0, t.1, column_is.called.each table t.0 s t.1 (column_get leaf rows table low ∙ ap (λ (o : Option SeatView). Some o) at))
+
   module _ (x : Members B) (number : ℕ) (one next : OneLeaf B) (leaves : Vec (Option (OneLeaf B)) Global) (rows : Vec (Vec SeatView Global) Global) (are : AreMembers x)
       (at : slice_get x.leaves.items number ≡ Some (Some one)) (now : leaves.items ≡ slice_set x.leaves.items number (Some next))
       (only : OnlyColumn number (lists_in x.rows.items) (lists_in rows.items)) where
@@ -118,24 +175,8 @@ module _ {B : Type 0} where
     pub members_then : IsMember x.names number (seats_of next) (lists_in rows.items) → (seats_of next).tables ≡ (seats_of one).tables → AreMembers (with_parts x leaves rows)
     members_then member same =
         let tables : (seats_of next).tables ≡ row x.tables.now number = same ∙ (are.each number one at).tables in
-        record {
-          named = are.named;
-          few = are.few;
-          leaves = ap (λ (ls : List (Option (OneLeaf B))). length ls) now ∙ length-set x.leaves.items number (Some next) ∙ are.leaves;
-          tables = are.tables;
-          rows = only_rows number (length x.names) (leaf_count (fleet_in x)) (lists_in x.rows.items) (lists_in rows.items) only are.rows;
-          names = are.names;
-          columns = columns_then x number (lists_in rows.items) are only (subst (λ (ts : List Shared). IsColumn number ts (lists_in rows.items)) tables member.may.column);
-          each = λ leaf z there.
-              by tables leaf z (set_either x.leaves.items number leaf (Some next) (Some z) (subst (λ (ls : List (Option (OneLeaf B))). slice_get ls leaf ≡ Some (Some z)) now there));
-        }
-      where
-        by : (seats_of next).tables ≡ row x.tables.now number → (leaf : ℕ) (z : OneLeaf B)
-            → ((leaf ≡ number) × (Some z ≡ Some next)) ⊎ ((leaf ≢ number) × (slice_get x.leaves.items leaf ≡ Some (Some z))) → IsLeafOf (with_parts x leaves rows) leaf z
-        by tables leaf z (inl h) =
-            subst (λ (n : ℕ). IsLeafOf (with_parts x leaves rows) n z) (sym h.0)
-            (subst (λ (y : OneLeaf B). IsLeafOf (with_parts x leaves rows) number y) (sym (some_same z next h.1)) (record { names = member.same; tables = tables; seats = member.seats }))
-        by tables leaf z (inr h) = let was = are.each leaf z h.1 in record { names = was.names; tables = was.tables; seats = was.seats }
+        members_with x number next leaves rows are now only (subst (λ (ts : List Shared). IsColumn number ts (lists_in rows.items)) tables member.may.column)
+        (record { names = member.same; tables = tables; seats = member.seats })
 
     pub holds_then : holds_in (with_parts x leaves rows)
         ≡ slice_set (holds_in x) number (with_leaf (hold_at number x.tables.now (lists_in x.rows.items) (Some one)) (leaf_state next) (berth_of next) (column number (lists_in rows.items)))
@@ -169,16 +210,8 @@ module _ {B : Type 0} where
         ∙ holds_set 0 number number x.tables.now x.leaves.items there.0 (lists_in x.rows.items) (lists_in rows.items) (omega arith) only.others
 
     pub members_called : IsColumn number (row x.tables.now number) (lists_in rows.items) → AreMembers (with_parts x x.leaves rows)
-    members_called column = record {
-      named = are.named;
-      few = are.few;
-      leaves = are.leaves;
-      tables = are.tables;
-      rows = only_rows number (length x.names) (leaf_count (fleet_in x)) (lists_in x.rows.items) (lists_in rows.items) only are.rows;
-      names = are.names;
-      columns = columns_then x number (lists_in rows.items) are only column;
-      each = λ leaf z at. let was = are.each leaf z at in record { names = was.names; tables = was.tables; seats = was.seats };
-    }
+    members_called column =
+        with_rows x rows are (only_rows number (length x.names) (leaf_count (fleet_in x)) (lists_in x.rows.items) (lists_in rows.items) only are.rows) (columns_then x number (lists_in rows.items) are only column)
 
     pub goes_called : {E : Type 0} (meaning : B → Meaning) (table : ℕ) (c : Call) (result : Result (Vec Line Global) E)
         → (calls : CallsWith x.names number table c (row x.tables.now number) (column number (lists_in x.rows.items)) result (column number (lists_in rows.items)))

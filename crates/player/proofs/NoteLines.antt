@@ -1,5 +1,5 @@
 -- The lines of notes, told one after another.
-use Rattle.std.proofs.Common.{◌≡◌, ℕ, zero, suc, List, [], ◌∷◌, ◌++◌, length, take, slice_get, Some, refl, sym, ap, ◌∙◌, append_assoc}
+use Rattle.std.proofs.Common.{◌≡◌, ℕ, zero, suc, List, [], ◌∷◌, ◌++◌, take, slice_get, Some, sym, ap, ◌∙◌, append_assoc}
 use Rattle.leaf_steward.specs.declared.notes.Note.{Note}
 use Rattle.printed_lines.specs.declared.line.Line.{Line}
 use Rattle.player.specs.Lines.{note_line, note_lines}
@@ -7,10 +7,6 @@ use Rattle.player.specs.Lines.{note_line, note_lines}
 -- the lines of the first i notes stand behind those that there were
 abbrev pub AreFirst : ℕ → List Note → List Line → ℕ → List Line → Type 0
 AreFirst number notes old i lines = lines ≡ old ++ note_lines number (take i notes)
-
-no_more : (ls : List Line) → ls ++ [] ≡ ls
-no_more [] = refl
-no_more (l ∷ ls) = ap (λ (rest : List Line). l ∷ rest) (no_more ls)
 
 take_next : (number : ℕ) (notes : List Note) (i : ℕ) (n : Note) → slice_get notes i ≡ Some n → note_lines number (take (suc i) notes) ≡ note_lines number (take i notes) ++ note_line number n ∷ []
 take_next number [] i n at = absurd cc
@@ -25,11 +21,3 @@ pub first_next : (number : ℕ) (notes : List Note) (old : List Line) (i : ℕ) 
 first_next number notes old i lines lines' n l so_far at line_is pushed =
     pushed ∙ ap (λ (x : Line). lines ++ x ∷ []) line_is ∙ ap (λ (ls : List Line). ls ++ note_line number n ∷ []) so_far
     ∙ append_assoc old (note_lines number (take i notes)) (note_line number n ∷ []) ∙ ap (λ (ls : List Line). old ++ ls) (sym (take_next number notes i n at))
-
-pub lines_append : (number : ℕ) (a b : List Note) → note_lines number (a ++ b) ≡ note_lines number a ++ note_lines number b
-lines_append number [] b = refl
-lines_append number (n ∷ ns) b = ap (λ (ls : List Line). note_line number n ∷ ls) (lines_append number ns b)
-
-take_all : (notes : List Note) → take (length notes) notes ≡ notes
-take_all [] = refl
-take_all (n ∷ ns) = ap (λ (ms : List Note). n ∷ ms) (take_all ns)

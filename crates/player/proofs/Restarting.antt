@@ -1,131 +1,113 @@
 -- Leaves are drained and started one after another.
-use Rattle.std.proofs.Common.{◌≡◌, ℕ, ◌<◌, List, [], ◌∷◌, ◌++◌, map, Option, None, Result, Ok, Err, Vec, Global, refl, sym, ap, subst, ◌∙◌, append_assoc, append-nil}
-use Rattle.std.specs.Prelude.{IfOk, IsOkAnd}
+use Rattle.std.proofs.Common.{◌≡◌, ℕ, ◌<◌, Bool, true, false, List, [], ◌∷◌, ◌++◌, map, None, Result, Vec, Global, refl, sym, ap, subst, ◌∙◌, append_assoc}
+use Rattle.std.specs.Prelude.{IfOk}
 use Rattle.std.specs.List.{AllByRecursion}
-use Rattle.std.proofs.lemmas.List.{map-append}
 use Rattle.std.proofs.lemmas.Option.{slice_get_within}
 use Rattle.berth_face.specs.Berth.{Meaning}
 use Rattle.leaf_table.specs.Lists.{lists_in}
 use Rattle.rollover_driver.specs.Calls.{FleetCall}
 use Rattle.rollover_driver.specs.Calls as call
 use Rattle.printed_lines.specs.declared.line.Line.{Line}
+use Rattle.printed_lines.specs.Lines.{IsOf}
 use Rattle.script_text.specs.declared.fleet.FleetShape.{FleetShape}
 use Rattle.script_text.specs.Commands.{leaf_count}
-use Rattle.transcript.specs.Pieces.{Piece, lines_in, piece_lines}
-use Rattle.leaf_moves.specs.Holds.{Hold}
+use Rattle.transcript.specs.Pieces.{Piece, Says}
 use Rattle.player.specs.declared.answer.DeedOutcome.{DeedOutcome}
 use Rattle.printed_lines.specs.declared.line.Deed.{Deed}
 use Rattle.printed_lines.specs.declared.line.Deed.TheVariants as deed
 use Rattle.player.specs.declared.members.Members.{Members}
-use Rattle.player.specs.Crew.{HasLeaf, StillHas}
-use Rattle.player.specs.Members.{AreMembers, GoesWith, SameFleet, fleet_in, holds_in}
-use Rattle.player.specs.Commands.{answer_of}
+use Rattle.player.specs.Crew.{HasLeaf}
+use Rattle.player.specs.Lines.{AreJoined}
+use Rattle.player.specs.Members.{AreMembers, GoesWith, fleet_in, holds_in}
 use Rattle.player.specs.Restarts as restart
-use Rattle.player.specs.Restarts.{AreAnswered, ArePartsOf, Chain, DeedIsDone, MayDo, PartJoins, Restarted, lines_of, no_lines}
-use Rattle.player.proofs.Chains.{goes_with_more, goes_with_none}
+use Rattle.player.specs.Restarts.{Chain, DeedIsDone, MayDo, Puts, RollsOn, head_at, heads_left}
+use Rattle.player.proofs.Chains.{goes_with_more, goes_with_said, joined_lines, no_lines}
 use Rattle.player.proofs.HoldLists.{holds_count, still_leaf}
 
-answered_more : (cs ds : List FleetCall) (ps qs : List Piece) → AreAnswered cs ps → AreAnswered ds qs → AreAnswered (cs ++ ds) (ps ++ qs)
-answered_more [] ds [] qs front back = back
-answered_more [] ds (p ∷ ps) qs front back = absurd front
-answered_more (call.Drains leaf got ∷ cs) ds [] qs front back = absurd front
-answered_more (call.Starts leaf got ∷ cs) ds [] qs front back = absurd front
-answered_more (call.Drains leaf got ∷ cs) ds (p ∷ ps) qs front back = (front.0, answered_more cs ds ps qs front.1 back)
-answered_more (call.Starts leaf got ∷ cs) ds (p ∷ ps) qs front back = (front.0, answered_more cs ds ps qs front.1 back)
+-- pieces after pieces
+puts_more : (cs ds : List FleetCall) (heads heads' heads'' : List Line) (draining draining' draining'' : Bool) (ps qs : List Piece) → Puts heads draining cs ps heads' draining' → Puts heads' draining' ds qs heads'' draining''
+    → Puts heads draining (cs ++ ds) (ps ++ qs) heads'' draining''
+puts_more [] ds heads heads' heads'' draining draining' draining'' ps qs puts more =
+    subst (λ (rs : List Piece). Puts heads draining ds (rs ++ qs) heads'' draining'') (sym puts.0)
+    (subst (λ (ls : List Line). Puts ls draining ds qs heads'' draining'') puts.1 (subst (λ (b : Bool). Puts heads' b ds qs heads'' draining'') puts.2 more))
+puts_more (call.Drains leaf got ∷ cs) ds heads heads' heads'' draining draining' draining'' ps qs puts more =
+    let rest = puts_more cs ds (heads_left heads draining) heads' heads'' true draining' draining'' puts.1 qs puts.4 more in
+    (puts.0, puts.1 ++ qs, puts.2, ap (λ (rs : List Piece). rs ++ qs) puts.3 ∙ append_assoc (map Says (head_at heads draining)) (puts.0 ∷ puts.1) qs, rest)
+puts_more (call.Starts leaf got ∷ cs) ds heads heads' heads'' draining draining' draining'' ps qs puts more =
+    let rest = puts_more cs ds heads heads' heads'' false draining' draining'' puts.1 qs puts.4 more in
+    (puts.0, puts.1 ++ qs, puts.2, ap (λ (rs : List Piece). rs ++ qs) puts.3, rest)
 
--- the lines of one deed more
-part_more : (before mid after : List (Vec Line Global)) (part : Vec Line Global) (ps : List Piece) (p : Piece) → lines_of mid ≡ lines_of before ++ map piece_lines ps → part.items ≡ lines_in (p ∷ [])
-    → after ≡ mid ++ part ∷ [] → lines_of after ≡ lines_of before ++ map piece_lines (ps ++ p ∷ [])
-part_more before mid after part ps p so_far one is =
-    ap (λ (vs : List (Vec Line Global)). lines_of vs) is
-    ∙ (map-append (λ (v : Vec Line Global). v.items) mid (part ∷ [])
-    ∙ (ap (λ (ls : List (List Line)). ls ++ part.items ∷ []) so_far
-    ∙ (ap (λ (l : List Line). (lines_of before ++ map piece_lines ps) ++ l ∷ []) (one ∙ append-nil (piece_lines p))
-    ∙ (append_assoc (lines_of before) (map piece_lines ps) (piece_lines p ∷ [])
-    ∙ ap (λ (ls : List (List Line)). lines_of before ++ ls) (sym (map-append piece_lines ps (p ∷ [])))))))
-
-parts_more : {E : Type 0} (told told' told'' : Result (Vec (Vec Line Global) Global) E) (lines : Result (Vec Line Global) E) (ps : List Piece) (p : Piece)
-    → IfOk told' (λ after. ArePartsOf told ps after.items) → IfOk lines (λ part. part.items ≡ lines_in (p ∷ [])) → IfOk told'' (λ parts. PartJoins told' lines parts.items)
-    → IfOk told'' (λ after. ArePartsOf told (ps ++ p ∷ []) after.items)
-parts_more (Ok before) (Ok mid) (Ok after) (Ok part) ps p so_far one is = part_more before.items mid.items after.items part ps p so_far one is
-parts_more (Err e) (Ok mid) (Ok after) (Ok part) ps p so_far one is = absurd so_far
-parts_more told (Ok mid) (Ok after) (Err e) ps p so_far one is = absurd is
-parts_more told (Err e) (Ok after) lines ps p so_far one is = absurd is
-parts_more told told' (Err e) lines ps p so_far one is = tt
+-- what holds of the lines of all waves holds of the next and of those that are left
+parted : (P : Line → Type 0) (heads : List Line) (draining : Bool) → AllByRecursion P heads → AllByRecursion P (head_at heads draining) × AllByRecursion P (heads_left heads draining)
+parted P heads true all = (tt, all)
+parted P [] false all = (tt, tt)
+parted P (l ∷ heads) false all = ((all.0, tt), all.1)
 
 module _ {B E : Type 0} (meaning : B → Meaning) where
-  pub restarted_none : (x : Members B) (told : Result (Vec (Vec Line Global) Global) E) → Restarted meaning x told [] x told
-  restarted_none x told = record {
+  rolls_none : (x : Members B) (heads heads' : List Line) (lines : Result (Vec Line Global) E) (draining : Bool) → IfOk lines (λ ls. ls.items ≡ []) → AllByRecursion (IsOf x.names) heads → heads' ≡ heads → draining ≡ false
+      → RollsOn meaning x heads [] lines x heads' draining
+  rolls_none x heads heads' lines draining empty fit same begins = record {
     pieces = [];
-    answered = tt;
+    puts = (refl, same, begins);
     members = λ are. are;
     same = record { fleet = refl; tables = refl };
-    goes = goes_with_none meaning x.names (holds_in x) no_lines tt;
-    parts = by told;
-  }
-    where
-      by : (o : Result (Vec (Vec Line Global) Global) E) → IfOk o (λ after. ArePartsOf o [] after.items)
-      by (Ok before) = sym (append-nil (lines_of before.items))
-      by (Err e) = tt
-
-  restarted_more : (x y z : Members B) (told told' told'' : Result (Vec (Vec Line Global) Global) E) (calls : List FleetCall) (c : FleetCall) (number : ℕ) (t : Deed) (answer : DeedOutcome) (lines : Result (Vec Line Global) E)
-      → Restarted meaning x told calls y told' → (done : DeedIsDone meaning number t y (answer, lines) z) → IfOk told'' (λ parts. PartJoins told' lines parts.items)
-      → AreAnswered (c ∷ []) (done.acted.piece ∷ []) → Restarted meaning x told (calls ++ c ∷ []) z told''
-  restarted_more x y z told told' told'' calls c number t answer lines so_far done parts one = record {
-    pieces = so_far.pieces ++ done.acted.piece ∷ [];
-    answered = answered_more calls (c ∷ []) so_far.pieces (done.acted.piece ∷ []) so_far.answered one;
-    members = λ are. done.members;
-    same = record { fleet = done.same.fleet ∙ so_far.same.fleet; tables = done.same.tables ∙ so_far.same.tables };
-    goes = goes_with_more meaning x.names (holds_in x) (holds_in y) (holds_in z) so_far.pieces (done.acted.piece ∷ []) no_lines no_lines no_lines so_far.goes
-        (subst (λ (names : List (List ℕ)). GoesWith meaning names (holds_in y) no_lines (done.acted.piece ∷ []) (holds_in z)) (ap (λ (f : FleetShape). f.names) so_far.same.fleet)
-        (record {
-          goes = done.acted.goes.goes;
-          counted = done.acted.goes.counted;
-          time = done.acted.goes.time;
-          still = done.acted.goes.still;
-          fit = done.acted.goes.fit;
-          lines_are = tt;
-        }))
-        tt;
-    parts = parts_more told told' told'' lines so_far.pieces done.acted.piece so_far.parts done.acted.goes.lines_are parts;
+    goes = goes_with_said meaning x.names (holds_in x) [] lines tt empty;
+    fit = subst (AllByRecursion (IsOf x.names)) (sym same) fit;
   }
 
-  pub drained_more : (x y z : Members B) (told told' told'' : Result (Vec (Vec Line Global) Global) E) (calls : List FleetCall) (number : ℕ) (answer : DeedOutcome) (lines : Result (Vec Line Global) E)
-      → Restarted meaning x told calls y told' → DeedIsDone meaning number (deed.Drain None) y (answer, lines) z → IfOk told'' (λ parts. PartJoins told' lines parts.items)
-      → Restarted meaning x told (calls ++ call.Drains number answer.drained ∷ []) z told''
-  drained_more x y z told told' told'' calls number answer lines so_far done parts =
-      restarted_more x y z told told' told'' calls (call.Drains number answer.drained) number (deed.Drain None) answer lines so_far done parts
-      ((done.acted.prints.0, done.acted.prints.1, done.acted.prints.2, ap (λ (a : DeedOutcome). a.drained) done.acted.answered), tt)
+  module _ (x y z : Members B) (heads heads' heads'' : List Line) (draining draining' : Bool) (calls : List FleetCall) (number : ℕ) (answer : DeedOutcome) (lines more lines' : Result (Vec Line Global) E)
+      (so_far : RollsOn meaning x heads calls lines y heads' draining) where
+    rolls_more : (c : FleetCall) (t : Deed) (between : List Line) → (done : DeedIsDone meaning number t y (answer, more) z) → Puts heads' draining (c ∷ []) (map Says between ++ done.acted.piece ∷ []) heads'' draining'
+        → AllByRecursion (IsOf x.names) between → AllByRecursion (IsOf x.names) heads'' → IfOk lines' (λ ls. AreJoined lines between more ls.items) → RollsOn meaning x heads (calls ++ c ∷ []) lines' z heads'' draining'
+    rolls_more c t between done puts fit fit_left joined =
+        let piece = done.acted.piece in
+        let own : List Piece = map Says between ++ piece ∷ [] in
+        record {
+          pieces = so_far.pieces ++ own;
+          puts = puts_more calls (c ∷ []) heads heads' heads'' false draining draining' so_far.pieces own so_far.puts puts;
+          members = λ are. done.members;
+          same = record { fleet = done.same.fleet ∙ so_far.same.fleet; tables = done.same.tables ∙ so_far.same.tables };
+          goes = goes_with_more meaning x.names (holds_in x) (holds_in y) (holds_in z) so_far.pieces own lines no_lines lines' so_far.goes
+              (goes_with_more meaning x.names (holds_in y) (holds_in y) (holds_in z) (map Says between) (piece ∷ []) no_lines more no_lines (goes_with_said meaning x.names (holds_in y) between no_lines fit tt)
+              (subst (λ (names : List (List ℕ)). GoesWith meaning names (holds_in y) more (piece ∷ []) (holds_in z)) (ap (λ (f : FleetShape). f.names) so_far.same.fleet) done.acted.goes) tt)
+              (joined_lines lines more lines' between so_far.pieces (piece ∷ []) so_far.goes.lines_are done.acted.goes.lines_are joined);
+          fit = fit_left;
+        }
 
-  pub started_more : (x y z : Members B) (told told' told'' : Result (Vec (Vec Line Global) Global) E) (calls : List FleetCall) (number : ℕ) (answer : DeedOutcome) (lines : Result (Vec Line Global) E)
-      → Restarted meaning x told calls y told' → DeedIsDone meaning number deed.Start y (answer, lines) z → IfOk told'' (λ parts. PartJoins told' lines parts.items)
-      → Restarted meaning x told (calls ++ call.Starts number answer.started ∷ []) z told''
-  started_more x y z told told' told'' calls number answer lines so_far done parts =
-      restarted_more x y z told told' told'' calls (call.Starts number answer.started) number deed.Start answer lines so_far done parts
-      ((done.acted.prints.0, done.acted.prints.1, done.acted.prints.2, ap (λ (a : DeedOutcome). a.started) done.acted.answered), tt)
+    drained_more : (between : List Line) → DeedIsDone meaning number (deed.Drain None) y (answer, more) z → between ≡ head_at heads' draining → heads'' ≡ heads_left heads' draining → draining' ≡ true
+        → IfOk lines' (λ ls. AreJoined lines between more ls.items) → RollsOn meaning x heads (calls ++ call.Drains number answer.drained ∷ []) lines' z heads'' draining'
+    drained_more between done head left drains joined =
+        let fits = parted (IsOf x.names) heads' draining so_far.fit in
+        let piece = done.acted.piece in
+        rolls_more (call.Drains number answer.drained) (deed.Drain None) between done
+        (piece, [], (done.acted.prints, ap (λ (a : DeedOutcome). a.drained) done.acted.answered), ap (λ (ls : List Line). map Says ls ++ piece ∷ []) head, (refl, left, drains))
+        (subst (AllByRecursion (IsOf x.names)) (sym head) fits.0) (subst (AllByRecursion (IsOf x.names)) (sym left) fits.1) joined
 
-  -- a chain of deeds
-  pub chained : (x : Members B) (told : Result (Vec (Vec Line Global) Global) E) (y : Members B) (told' : Result (Vec (Vec Line Global) Global) E) (calls : List FleetCall) → Chain (λ x leaf t r y. DeedIsDone meaning leaf t x r y) x told calls y told'
-      → Restarted meaning x told calls y told'
-  chained x told y told' calls (restart.none cs z o none same kept) =
-      subst (λ (ds : List FleetCall). Restarted meaning x told ds z o) (sym none)
-      (subst (λ (w : Members B). Restarted meaning x told [] w o) (sym same) (subst (λ (q : Result (Vec (Vec Line Global) Global) E). Restarted meaning x told [] x q) (sym kept) (restarted_none x told)))
-  chained x told y told' calls (restart.drained cs z o earlier mid told_mid leaf answer lines so_far done parts is) =
-      subst (λ (ds : List FleetCall). Restarted meaning x told ds z o) (sym is)
-      (drained_more x mid z told told_mid o earlier leaf answer lines (chained x told mid told_mid earlier so_far) done parts)
-  chained x told y told' calls (restart.started cs z o earlier mid told_mid leaf answer lines so_far done parts is) =
-      subst (λ (ds : List FleetCall). Restarted meaning x told ds z o) (sym is)
-      (started_more x mid z told told_mid o earlier leaf answer lines (chained x told mid told_mid earlier so_far) done parts)
+    started_more : DeedIsDone meaning number deed.Start y (answer, more) z → heads'' ≡ heads' → draining' ≡ false
+        → IfOk lines' (λ ls. AreJoined lines [] more ls.items) → RollsOn meaning x heads (calls ++ call.Starts number answer.started ∷ []) lines' z heads'' draining'
+    started_more done left starts joined =
+        rolls_more (call.Starts number answer.started) deed.Start [] done
+        (done.acted.piece, [], (done.acted.prints, ap (λ (a : DeedOutcome). a.started) done.acted.answered), refl, (refl, left, starts)) tt
+        (subst (AllByRecursion (IsOf x.names)) (sym left) so_far.fit) joined
+
+  -- a chain of deeds, whose lines were begun with none
+  pub chained : (x : Members B) (heads : List Line) (first : Result (Vec Line Global) E) → IfOk first (λ ls. ls.items ≡ []) → AllByRecursion (IsOf x.names) heads
+      → (calls : List FleetCall) (y : Members B) (lines : Result (Vec Line Global) E) (heads' : List Line) (draining : Bool) → Chain (λ x leaf t r y. DeedIsDone meaning leaf t x r y) x first heads false calls y lines heads' draining
+      → RollsOn meaning x heads calls lines y heads' draining
+  chained x heads first empty fit calls y lines heads' draining (restart.none cs z ls hs d none same kept left begins) =
+      subst (λ (ds : List FleetCall). RollsOn meaning x heads ds ls z hs d) (sym none) (subst (λ (w : Members B). RollsOn meaning x heads [] ls w hs d) (sym same)
+      (rolls_none x heads hs ls d (subst (λ (o : Result (Vec Line Global) E). IfOk o (λ all. all.items ≡ [])) (sym kept) empty) fit left begins))
+  chained x heads first empty fit calls y lines heads' draining (restart.drained cs z ls hs d earlier mid ls_mid hs_mid d_mid leaf answer more between so_far done joined head left drains is) =
+      subst (λ (ds : List FleetCall). RollsOn meaning x heads ds ls z hs d) (sym is)
+      (drained_more x mid z heads hs_mid hs d_mid d earlier leaf answer ls_mid more ls (chained x heads first empty fit earlier mid ls_mid hs_mid d_mid so_far) between done head left drains joined)
+  chained x heads first empty fit calls y lines heads' draining (restart.started cs z ls hs d earlier mid ls_mid hs_mid d_mid leaf answer more so_far done joined left starts is) =
+      subst (λ (ds : List FleetCall). RollsOn meaning x heads ds ls z hs d) (sym is)
+      (started_more x mid z heads hs_mid hs d_mid d earlier leaf answer ls_mid more ls (chained x heads first empty fit earlier mid ls_mid hs_mid d_mid so_far) done left starts joined)
 
 -- a crew that has each leaf of its fleet has all
 pub all_held : {B : Type 0} (x : Members B) → AreMembers x → ((leaf : ℕ) → leaf < leaf_count (fleet_in x) → HasLeaf (holds_in x) leaf) → (leaf : ℕ) → HasLeaf (holds_in x) leaf
 all_held x are held leaf = λ h at.
     held leaf (subst (λ (n : ℕ). leaf < n) (holds_count 0 x.tables.now x.leaves.items (lists_in x.rows.items) ∙ are.leaves) (slice_get_within (holds_in x) leaf h at)) h at
-
--- lines that were begun with none
-pub begun_none : {E : Type 0} (told : Result (Vec (Vec Line Global) Global) E) → IsOkAnd told (λ parts. parts.items ≡ []) → IfOk told (λ parts. parts.items ≡ [])
-begun_none (Ok parts) is = is
-begun_none (Err e) is = tt
 
 -- what is known of each leaf of waves
 pub of_waves : (P Q : ℕ → Type 0) (waves : List (List ℕ)) → ((leaf : ℕ) → P leaf → Q leaf) → AllByRecursion (λ wave. AllByRecursion P wave) waves → AllByRecursion (λ wave. AllByRecursion Q wave) waves

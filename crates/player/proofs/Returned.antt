@@ -1,10 +1,9 @@
 -- What a lane held is taken back.
-use Rattle.std.proofs.Common.{◌≡◌, ◌≢◌, ◌⊎◌, inl, inr, ℕ, zero, suc, ◌<◌, ◌≤◌, List, [], ◌∷◌, ◌++◌, length, Option, Some, refl, sym, ap, subst, ◌∙◌, arith, length-append, length-set, get_or-set_same, get_or-set_other}
+use Rattle.std.proofs.Common.{◌≡◌, ◌≢◌, ◌⊎◌, inl, inr, ℕ, suc, ◌<◌, ◌≤◌, List, [], ◌∷◌, ◌++◌, length, Option, Some, refl, sym, ap, subst, ◌∙◌, arith, length-append, length-set, get_or-set_same, get_or-set_other}
 use Rattle.std.specs.Prelude.{slice_get, slice_set, is_some}
 use Rattle.std.proofs.lemmas.Bool.{cases_eq}
 use Rattle.std.proofs.lemmas.Option.{slice_get_within}
 use Rattle.berth_face.specs.Berth.{Meaning}
-use Rattle.leaf_table.specs.Turns.{Shared}
 use Rattle.leaf_table.specs.Calls.{SeatView}
 use Rattle.leaf_table.specs.Lists.{row}
 use Rattle.leaf_steward.proofs.Seating.{same_at, set_either, set_other}
@@ -14,12 +13,8 @@ use Rattle.leaf_moves.specs.Lanes.{ComesBack}
 use Rattle.leaf_deeds.specs.declared.leaf.OneLeaf.{OneLeaf}
 use Rattle.player.specs.Crew.{SameSeats, StillHas}
 use Rattle.player.specs.Stage.{held_of}
-use Rattle.player.specs.Members.{holds_from}
 use Rattle.player.specs.Returning.{JoinsFrom, LeafBack, LeavesBack, RowsJoined}
-use Rattle.player.proofs.Columns.{element_at, same_some}
-use Rattle.player.proofs.Ending.{behind_at}
-use Rattle.player.proofs.HoldLists.{holds_back, holds_count}
-use Rattle.player.proofs.MemberSteps.{seats_still}
+use Rattle.player.proofs.Columns.{below_or_not, element_at, get_behind, get_front, row_beyond, same_some}
 
 -- ---- lists
 
@@ -31,11 +26,6 @@ pub record IsFront {A : Type 0} (full left : List A) : Type 0 where
 pub front_all : {A : Type 0} (full : List A) → IsFront full full
 front_all full = record { few = omega arith; each = λ i below. refl }
 
-get_front : {A : Type 0} (xs ys : List A) (i : ℕ) → i < length xs → slice_get (xs ++ ys) i ≡ slice_get xs i
-get_front [] ys i below = absurd (omega (arith, below))
-get_front (x ∷ xs) ys zero below = refl
-get_front (x ∷ xs) ys (suc i) below = get_front xs ys i (omega (arith, below))
-
 module _ {A : Type 0} (full left now : List A) (x : A) (front : IsFront full left) (popped : left ≡ now ++ x ∷ []) where
   pub longer : length left ≡ suc (length now)
   longer = omega (arith, ap (λ (ls : List A). length ls) popped, length-append now (x ∷ []))
@@ -43,7 +33,7 @@ module _ {A : Type 0} (full left now : List A) (x : A) (front : IsFront full lef
   pub front_last : (i : ℕ) → i ≡ length now → slice_get full i ≡ Some x
   front_last i is =
       sym (front.each i (omega (arith, is, longer)))
-      ∙ (ap (λ (ls : List A). slice_get ls i) popped ∙ (ap (λ (n : ℕ). slice_get (now ++ x ∷ []) n) is ∙ behind_at now x []))
+      ∙ (ap (λ (ls : List A). slice_get ls i) popped ∙ get_behind now x [] i is)
 
   pub front_pop : IsFront full now
   front_pop = record {
@@ -52,12 +42,6 @@ module _ {A : Type 0} (full left now : List A) (x : A) (front : IsFront full lef
   }
 
 -- ---- rows
-
-row_set : {A : Type 0} (rows : List (List A)) (i : ℕ) (r : List A) → i < length rows → row (slice_set rows i r) i ≡ r
-row_set rows i r below = get_or-set_same rows i r [] below
-
-row_apart : {A : Type 0} (rows : List (List A)) (i j : ℕ) (r : List A) → j ≢ i → row (slice_set rows i r) j ≡ row rows j
-row_apart rows i j r apart = get_or-set_other rows i j r [] apart
 
 pub joined_more : (k next : ℕ) (rows offs between lefts rows' offs' : List (List SeatView)) (r o : List SeatView) → next ≡ suc k → k < length rows → RowsJoined k rows offs between lefts
     → JoinsFrom 0 (row between k) (row lefts k) r → rows' ≡ slice_set between k r → offs' ≡ slice_set lefts k o → RowsJoined next rows offs rows' offs'
@@ -70,27 +54,22 @@ joined_more k next rows offs between lefts rows' offs' r o is inside so_far join
   others = λ table above.
       let apart : table ≢ k = λ same. omega (arith, same, above, is) in
       let old = so_far.others table (omega (arith, above, is)) in (
-        ap (λ (ls : List (List SeatView)). row ls table) rows_are ∙ (row_apart between k table r apart ∙ old.0),
-        ap (λ (ls : List (List SeatView)). row ls table) offs_are ∙ (row_apart lefts k table o apart ∙ old.1),
+        ap (λ (ls : List (List SeatView)). row ls table) rows_are ∙ (get_or-set_other between k table r [] apart ∙ old.0),
+        ap (λ (ls : List (List SeatView)). row ls table) offs_are ∙ (get_or-set_other lefts k table o [] apart ∙ old.1),
       );
 }
   where
     by : (table : ℕ) → table < next → (table ≡ k) ⊎ (table ≢ k) → JoinsFrom 0 (row rows table) (row offs table) (row rows' table)
     by table below (inl here) =
-        let now : row rows' k ≡ r = ap (λ (ls : List (List SeatView)). row ls k) rows_are ∙ row_set between k r (omega (arith, inside, so_far.counts.0)) in
+        let now : row rows' k ≡ r = ap (λ (ls : List (List SeatView)). row ls k) rows_are ∙ get_or-set_same between k r [] (omega (arith, inside, so_far.counts.0)) in
         let old = so_far.others k (omega arith) in
         subst (λ (n : ℕ). JoinsFrom 0 (row rows n) (row offs n) (row rows' n)) (sym here)
         (subst (λ (vs : List SeatView). JoinsFrom 0 vs (row offs k) (row rows' k)) old.0
         (subst (λ (vs : List SeatView). JoinsFrom 0 (row between k) vs (row rows' k)) old.1
         (subst (λ (vs : List SeatView). JoinsFrom 0 (row between k) (row lefts k) vs) (sym now) joins)))
     by table below (inr apart) =
-        subst (λ (vs : List SeatView). JoinsFrom 0 (row rows table) (row offs table) vs) (sym (ap (λ (ls : List (List SeatView)). row ls table) rows_are ∙ row_apart between k table r apart))
+        subst (λ (vs : List SeatView). JoinsFrom 0 (row rows table) (row offs table) vs) (sym (ap (λ (ls : List (List SeatView)). row ls table) rows_are ∙ get_or-set_other between k table r [] apart))
         (so_far.joined table (omega (arith, below, is, apart)))
-
-row_beyond : {A : Type 0} (ls : List (List A)) (i : ℕ) → length ls ≤ i → row ls i ≡ []
-row_beyond [] i few = refl
-row_beyond (l ∷ ls) zero few = absurd (omega (arith, few))
-row_beyond (l ∷ ls) (suc i) few = row_beyond ls i (omega (arith, few))
 
 no_seats : JoinsFrom 0 [] [] []
 no_seats = record { count = refl; joined = λ leaf above. refl; others = λ leaf below. absurd (omega (arith, below)) }
@@ -98,11 +77,8 @@ no_seats = record { count = refl; joined = λ leaf above. refl; others = λ leaf
 -- each table of them
 pub joined_all : (k : ℕ) (rows offs rows' offs' : List (List SeatView)) → RowsJoined k rows offs rows' offs' → length rows ≤ k → length offs ≤ k
     → (table : ℕ) → JoinsFrom 0 (row rows table) (row offs table) (row rows' table)
-joined_all k rows offs rows' offs' joins all all_offs table = by (lt_or table k)
+joined_all k rows offs rows' offs' joins all all_offs table = by (below_or_not table k)
   where
-    lt_or : (a b : ℕ) → (a < b) ⊎ (b ≤ a)
-    lt_or a b = grind arith
-
     by : (table < k) ⊎ (k ≤ table) → JoinsFrom 0 (row rows table) (row offs table) (row rows' table)
     by (inl below) = joins.joined table below
     by (inr above) =
@@ -131,17 +107,6 @@ seats_on xs ys zs one other = record {
 
 pub seats_of_still : {B : Type 0} (xs ys : List (Hold B)) → StillHas xs ys → SameSeats xs ys
 seats_of_still xs ys still = record { count = still.count; each = λ leaf x y at now. (still.each leaf x y at now).1 }
-
-pub seats_of_rows : {B : Type 0} (tables : List (List Shared)) (xs ys : List (Option (OneLeaf B))) (rows rows' : List (List SeatView)) → length ys ≡ length xs
-    → ((t : ℕ) → length (row rows' t) ≡ length (row rows t)) → SameSeats (holds_from 0 tables xs rows) (holds_from 0 tables ys rows')
-seats_of_rows {B} tables xs ys rows rows' count lengths = record {
-  count = omega (arith, holds_count 0 tables ys rows', holds_count 0 tables xs rows, count);
-  each = λ leaf x y at now table.
-      let a = holds_back 0 leaf leaf tables xs x rows (omega arith) at in
-      let b = holds_back 0 leaf leaf tables ys y rows' (omega arith) now in
-      ap (λ (h : Hold B). is_some (caller_in h.callers table)) b.2
-      ∙ (seats_still leaf rows rows' lengths table ∙ ap (λ (h : Hold B). is_some (caller_in h.callers table)) (sym a.2));
-}
 
 -- ---- leaves
 

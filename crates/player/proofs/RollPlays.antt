@@ -1,9 +1,7 @@
 -- What a rollover comes to.
-use Rattle.std.proofs.Common.{◌≡◌, ◌⊎◌, inl, inr, ℕ, suc, ◌+◌, List, [], ◌∷◌, ◌++◌, length, take, map, false, Result, Ok, Err, Vec, Global, refl, sym, ap, subst, ◌∙◌, append-nil, arith, nat_lt}
-use Rattle.std.specs.Prelude.{IfOk, IsErr}
-use Rattle.std.specs.List.{flat_map}
-use Rattle.std.proofs.lemmas.List.{map-append}
-use Rattle.std.proofs.lemmas.Result.{IfOk-weaker}
+use Rattle.std.proofs.Common.{◌≡◌, ℕ, ◌+◌, ◌<◌, List, [], ◌∷◌, ◌++◌, length, map, false, Result, Ok, Err, Vec, Global, refl, sym, ap, ap₂, subst, ◌∙◌, append-nil, arith}
+use Rattle.std.specs.Prelude.{IfOk}
+use Rattle.std.specs.List.{AllByRecursion, flat_map}
 use Rattle.berth_face.specs.Berth.{Meaning}
 use Rattle.rollover_plan.specs.Plan.{IsPlan}
 use Rattle.rollover_watch.specs.Watches.{Held}
@@ -13,86 +11,55 @@ use Rattle.rollover_driver.specs.Drives.{Drives}
 use Rattle.script_text.specs.declared.order.Order.TheVariants as order
 use Rattle.printed_lines.specs.declared.line.Line.{Line}
 use Rattle.printed_lines.specs.declared.line.Line.TheVariants as line
-use Rattle.transcript.specs.Pieces.{Piece, Says, lines_in, piece_lines}
-use Rattle.transcript.specs.Shapes.{RollPieces, Rolls}
+use Rattle.printed_lines.specs.Lines.{IsOf}
+use Rattle.transcript.specs.Pieces.{Piece, Says, lines_in}
+use Rattle.transcript.specs.Shapes.{Rolls}
 use Rattle.transcript.specs.Watching.{calls_in, watch_line}
 use Rattle.player.specs.declared.members.Members.{Members}
 use Rattle.player.specs.Crew.{PlaysOrder}
 use Rattle.player.specs.Members.{fleet_in, holds_in}
-use Rattle.player.specs.Restarts.{ArePartsOf, lines_of, no_lines}
-use Rattle.player.specs.Rolled.{RollsThrough, rolled_lines, watch_lines, waves_lines}
-use Rattle.player.proofs.Chains.{lines_more}
-use Rattle.player.proofs.Rolling.{Rolling, Woven, rolled_waves, told_calls, woven_behind, woven_calls}
-use Rattle.player.proofs.Weaving.{goes_with_woven}
+use Rattle.player.specs.Rolled.{AreFollowed, RollsThrough, end_lines, watch_lines}
+use Rattle.player.proofs.Chains.{goes_with_more, goes_with_said, lines_more, lines_said, no_lines}
+use Rattle.player.proofs.Rolling.{Rolling, calls_more, rolled_waves, said_calls, told_calls}
 
--- the pieces behind the waves
-abbrev pub ends_of : Rolled → ℕ → List Held → List Piece
-ends_of rolled total watches = Says (line.Rolled rolled.halted rolled.waves total) ∷ map (λ (text : List ℕ). Says (line.Watch text)) (map watch_line watches)
+-- ---- the pieces behind the waves
 
-says_lines : (watches : List Held) → lines_in (map (λ (text : List ℕ). Says (line.Watch text)) (map watch_line watches)) ≡ watch_lines watches
-says_lines [] = refl
-says_lines (w ∷ ws) = ap (λ (ls : List Line). line.Watch (watch_line w) ∷ ls) (says_lines ws)
+abbrev pub watch_piece : List ℕ → Piece
+watch_piece text = Says (line.Watch text)
 
-says_woven : (watches : List Held) → Woven [] (map (λ (text : List ℕ). Says (line.Watch text)) (map watch_line watches))
-says_woven [] = Woven.ends [] [] refl refl
-says_woven (w ∷ ws) =
-    Woven.says [] (map (λ (text : List ℕ). Says (line.Watch text)) (map watch_line (w ∷ ws))) (line.Watch (watch_line w)) (map (λ (text : List ℕ). Says (line.Watch text)) (map watch_line ws))
-    (λ names. tt) (says_woven ws) refl
+said_watches : (watches : List Held) → map Says (watch_lines watches) ≡ map watch_piece (map watch_line watches)
+said_watches [] = refl
+said_watches (w ∷ ws) = ap (λ (ps : List Piece). watch_piece (watch_line w) ∷ ps) (said_watches ws)
 
-ends_woven : (rolled : Rolled) (total : ℕ) (watches : List Held) → Woven [] (ends_of rolled total watches)
-ends_woven rolled total watches =
-    Woven.says [] (ends_of rolled total watches) (line.Rolled rolled.halted rolled.waves total) (map (λ (text : List ℕ). Says (line.Watch text)) (map watch_line watches))
-    (λ names. tt) (says_woven watches) refl
+watches_fit : (names : List (List ℕ)) (watches : List Held) → AllByRecursion (IsOf names) (watch_lines watches)
+watches_fit names [] = tt
+watches_fit names (w ∷ ws) = (tt, watches_fit names ws)
 
--- the lines of the deeds, which begin with none
-own_parts : {E : Type 0} (first told : Result (Vec (Vec Line Global) Global) E) (deeds : List Piece) (parts : Vec (Vec Line Global) Global) → told ≡ Ok parts → IfOk first (λ ps. ps.items ≡ [])
-    → IfOk told (λ after. ArePartsOf first deeds after.items) → lines_of parts.items ≡ map piece_lines deeds
-own_parts {E = E} first told deeds parts is none are = by first none (subst (λ (o : Result (Vec (Vec Line Global) Global) E). IfOk o (λ after. ArePartsOf first deeds after.items)) is are)
-  where
-    by : (f : Result (Vec (Vec Line Global) Global) E) → IfOk f (λ ps. ps.items ≡ []) → ArePartsOf f deeds parts.items → lines_of parts.items ≡ map piece_lines deeds
-    by (Ok before) empty has = has ∙ ap (λ (ps : List (Vec Line Global)). lines_of ps ++ map piece_lines deeds) empty
-    by (Err e) empty has = absurd has
+-- their lines behind those of the deeds
+followed : {E : Type 0} (lines result : Result (Vec Line Global) E) (ps : List Piece) (ls : List Line) → IfOk lines (λ all. all.items ≡ lines_in ps) → IfOk result (λ all. AreFollowed lines ls all.items)
+    → IfOk result (λ all. all.items ≡ lines_in (ps ++ map Says ls))
+followed (Ok lines) (Ok all) ps ls told are =
+    are ∙ ap (λ (ks : List Line). ks ++ ls) told ∙ sym (lines_more ps (map Says ls) ∙ ap (λ (ks : List Line). lines_in ps ++ ks) (lines_said ls))
+followed (Err e) (Ok all) ps ls told are = absurd are
+followed lines (Err e) ps ls told are = tt
 
--- the lines that were made are over those of the deeds
-pub made_lines : {E : Type 0} (plan : List (List ℕ)) (rolled : Rolled) (told : Result (Vec (Vec Line Global) Global) E) (result : Result (Vec Line Global) E) (parts : Vec (Vec Line Global) Global) (now new : List Held)
-    → told ≡ Ok parts → now ≡ new → IfOk result (λ lines. lines.items ≡ rolled_lines plan rolled (lines_of parts.items) now)
-    → IfOk result (λ lines. (parts : Vec (Vec Line Global) Global) × (told ≡ Ok parts) × (lines.items ≡ rolled_lines plan rolled (lines_of parts.items) new))
-made_lines plan rolled told (Err e) parts now new is same are = tt
-made_lines plan rolled told (Ok lines) parts now new is same are = (parts, is, are ∙ ap (λ (ws : List Held). rolled_lines plan rolled (lines_of parts.items) ws) same)
-
-module _ {B E : Type 0} (meaning : B → Meaning) (x y : Members B) (percent : ℕ) (plan : List (List ℕ)) (old new : List Held) (rolled : Rolled) (told : Result (Vec (Vec Line Global) Global) E) (result : Result (Vec Line Global) E)
-    (is_plan : IsPlan x.machines x.per_machine percent plan) (through : RollsThrough meaning plan x old rolled told y new)
-    (lines : IfOk result (λ lines. (parts : Vec (Vec Line Global) Global) × (told ≡ Ok parts) × (lines.items ≡ rolled_lines plan rolled (lines_of parts.items) new))) where
+module _ {B E : Type 0} (meaning : B → Meaning) (x y : Members B) (percent : ℕ) (plan : List (List ℕ)) (old new : List Held) (rolled : Rolled) (lines result : Result (Vec Line Global) E)
+    (is_plan : IsPlan x.machines x.per_machine percent plan) (some : AllByRecursion (λ (wave : List ℕ). 0 < length wave) plan) (through : RollsThrough meaning plan x old rolled lines y new)
+    (now : List Held) (same : now ≡ new) (told : IfOk result (λ all. AreFollowed lines (end_lines rolled (length plan) now) all.items)) where
   abbrev deeds : List Piece
-  deeds = through.restarted.pieces
+  deeds = through.rolls.pieces
 
-  waves : Rolling (length plan) 0 plan rolled deeds
-  waves = rolled_waves (length plan) 0 plan false old through.calls rolled through.drives.between through.drives.goes deeds through.restarted.answered
-
-  abbrev made : Rolled
-  made = record { waves = length waves.pieces; halted = rolled.halted }
-
-  made_is : made ≡ rolled
-  made_is = ap (λ (n : ℕ). record { waves = n; halted = rolled.halted }) (sym (waves.count ∙ omega arith))
+  abbrev ends : List Line
+  ends = end_lines rolled (length plan) new
 
   abbrev all : List Piece
-  all = flat_map (λ (wave : List Piece). wave) waves.pieces ++ ends_of made (length plan) new
+  all = deeds ++ map Says ends
 
-  woven : Woven deeds all
-  woven = woven_behind deeds (flat_map (λ (wave : List Piece). wave) waves.pieces) (ends_of made (length plan) new) waves.woven (ends_woven made (length plan) new)
+  waves : Rolling (length plan) 0 plan rolled deeds
+  waves = rolled_waves (length plan) through.left through.draining 0 plan false old through.calls rolled through.drives.between deeds through.drives.goes some through.rolls.puts
 
-  all_lines : lines_in all ≡ rolled_lines plan made (map piece_lines deeds) new
-  all_lines =
-      lines_more (flat_map (λ (wave : List Piece). wave) waves.pieces) (ends_of made (length plan) new)
-      ∙ (ap (λ (ls : List Line). ls ++ lines_in (ends_of made (length plan) new)) waves.lines
-      ∙ ap (λ (ls : List Line). waves_lines 1 (length plan) (take (length waves.pieces) plan) (map piece_lines deeds) ++ (line.Rolled rolled.halted (length waves.pieces) (length plan) ∷ ls)) (says_lines new))
-
-  lines_are : IfOk result (λ lines. lines.items ≡ lines_in all)
-  lines_are = IfOk-weaker result (λ lines. (parts : Vec (Vec Line Global) Global) × (told ≡ Ok parts) × (lines.items ≡ rolled_lines plan rolled (lines_of parts.items) new)) (λ lines. lines.items ≡ lines_in all)
-      (λ lines are. are.2
-      ∙ (ap (λ (ps : List (List Line)). rolled_lines plan rolled ps new) (own_parts through.first told deeds are.0 are.1 through.none through.restarted.parts)
-      ∙ (ap (λ (r : Rolled). rolled_lines plan r (map piece_lines deeds) new) (sym made_is) ∙ sym all_lines)))
-      lines
+  count : rolled.waves ≡ length waves.pieces
+  count = waves.count ∙ omega arith
 
   rolls : Rolls (fleet_in x) percent all
   rolls = record {
@@ -104,17 +71,22 @@ module _ {B E : Type 0} (meaning : B → Meaning) (x y : Members B) (percent : �
       texts = map watch_line new;
       each = waves.each;
       halt = waves.halted;
-      are = refl;
+      are = ap₂ (λ (ps : List Piece) (n : ℕ). ps ++ (Says (line.Rolled rolled.halted n (length plan)) ∷ map Says (watch_lines new))) waves.are count
+          ∙ ap (λ (ps : List Piece). flat_map (λ (wave : List Piece). wave) waves.pieces ++ (Says (line.Rolled rolled.halted (length waves.pieces) (length plan)) ∷ ps)) (said_watches new);
     };
   }
 
   calls_are : calls_in all ≡ through.calls
-  calls_are = woven_calls deeds all woven ∙ told_calls through.calls deeds through.restarted.answered
+  calls_are =
+      calls_more deeds (map Says ends) ∙ ap (λ (cs : List FleetCall). calls_in deeds ++ cs) (said_calls ends) ∙ append-nil (calls_in deeds)
+      ∙ told_calls through.calls _ through.left false through.draining deeds through.rolls.puts
 
   pub rollover_plays : PlaysOrder meaning (fleet_in x) (order.Rollover percent) (holds_in x) old result (holds_in y) new
   unfolding rolls waves
   rollover_plays =
-      let goes = goes_with_woven meaning x.names (holds_in x) (holds_in y) deeds all no_lines result woven through.restarted.goes lines_are in
+      let goes = goes_with_more meaning x.names (holds_in x) (holds_in y) (holds_in y) deeds (map Says ends) lines no_lines result through.rolls.goes
+      (goes_with_said meaning x.names (holds_in y) ends no_lines (tt, watches_fit x.names new) tt)
+      (followed lines result deeds ends through.rolls.goes.lines_are (subst (λ (ws : List Held). IfOk result (λ all. AreFollowed lines (end_lines rolled (length plan) ws) all.items)) same told)) in
       record {
         pieces = all;
         goes = goes.goes;
@@ -124,8 +96,9 @@ module _ {B E : Type 0} (meaning : B → Meaning) (x y : Members B) (percent : �
         fit = goes.fit;
         heard = record {
           rolls = rolls;
-          drives = subst (λ (cs : List FleetCall). Drives plan old cs made new) (sym calls_are) (subst (λ (r : Rolled). Drives plan old through.calls r new) (sym made_is) through.drives);
+          drives = subst (λ (cs : List FleetCall). Drives plan old cs (record { waves = length waves.pieces; halted = rolled.halted }) new) (sym calls_are)
+              (subst (λ (n : ℕ). Drives plan old through.calls (record { waves = n; halted = rolled.halted }) new) count through.drives);
           texts_are = refl;
         };
-        lines_are = lines_are;
+        lines_are = goes.lines_are;
       }

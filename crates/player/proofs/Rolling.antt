@@ -1,7 +1,7 @@
--- The pieces of a rollover: those of its deeds, with a line before each wave.
-use Rattle.std.proofs.Common.{◌≡◌, ℕ, suc, ◌+◌, ◌≤◌, Bool, true, false, List, [], ◌∷◌, ◌++◌, length, take, map, None, refl, sym, ap, subst, ◌∙◌, arith, nat_lt}
-use Rattle.std.specs.List.{flat_map}
-use Rattle.std.proofs.lemmas.List.{length-append, length-map, map-append, take_at, drop_at}
+-- The pieces of a rollover, wave by wave.
+use Rattle.std.proofs.Common.{◌≡◌, ℕ, suc, ◌+◌, ◌<◌, Bool, true, false, List, [], ◌∷◌, ◌++◌, length, map, None, refl, sym, ap, subst, ◌∙◌, arith, nat_lt, append_assoc}
+use Rattle.std.specs.List.{AllByRecursion, flat_map}
+use Rattle.std.proofs.lemmas.Grind.{flat_map-append}
 use Rattle.std.proofs.lemmas.Bool.Decides.{nat_tests}
 use Rattle.rollover_watch.specs.Watches.{Held}
 use Rattle.rollover_driver.specs.declared.driving.Rolled.{Rolled}
@@ -10,119 +10,94 @@ use Rattle.rollover_driver.specs.Calls as call
 use Rattle.rollover_driver.specs.Drives.{WavesGo}
 use Rattle.printed_lines.specs.declared.line.Line.{Line}
 use Rattle.printed_lines.specs.declared.line.Line.TheVariants as line
-use Rattle.printed_lines.specs.Lines.{IsOf}
 use Rattle.printed_lines.specs.declared.line.Deed.{Deed}
 use Rattle.printed_lines.specs.declared.line.Deed.TheVariants.{Drain, Start}
-use Rattle.transcript.specs.Pieces.{Piece, Says, lines_in, piece_lines}
-use Rattle.transcript.specs.Shapes.{EachActs, WavesPieces}
-use Rattle.transcript.specs.Watching.{calls_in, drained_by, piece_calls, started_by}
-use Rattle.player.specs.Restarts.{AreAnswered}
-use Rattle.player.proofs.Chains.{lines_more}
-use Rattle.player.specs.Rolled.{deed_count, joined_parts, waves_lines}
+use Rattle.transcript.specs.Pieces.{Piece, Says}
+use Rattle.transcript.specs.Shapes.{ActPiece, EachActs, WavesPieces}
+use Rattle.transcript.specs.Watching.{calls_in, piece_calls}
+use Rattle.player.specs.Restarts.{IsCall, Puts, head_at, heads_left}
+use Rattle.player.specs.Rolled.{wave_lines}
 
--- the same pieces, with lines between them that name no table
-pub data Woven : (deeds all : List Piece) → Type 0 where
-  ends : (deeds all : List Piece)
-      → deeds ≡ []
-      → all ≡ []
-      → Woven deeds all
-  says : (deeds all : List Piece) (l : Line) (others : List Piece)
-      → ((names : List (List ℕ)) → IsOf names l)
-      → Woven deeds others
-      → all ≡ Says l ∷ others
-      → Woven deeds all
-  deed : (deeds all : List Piece) (p : Piece) (rest others : List Piece)
-      → deeds ≡ p ∷ rest
-      → Woven rest others
-      → all ≡ p ∷ others
-      → Woven deeds all
+-- ---- the calls that pieces tell
 
-woven_front : (front deeds all : List Piece) → Woven deeds all → Woven (front ++ deeds) (front ++ all)
-woven_front [] deeds all woven = woven
-woven_front (p ∷ front) deeds all woven = Woven.deed (p ∷ (front ++ deeds)) (p ∷ (front ++ all)) p (front ++ deeds) (front ++ all) refl (woven_front front deeds all woven) refl
+pub said_calls : (ls : List Line) → calls_in (map Says ls) ≡ []
+said_calls [] = refl
+said_calls (l ∷ ls) = said_calls ls
 
--- pieces of calls that are joined come apart
-pub record Apart (cs ds : List FleetCall) (ps : List Piece) : Type 0 where
-  pub front : List Piece
-  pub back : List Piece
-  pub is : ps ≡ front ++ back
-  pub first : AreAnswered cs front
-  pub second : AreAnswered ds back
+pub calls_more : (ps qs : List Piece) → calls_in (ps ++ qs) ≡ calls_in ps ++ calls_in qs
+calls_more ps qs = flat_map-append piece_calls ps qs
 
-apart : (cs ds : List FleetCall) (ps : List Piece) → AreAnswered (cs ++ ds) ps → Apart cs ds ps
-apart [] ds ps are = record { front = []; back = ps; is = refl; first = tt; second = are }
-apart (call.Drains leaf got ∷ cs) ds [] are = absurd are
-apart (call.Starts leaf got ∷ cs) ds [] are = absurd are
-apart (call.Drains leaf got ∷ cs) ds (p ∷ ps) are =
-    let rest = apart cs ds ps are.1 in
-    record { front = p ∷ rest.front; back = rest.back; is = ap (λ (qs : List Piece). p ∷ qs) rest.is; first = (are.0, rest.first); second = rest.second }
-apart (call.Starts leaf got ∷ cs) ds (p ∷ ps) are =
-    let rest = apart cs ds ps are.1 in
-    record { front = p ∷ rest.front; back = rest.back; is = ap (λ (qs : List Piece). p ∷ qs) rest.is; first = (are.0, rest.first); second = rest.second }
+call_told : (c : FleetCall) (p : Piece) → IsCall c p → piece_calls p ≡ c ∷ []
+call_told (call.Drains leaf got) p is = ap piece_calls is.0.2 ∙ ap (λ g. call.Drains leaf g ∷ []) (sym is.1)
+call_told (call.Starts leaf got) p is = ap piece_calls is.0.2 ∙ ap (λ g. call.Starts leaf g ∷ []) (sym is.1)
 
--- the drains of these leaves
-drains_act : (leaves : List ℕ) (cs : List FleetCall) (ps : List Piece) → AreOfEach call.Drains leaves cs → AreAnswered cs ps → EachActs (Drain None) leaves ps
-drains_act [] [] [] are answered = tt
-drains_act [] [] (p ∷ ps) are answered = absurd answered
-drains_act [] (c ∷ cs) ps are answered = absurd are
-drains_act (leaf ∷ leaves) [] ps are answered = absurd are
-drains_act (leaf ∷ leaves) (c ∷ cs) [] are answered = absurd (subst (λ (d : FleetCall). AreAnswered (d ∷ cs) []) are.0.1 answered)
-drains_act (leaf ∷ leaves) (c ∷ cs) (p ∷ ps) are answered =
-    let all : AreAnswered (call.Drains leaf are.0.0 ∷ cs) (p ∷ ps) = subst (λ (d : FleetCall). AreAnswered (d ∷ cs) (p ∷ ps)) are.0.1 answered in
-    ((all.0.0, all.0.1, all.0.2), drains_act leaves cs ps are.1 all.1)
+-- those of a call and of the pieces behind it
+told_more : (c : FleetCall) (cs : List FleetCall) (ls : List Line) (p : Piece) (ps qs : List Piece) → ps ≡ map Says ls ++ p ∷ qs → IsCall c p → calls_in qs ≡ cs → calls_in ps ≡ c ∷ cs
+told_more c cs ls p ps qs are is rest =
+    ap calls_in are ∙ calls_more (map Says ls) (p ∷ qs) ∙ ap (λ (ds : List FleetCall). ds ++ calls_in (p ∷ qs)) (said_calls ls)
+    ∙ ap (λ (ds : List FleetCall). ds ++ calls_in qs) (call_told c p is) ∙ ap (λ (ds : List FleetCall). c ∷ ds) rest
 
--- and their starts
-starts_act : (leaves : List ℕ) (cs : List FleetCall) (ps : List Piece) → AreOfEach call.Starts leaves cs → AreAnswered cs ps → EachActs Start leaves ps
-starts_act [] [] [] are answered = tt
-starts_act [] [] (p ∷ ps) are answered = absurd answered
-starts_act [] (c ∷ cs) ps are answered = absurd are
-starts_act (leaf ∷ leaves) [] ps are answered = absurd are
-starts_act (leaf ∷ leaves) (c ∷ cs) [] are answered = absurd (subst (λ (d : FleetCall). AreAnswered (d ∷ cs) []) are.0.1 answered)
-starts_act (leaf ∷ leaves) (c ∷ cs) (p ∷ ps) are answered =
-    let all : AreAnswered (call.Starts leaf are.0.0 ∷ cs) (p ∷ ps) = subst (λ (d : FleetCall). AreAnswered (d ∷ cs) (p ∷ ps)) are.0.1 answered in
-    ((all.0.0, all.0.1, all.0.2), starts_act leaves cs ps are.1 all.1)
+pub told_calls : (cs : List FleetCall) (heads heads' : List Line) (draining draining' : Bool) (ps : List Piece) → Puts heads draining cs ps heads' draining' → calls_in ps ≡ cs
+told_calls [] heads heads' draining draining' ps puts = ap calls_in puts.0
+told_calls (call.Drains leaf got ∷ cs) heads heads' draining draining' ps puts =
+    told_more (call.Drains leaf got) cs (head_at heads draining) puts.0 ps puts.1 puts.3 puts.2 (told_calls cs (heads_left heads draining) heads' true draining' puts.1 puts.4)
+told_calls (call.Starts leaf got ∷ cs) heads heads' draining draining' ps puts =
+    told_more (call.Starts leaf got) cs [] puts.0 ps puts.1 puts.3 puts.2 (told_calls cs heads heads' false draining' puts.1 puts.4)
 
--- the calls that the pieces tell are those that they answer
-pub told_calls : (cs : List FleetCall) (ps : List Piece) → AreAnswered cs ps → calls_in ps ≡ cs
-told_calls [] [] are = refl
-told_calls [] (p ∷ ps) are = absurd are
-told_calls (call.Drains leaf got ∷ cs) [] are = absurd are
-told_calls (call.Starts leaf got ∷ cs) [] are = absurd are
-told_calls (call.Drains leaf got ∷ cs) (p ∷ ps) are =
-    let one = are.0 in
-    ap (λ (q : Piece). piece_calls q ++ calls_in ps) one.2
-    ∙ (ap (λ (ds : List FleetCall). (call.Drains leaf (drained_by one.1) ∷ []) ++ ds) (told_calls cs ps are.1) ∙ ap (λ g. call.Drains leaf g ∷ cs) (sym one.3))
-told_calls (call.Starts leaf got ∷ cs) (p ∷ ps) are =
-    let one = are.0 in
-    ap (λ (q : Piece). piece_calls q ++ calls_in ps) one.2
-    ∙ (ap (λ (ds : List FleetCall). (call.Starts leaf (started_by one.1) ∷ []) ++ ds) (told_calls cs ps are.1) ∙ ap (λ g. call.Starts leaf g ∷ cs) (sym one.3))
+-- ---- waves
 
-pub woven_calls : (deeds all : List Piece) → Woven deeds all → calls_in all ≡ calls_in deeds
-woven_calls deeds all (Woven.ends d a none empty) = ap (λ (ps : List Piece). calls_in ps) (empty ∙ sym none)
-woven_calls deeds all (Woven.says d a l others fits woven is) = ap (λ (ps : List Piece). calls_in ps) is ∙ woven_calls d others woven
-woven_calls deeds all (Woven.deed d a p rest others first woven is) =
-    ap (λ (ps : List Piece). calls_in ps) is ∙ (ap (λ (cs : List FleetCall). piece_calls p ++ cs) (woven_calls rest others woven) ∙ ap (λ (ps : List Piece). calls_in ps) (sym first))
+module _ (heads heads' : List Line) (draining' : Bool) where
+  -- these pieces begin with a deed of each leaf
+  pub record Parted (deed : Deed) (leaves : List ℕ) (draining : Bool) (more : List FleetCall) (ps : List Piece) : Type 0 where
+    pub front : List Piece
+    pub back : List Piece
+    pub is : ps ≡ front ++ back
+    pub acts : EachActs deed leaves front
+    pub rest : Puts heads draining more back heads' draining'
 
--- ---- lists
+  -- a call of this kind comes with its piece alone
+  module _ {A : Type 0} (kind : ℕ → A → FleetCall) (deed : Deed) (draining : Bool)
+      (first : (leaf : ℕ) (got : A) (cs : List FleetCall) (ps : List Piece) → Puts heads draining (kind leaf got ∷ cs) ps heads' draining'
+      → (p : Piece) × (others : List Piece) × ActPiece leaf deed p × (ps ≡ p ∷ others) × Puts heads draining cs others heads' draining') where
+    deeds_part : (leaves : List ℕ) (cs more : List FleetCall) (ps : List Piece) → AreOfEach kind leaves cs → Puts heads draining (cs ++ more) ps heads' draining' → Parted deed leaves draining more ps
+    deeds_part [] [] more ps are puts = record { front = []; back = ps; is = refl; acts = tt; rest = puts }
+    deeds_part [] (c ∷ cs) more ps are puts = absurd are
+    deeds_part (leaf ∷ leaves) [] more ps are puts = absurd are
+    deeds_part (leaf ∷ leaves) (c ∷ cs) more ps are puts =
+        let own = first leaf are.0.0 (cs ++ more) ps (subst (λ (d : FleetCall). Puts heads draining (d ∷ (cs ++ more)) ps heads' draining') are.0.1 puts) in
+        let others = deeds_part leaves cs more own.1 are.1 own.4 in
+        record { front = own.0 ∷ others.front; back = others.back; is = own.3 ∙ ap (λ (qs : List Piece). own.0 ∷ qs) others.is; acts = (own.2, others.acts); rest = others.rest }
 
-take_none : {A : Type 0} (xs : List A) → take 0 xs ≡ []
-take_none [] = refl
-take_none (x ∷ xs) = refl
+  all_drains : (leaves : List ℕ) (cs more : List FleetCall) (ps : List Piece) → AreOfEach call.Drains leaves cs → Puts heads true (cs ++ more) ps heads' draining' → Parted (Drain None) leaves true more ps
+  all_drains = deeds_part call.Drains (Drain None) true (λ leaf got cs ps puts. (puts.0, puts.1, puts.2.0, puts.3, puts.4))
 
-joined_all : (ps : List Piece) → joined_parts (map piece_lines ps) ≡ lines_in ps
-joined_all [] = refl
-joined_all (p ∷ ps) = ap (λ (ls : List Line). piece_lines p ++ ls) (joined_all ps)
+  -- the first of the starts ends the drains
+  all_starts : (leaves : List ℕ) (cs more : List FleetCall) (ps : List Piece) → 0 < length leaves → AreOfEach call.Starts leaves cs → Puts heads true (cs ++ more) ps heads' draining' → Parted Start leaves false more ps
+  all_starts [] cs more ps some are puts = absurd (omega (arith, some))
+  all_starts (leaf ∷ leaves) [] more ps some are puts = absurd are
+  all_starts (leaf ∷ leaves) (c ∷ cs) more ps some are puts =
+      deeds_part call.Starts Start false (λ l got ds qs own. (own.0, own.1, own.2.0, own.3, own.4)) (leaf ∷ leaves) (c ∷ cs) more ps are
+      (subst (λ (d : FleetCall). Puts heads false (d ∷ (cs ++ more)) ps heads' draining') (sym are.0.1) (subst (λ (d : FleetCall). Puts heads true (d ∷ (cs ++ more)) ps heads' draining') are.0.1 puts))
 
--- a deed of each leaf is one piece
-acts_count : (act : Deed) (leaves : List ℕ) (ps : List Piece) → EachActs act leaves ps → length ps ≡ length leaves
-acts_count act [] [] are = refl
-acts_count act [] (p ∷ ps) are = absurd are
-acts_count act (leaf ∷ leaves) [] are = absurd are
-acts_count act (leaf ∷ leaves) (p ∷ ps) are = ap suc (acts_count act leaves ps are.1)
+-- the first of the drains begins the wave
+pub record Begins (l : Line) (heads : List Line) (calls : List FleetCall) (ps : List Piece) (heads' : List Line) (draining' : Bool) : Type 0 where
+  pub others : List Piece
+  pub is : ps ≡ Says l ∷ others
+  pub rest : Puts heads true calls others heads' draining'
 
-none_answered : (ps : List Piece) → AreAnswered [] ps → ps ≡ []
-none_answered [] are = refl
-none_answered (p ∷ ps) are = absurd are
+begins : (l : Line) (heads heads' : List Line) (draining' : Bool) (leaves : List ℕ) (cs more : List FleetCall) (ps : List Piece) → 0 < length leaves → AreOfEach call.Drains leaves cs → Puts (l ∷ heads) false (cs ++ more) ps heads' draining'
+    → Begins l heads (cs ++ more) ps heads' draining'
+begins l heads heads' draining' [] cs more ps some are puts = absurd (omega (arith, some))
+begins l heads heads' draining' (leaf ∷ leaves) [] more ps some are puts = absurd are
+begins l heads heads' draining' (leaf ∷ leaves) (c ∷ cs) more ps some are puts =
+    let own = subst (λ (d : FleetCall). Puts (l ∷ heads) false (d ∷ (cs ++ more)) ps heads' draining') are.0.1 puts in
+    record {
+      others = own.0 ∷ own.1;
+      is = own.3;
+      rest = subst (λ (d : FleetCall). Puts heads true (d ∷ (cs ++ more)) (own.0 ∷ own.1) heads' draining') (sym are.0.1) (own.0, own.1, own.2, refl, own.4);
+    }
+
+-- ---- rollovers
 
 below_suc : (a b : ℕ) → nat_lt (suc a) (suc b) ≡ nat_lt a b
 below_suc a b = grind (arith, nat_tests)
@@ -130,90 +105,49 @@ below_suc a b = grind (arith, nat_tests)
 first_below : (a : ℕ) → nat_lt 0 (suc a) ≡ true
 first_below a = grind (arith, nat_tests)
 
--- ---- waves
-
--- the pieces of waves, of which these are the deeds
-pub record Rolling (total begun : ℕ) (waves : List (List ℕ)) (rolled : Rolled) (deeds : List Piece) : Type 0 where
+-- these are the pieces of waves, of which `begun` were begun before
+pub record Rolling (total begun : ℕ) (waves : List (List ℕ)) (rolled : Rolled) (all : List Piece) : Type 0 where
   pub pieces : List (List Piece)
   pub each : WavesPieces (suc begun) total waves pieces
   pub count : rolled.waves ≡ begun + length pieces
   pub halted : rolled.halted ≡ nat_lt (length pieces) (length waves)
-  pub woven : Woven deeds (flat_map (λ (wave : List Piece). wave) pieces)
-  pub lines : lines_in (flat_map (λ (wave : List Piece). wave) pieces) ≡ waves_lines (suc begun) total (take (length pieces) waves) (map piece_lines deeds)
+  pub are : all ≡ flat_map (λ (wave : List Piece). wave) pieces
 
--- no further wave is begun
-no_more : (total begun : ℕ) (waves : List (List ℕ)) (rolled : Rolled) (deeds : List Piece) → deeds ≡ [] → rolled ≡ record { waves = begun; halted = nat_lt 0 (length waves) } → Rolling total begun waves rolled deeds
-no_more total begun waves rolled deeds none is = record {
-  pieces = [];
-  each = tt;
-  count = ap (λ (r : Rolled). r.waves) is ∙ omega arith;
-  halted = ap (λ (r : Rolled). r.halted) is;
-  woven = Woven.ends deeds [] none refl;
-  lines = ap (λ (ws : List (List ℕ)). waves_lines (suc begun) total ws (map piece_lines deeds)) (sym (take_none waves));
-}
+module _ (total : ℕ) (heads' : List Line) (draining' : Bool) where
+  -- no further wave is begun
+  no_more : (begun : ℕ) (waves : List (List ℕ)) (heads : List Line) (calls : List FleetCall) (rolled : Rolled) (ps : List Piece) → calls ≡ [] → rolled ≡ record { waves = begun; halted = nat_lt 0 (length waves) }
+      → Puts heads false calls ps heads' draining' → Rolling total begun waves rolled ps
+  no_more begun waves heads calls rolled ps none is puts = record {
+    pieces = [];
+    each = tt;
+    count = ap (λ (r : Rolled). r.waves) is ∙ omega arith;
+    halted = ap (λ (r : Rolled). r.halted) is;
+    are = (subst (λ (cs : List FleetCall). Puts heads false cs ps heads' draining') none puts).0;
+  }
 
--- a wave, and those behind it
-one_wave : (total begun : ℕ) (first : List ℕ) (others : List (List ℕ)) (rolled : Rolled) (fd fs fr deeds : List Piece) → deeds ≡ (fd ++ fs) ++ fr → EachActs (Drain None) first fd → EachActs Start first fs
-    → Rolling total (suc begun) others rolled fr → Rolling total begun (first ∷ others) rolled deeds
-one_wave total begun first others rolled fd fs fr deeds joined drained started sub =
-    let l : Line = line.Wave (suc begun) total first in
-    let rest : List Piece = flat_map (λ (wave : List Piece). wave) sub.pieces in
-    let size : deed_count first ≡ length (map piece_lines (fd ++ fs)) = both_counts first fd fs (acts_count (Drain None) first fd drained) (acts_count Start first fs started) in
-    let parts : map piece_lines deeds ≡ map piece_lines (fd ++ fs) ++ map piece_lines fr = ap (λ (ps : List Piece). map piece_lines ps) joined ∙ map-append piece_lines (fd ++ fs) fr in
-    record {
-      pieces = (Says l ∷ (fd ++ fs)) ∷ sub.pieces;
-      each = (record { drains = fd; starts = fs; drained = drained; started = started; are = refl }, sub.each);
-      count = sub.count ∙ omega arith;
-      halted = sub.halted ∙ sym (below_suc (length sub.pieces) (length others));
-      woven = Woven.says deeds (Says l ∷ ((fd ++ fs) ++ rest)) l ((fd ++ fs) ++ rest) (λ names. tt)
-          (subst (λ (ps : List Piece). Woven ps ((fd ++ fs) ++ rest)) (sym joined) (woven_front (fd ++ fs) fr rest sub.woven)) refl;
-      lines = ap (λ (ls : List Line). l ∷ ls) (lines_more (fd ++ fs) rest)
-          ∙ (ap (λ (ls : List Line). l ∷ (lines_in (fd ++ fs) ++ ls)) sub.lines
-          ∙ (ap (λ (ls : List Line). (l ∷ ls) ++ waves_lines (suc (suc begun)) total (take (length sub.pieces) others) (map piece_lines fr))
-          (sym (joined_all (fd ++ fs)) ∙ ap (λ (ls : List (List Line)). joined_parts ls) (sym (take_at (map piece_lines (fd ++ fs)) (map piece_lines fr) (deed_count first) (sym size))))
-          ∙ (ap (λ (ls : List (List Line)). (l ∷ joined_parts (take (deed_count first) (map piece_lines (fd ++ fs) ++ map piece_lines fr))) ++ waves_lines (suc (suc begun)) total (take (length sub.pieces) others) ls)
-          (sym (drop_at (map piece_lines (fd ++ fs)) (map piece_lines fr) (deed_count first) (sym size)))
-          ∙ ap (λ (ls : List (List Line)). waves_lines (suc begun) total (first ∷ take (length sub.pieces) others) ls) (sym parts))));
-    }
-  where
-    both_counts : (first : List ℕ) (fd fs : List Piece) → length fd ≡ length first → length fs ≡ length first → deed_count first ≡ length (map piece_lines (fd ++ fs))
-    both_counts first fd fs one other = omega (arith, one, other, length-map (fd ++ fs) piece_lines, length-append fd fs)
-
-at_most : (r : Rolled) (b n k : ℕ) → r.waves ≡ b → k ≤ n → r.waves ≤ b + n
-at_most r b n k is within = omega arith
-
-one_more : (r : Rolled) (b k : ℕ) → r.waves ≤ b + 1 + k → r.waves ≤ b + suc k
-one_more r b k within = omega arith
-
-pub rolled_waves : (total begun : ℕ) (waves : List (List ℕ)) (asked : Bool) (old : List Held) (calls : List FleetCall) (rolled : Rolled) (new : List Held) → WavesGo total begun waves asked old calls rolled new
-    → (deeds : List Piece) → AreAnswered calls deeds → Rolling total begun waves rolled deeds
-rolled_waves total begun [] asked old calls rolled new goes deeds answered =
-    no_more total begun [] rolled deeds (none_answered deeds (subst (λ (ds : List FleetCall). AreAnswered ds deeds) goes.0 answered)) goes.1
-rolled_waves total begun (first ∷ others) true old calls rolled new goes deeds answered =
-    no_more total begun (first ∷ others) rolled deeds (none_answered deeds (subst (λ (ds : List FleetCall). AreAnswered ds deeds) goes.0 answered))
-    (goes.1 ∙ ap (λ (h : Bool). record { waves = begun; halted = h }) (sym (first_below (length others))))
-rolled_waves total begun (first ∷ others) false old calls rolled new goes deeds answered =
-    let wave : AreOfWave first goes.0 = goes.4 in
-    let one = apart goes.0 goes.1 deeds (subst (λ (ds : List FleetCall). AreAnswered ds deeds) goes.5 answered) in
-    let two = apart wave.0 wave.1 one.front (subst (λ (ds : List FleetCall). AreAnswered ds one.front) wave.4 one.first) in
-    let next : begun + 1 ≡ suc begun = omega arith in
-    one_wave total begun first others rolled two.front two.back one.back deeds (one.is ∙ ap (λ (ps : List Piece). ps ++ one.back) two.is)
-    (drains_act first wave.0 two.front wave.2 two.first) (starts_act first wave.1 two.back wave.3 two.second)
-    (subst (λ (k : ℕ). Rolling total k others rolled one.back) next (rolled_waves total (begun + 1) others goes.2 goes.3 goes.1 rolled new goes.7 one.back one.second))
-
--- no more waves are begun than there are
-pub waves_within : (total begun : ℕ) (waves : List (List ℕ)) (asked : Bool) (old : List Held) (calls : List FleetCall) (rolled : Rolled) (new : List Held) → WavesGo total begun waves asked old calls rolled new
-    → rolled.waves ≤ begun + length waves
-waves_within total begun [] asked old calls rolled new goes = at_most rolled begun 0 0 (ap (λ (k : Rolled). k.waves) goes.1) (omega arith)
-waves_within total begun (first ∷ others) true old calls rolled new goes = at_most rolled begun (suc (length others)) 0 (ap (λ (k : Rolled). k.waves) goes.1) (omega arith)
-waves_within total begun (first ∷ others) false old calls rolled new goes =
-    one_more rolled begun (length others) (waves_within total (begun + 1) others goes.2 goes.3 goes.1 rolled new goes.7)
-
--- lines behind all
-pub woven_behind : (deeds all more : List Piece) → Woven deeds all → Woven [] more → Woven deeds (all ++ more)
-woven_behind deeds all more (Woven.ends d a none empty) back =
-    subst (λ (ps : List Piece). Woven ps (a ++ more)) (sym none) (subst (λ (ps : List Piece). Woven [] (ps ++ more)) (sym empty) back)
-woven_behind deeds all more (Woven.says d a l others fits woven is) back =
-    Woven.says d (a ++ more) l (others ++ more) fits (woven_behind d others more woven back) (ap (λ (ps : List Piece). ps ++ more) is)
-woven_behind deeds all more (Woven.deed d a p rest others first woven is) back =
-    Woven.deed d (a ++ more) p rest (others ++ more) first (woven_behind rest others more woven back) (ap (λ (ps : List Piece). ps ++ more) is)
+  pub rolled_waves : (begun : ℕ) (waves : List (List ℕ)) (asked : Bool) (old : List Held) (calls : List FleetCall) (rolled : Rolled) (new : List Held) (ps : List Piece) → WavesGo total begun waves asked old calls rolled new
+      → AllByRecursion (λ (wave : List ℕ). 0 < length wave) waves → Puts (wave_lines (suc begun) total waves) false calls ps heads' draining' → Rolling total begun waves rolled ps
+  rolled_waves begun [] asked old calls rolled new ps goes some puts = no_more begun [] [] calls rolled ps goes.0 goes.1 puts
+  rolled_waves begun (first ∷ others) true old calls rolled new ps goes some puts =
+      no_more begun (first ∷ others) (wave_lines (suc begun) total (first ∷ others)) calls rolled ps goes.0
+      (goes.1 ∙ ap (λ (h : Bool). record { waves = begun; halted = h }) (sym (first_below (length others)))) puts
+  rolled_waves begun (first ∷ others) false old calls rolled new ps goes some puts =
+      let wave : AreOfWave first goes.0 = goes.4 in
+      let l : Line = line.Wave (suc begun) total first in
+      let heads = wave_lines (suc (suc begun)) total others in
+      let calls_are : calls ≡ wave.0 ++ (wave.1 ++ goes.1) = goes.5 ∙ ap (λ (cs : List FleetCall). cs ++ goes.1) wave.4 ∙ append_assoc wave.0 wave.1 goes.1 in
+      let lead = begins l heads heads' draining' first wave.0 (wave.1 ++ goes.1) ps some.0 wave.2 (subst (λ (cs : List FleetCall). Puts (l ∷ heads) false cs ps heads' draining') calls_are puts) in
+      let drains = all_drains heads heads' draining' first wave.0 (wave.1 ++ goes.1) lead.others wave.2 lead.rest in
+      let starts = all_starts heads heads' draining' first wave.1 goes.1 drains.back some.0 wave.3 drains.rest in
+      let next : begun + 1 ≡ suc begun = omega arith in
+      let sub = rolled_waves (suc begun) others goes.2 goes.3 goes.1 rolled new starts.back
+      (subst (λ (k : ℕ). WavesGo total k others goes.2 goes.3 goes.1 rolled new) next goes.7) some.1 starts.rest in
+      let rest : List Piece = flat_map (λ (wave : List Piece). wave) sub.pieces in
+      record {
+        pieces = (Says l ∷ (drains.front ++ starts.front)) ∷ sub.pieces;
+        each = (record { drains = drains.front; starts = starts.front; drained = drains.acts; started = starts.acts; are = refl }, sub.each);
+        count = sub.count ∙ omega arith;
+        halted = sub.halted ∙ sym (below_suc (length sub.pieces) (length others));
+        are = lead.is ∙ ap (λ (qs : List Piece). Says l ∷ qs)
+            (drains.is ∙ ap (λ (qs : List Piece). drains.front ++ qs) (starts.is ∙ ap (λ (qs : List Piece). starts.front ++ qs) sub.are) ∙ sym (append_assoc drains.front starts.front rest));
+      }

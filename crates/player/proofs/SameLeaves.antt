@@ -1,5 +1,5 @@
 -- The leaves of a crew are as they were, and their callers' seats stand in rows that are as long.
-use Rattle.std.proofs.Common.{◌≡◌, ℕ, List, length, Option, Some, Result, Vec, Global, sym, ap, subst, ◌∙◌, arith}
+use Rattle.std.proofs.Common.{◌≡◌, ℕ, List, length, Option, Some, Result, Vec, Global, refl, sym, ap, subst, ◌∙◌, arith}
 use Rattle.std.specs.Prelude.{Bool, IfOk, is_some, slice_get}
 use Rattle.std.specs.List.{AllByRecursion}
 use Rattle.berth_face.specs.Berth.{Meaning}
@@ -12,7 +12,7 @@ use Rattle.printed_lines.specs.declared.line.Line.{Line}
 use Rattle.printed_lines.specs.Lines.{IsOf}
 use Rattle.transcript.specs.Pieces.{Piece, lines_in}
 use Rattle.transcript.specs.Counts.{deeds_in}
-use Rattle.leaf_moves.specs.Holds.{Hold, caller_in}
+use Rattle.leaf_moves.specs.Holds.{Hold}
 use Rattle.leaf_moves.specs.Stage.{Leaf}
 use Rattle.leaf_moves.specs.Plays.{Goes}
 use Rattle.leaf_deeds.specs.declared.leaf.OneLeaf.{OneLeaf}
@@ -22,7 +22,7 @@ use Rattle.player.specs.Stage.{held_of}
 use Rattle.player.specs.Members.{GoesWith, holds_in}
 use Rattle.player.proofs.Chains.{counted_calm, passes_if_none}
 use Rattle.player.proofs.HoldLists.{holds_back, holds_count}
-use Rattle.player.proofs.MemberSteps.{seats_still, with_parts}
+use Rattle.player.proofs.MemberSteps.{seats_of_rows, with_parts}
 
 module _ {B : Type 0} (x : Members B) (now : Vec (Vec SeatView Global) Global)
     (lengths : (t : ℕ) → length (row (lists_in now.items) t) ≡ length (row (lists_in x.rows.items) t)) where
@@ -37,13 +37,6 @@ module _ {B : Type 0} (x : Members B) (now : Vec (Vec SeatView Global) Global)
       let one = holds_back 0 leaf leaf x.tables.now x.leaves.items a (lists_in x.rows.items) (omega arith) was in
       let two = holds_back 0 leaf leaf x.tables.now x.leaves.items b (lists_in now.items) (omega arith) is in
       ap (λ (h : Hold B). h.held) one.2 ∙ (ap (λ (z : Option (OneLeaf B)). held_of z) (same_at x.leaves.items leaf one.0 two.0 one.1 two.1) ∙ ap (λ (h : Hold B). h.held) (sym two.2))
-
-  seats_same : (leaf : ℕ) (a b : Hold B) → slice_get xs leaf ≡ Some a → slice_get ys leaf ≡ Some b → (t : ℕ) → is_some (caller_in b.callers t) ≡ is_some (caller_in a.callers t)
-  seats_same leaf a b was is t =
-      let one = holds_back 0 leaf leaf x.tables.now x.leaves.items a (lists_in x.rows.items) (omega arith) was in
-      let two = holds_back 0 leaf leaf x.tables.now x.leaves.items b (lists_in now.items) (omega arith) is in
-      ap (λ (h : Hold B). is_some (caller_in h.callers t)) two.2
-      ∙ (seats_still leaf (lists_in x.rows.items) (lists_in now.items) lengths t ∙ ap (λ (h : Hold B). is_some (caller_in h.callers t)) (sym one.2))
 
   counts_same : length ys ≡ length xs
   counts_same = holds_count 0 x.tables.now x.leaves.items (lists_in now.items) ∙ sym (holds_count 0 x.tables.now x.leaves.items (lists_in x.rows.items))
@@ -65,7 +58,7 @@ module _ {B : Type 0} (x : Members B) (now : Vec (Vec SeatView Global) Global)
     };
     still = record {
       count = counts_same;
-      each = λ leaf a b was here. (ap (λ (z : Option (Leaf × B)). is_some z) (sym (held_same leaf a b was here)), seats_same leaf a b was here);
+      each = λ leaf a b was here. (ap (λ (z : Option (Leaf × B)). is_some z) (sym (held_same leaf a b was here)), (seats_of_rows x.tables.now x.leaves.items x.leaves.items (lists_in x.rows.items) (lists_in now.items) refl lengths).each leaf a b was here);
     };
     fit = fit;
     lines_are = told;

@@ -16,48 +16,57 @@ use Rattle.player.specs.Stage.{IsMember}
 use Rattle.player.proofs.Calling.{stands_at}
 use Rattle.player.proofs.Columns.{column_get, column_with, element_at, lists_count, lists_with, only_rows, only_with, row_is}
 
-module _ (leaf : ℕ) (tables : List Shared) (rows : List (Vec SeatView Global)) (table : ℕ) (v : Vec SeatView Global)
-    (is : IsColumn leaf tables (lists_in rows)) (within : table < length tables) (has : HasSeat leaf table (lists_in rows)) (read : v ≡ slice_index_or rows table v) where
-  low : table < length rows
-  low = omega (arith, lists_count rows, is.sizes.count, within)
+-- the row of a table that was read, in which callers have a seat at the leaf
+pub record RowRead (leaf : ℕ) (tables : List Shared) (rows : List (Vec SeatView Global)) (table : ℕ) (v : Vec SeatView Global) : Type 0 where
+  pub is : IsColumn leaf tables (lists_in rows)
+  pub within : table < length tables
+  pub has : HasSeat leaf table (lists_in rows)
+  pub read : v ≡ slice_index_or rows table v
 
-  row_there : slice_get v.items leaf ≡ Some has.0
-  row_there = ap (λ (xs : List SeatView). slice_get xs leaf) (row_is rows table v low read) ∙ has.1
+module _ {leaf : ℕ} {tables : List Shared} {rows : List (Vec SeatView Global)} {table : ℕ} {v : Vec SeatView Global} (r : RowRead leaf tables rows table v) where
+  low : table < length rows
+  low = omega (arith, lists_count rows, r.is.sizes.count, r.within)
+
+  row_there : slice_get v.items leaf ≡ Some r.has.0
+  row_there = ap (λ (xs : List SeatView). slice_get xs leaf) (row_is rows table v low r.read) ∙ r.has.1
 
   -- the row has a seat at the leaf
   pub row_wide : leaf < vec_len v
-  row_wide = omega (arith, v.ok.0, slice_get_within v.items leaf has.0 row_there)
+  row_wide = omega (arith, v.ok.0, slice_get_within v.items leaf r.has.0 row_there)
 
-  module _ (c : SeatView) (seat : c ≡ slice_index_or v.items leaf c) where
-    -- and that is the column's
-    pub there : slice_get (column leaf (lists_in rows)) table ≡ Some (Some c)
-    there =
-        column_get leaf (lists_in rows) table (omega (arith, low, lists_count rows))
-        ∙ ap (λ (o : Option SeatView). Some o)
-        (subst (λ (xs : List SeatView). slice_get xs leaf ≡ Some c) (row_is rows table v low read) (stands_at v.items leaf c (slice_get_within v.items leaf has.0 row_there) seat))
+  -- and that is the column's
+  pub there : (c : SeatView) → c ≡ slice_index_or v.items leaf c → slice_get (column leaf (lists_in rows)) table ≡ Some (Some c)
+  there c seat =
+      column_get leaf (lists_in rows) table (omega (arith, low, lists_count rows))
+      ∙ ap (λ (o : Option SeatView). Some o)
+      (subst (λ (xs : List SeatView). slice_get xs leaf ≡ Some c) (row_is rows table v low r.read) (stands_at v.items leaf c (slice_get_within v.items leaf r.has.0 row_there) seat))
 
   -- the seat has become another
   module _ (w : SeatView) where
     abbrev rows_then : List (Vec SeatView Global)
     rows_then = slice_set rows table (with_item v leaf w)
 
-    pub rows_are : lists_in rows_then ≡ with_place (lists_in rows) table leaf w
-    rows_are = lists_with rows table v low read (with_item v leaf w) leaf w refl
+    rows_are : lists_in rows_then ≡ with_place (lists_in rows) table leaf w
+    rows_are = lists_with rows table v low r.read (with_item v leaf w) leaf w refl
 
     pub column_then : column leaf (lists_in rows_then) ≡ slice_set (column leaf (lists_in rows)) table (Some w)
-    column_then = ap (column leaf) rows_are ∙ column_with (lists_in rows) leaf table has w
+    column_then = ap (column leaf) rows_are ∙ column_with (lists_in rows) leaf table r.has w
 
     pub only_then : OnlyColumn leaf (lists_in rows) (lists_in rows_then)
-    only_then = subst (OnlyColumn leaf (lists_in rows)) (sym rows_are) (only_with (lists_in rows) leaf table has w)
+    only_then = subst (OnlyColumn leaf (lists_in rows)) (sym rows_are) (only_with (lists_in rows) leaf table r.has w)
 
     pub is_then : AreCalled (record { tables = tables; seats = slice_set (column leaf (lists_in rows)) table (Some w) }) → IsColumn leaf tables (lists_in rows_then)
     is_then called = record {
-      size = is.size;
-      sizes = only_rows leaf (length tables) is.size (lists_in rows) (lists_in rows_then) only_then is.sizes;
-      within = is.within;
-      few = is.few;
+      size = r.is.size;
+      sizes = only_rows leaf (length tables) r.is.size (lists_in rows) (lists_in rows_then) only_then r.is.sizes;
+      within = r.is.within;
+      few = r.is.few;
       called = subst (λ (seats : List (Option SeatView)). AreCalled (record { tables = tables; seats = seats })) (sym column_then) called;
     }
+
+pub row_met : (leaf : ℕ) (x : Seated) (rows : List (Vec SeatView Global)) (table : ℕ) (v : Vec SeatView Global) → MayMeet leaf x (lists_in rows) → table < length rows → HasSeat leaf table (lists_in rows) → v ≡ slice_index_or rows table v
+    → RowRead leaf x.tables rows table v
+row_met leaf x rows table v may below has read = record { is = may.column; within = omega (arith, may.column.sizes.count, lists_count rows, below); has = has; read = read }
 
 -- ---- rows with a seat, and without
 

@@ -5,10 +5,9 @@ use Rattle.std.specs.List.{AllByRecursion}
 use Rattle.std.proofs.lemmas.Bool.{cases_eq}
 use Rattle.std.proofs.lemmas.Option.{slice_get_within}
 use Rattle.berth_face.specs.Berth.{Meaning}
-use Rattle.leaf_history.specs.History.{Entry}
 use Rattle.leaf_table.specs.Turns.{Shared}
 use Rattle.leaf_table.specs.Calls.{SeatView}
-use Rattle.leaf_table.specs.Lists.{place, row}
+use Rattle.leaf_table.specs.Lists.{row}
 use Rattle.leaf_steward.proofs.Seating.{set_same}
 use Rattle.tailer.specs.Calls.{CallAt, CallsOn, LeafCall}
 use Rattle.printed_lines.specs.declared.line.Ending.{Ending}

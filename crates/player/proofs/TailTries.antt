@@ -1,7 +1,8 @@
 -- The tries of a tail, as their pieces tell them.
-use Rattle.std.proofs.Common.{◌≡◌, ℕ, ◌<◌, Bool, true, false, List, [], ◌∷◌, ◌++◌, map, refl, sym, ap, ap₂, subst, ◌∙◌, append_assoc, mod-lt, Option, Some, None, IfSome}
+use Rattle.std.proofs.Common.{◌≡◌, ℕ, ◌<◌, Bool, List, [], ◌∷◌, ◌++◌, map, refl, sym, ap, ap₂, subst, ◌∙◌, mod-lt, Option, Some, None, IfSome}
 use Rattle.std.specs.Prelude.{if◌then◌else◌, is_some, option_and_then, option_map, option_to_list}
 use Rattle.std.specs.List.{AllByRecursion, flat_map}
+use Rattle.std.proofs.lemmas.List.{map-append}
 use Rattle.row_model.specs.declared.rows.Row.{Row}
 use Rattle.leaf_model.specs.declared.groups.Group.{Group}
 use Rattle.leaf_model.specs.Groups.{groups}
@@ -11,7 +12,6 @@ use Rattle.leaf_table.specs.declared.base.TableBase.{TableBase}
 use Rattle.leaf_table.specs.declared.replies.Reply.{Reply}
 use Rattle.leaf_table.specs.declared.replies.Reply.TheVariants as told
 use Rattle.leaf_table.specs.Turns.{is_founded, start_of}
-use Rattle.aggregator.specs.Partial as fan
 use Rattle.tail_picks.specs.Room.{every_row, free_rows}
 use Rattle.tail_picks.specs.Tails.{TryOf, Tails, TryGoesOn, picked, pick_of, sent_by}
 use Rattle.tailer.specs.Calls.{IsOverRows, LeafCall, adding, asking, asking_also, calls_of_tries, calls_of, free_of, is_added}
@@ -53,20 +53,16 @@ add_pieces table rows (Some leaf) (Some r) = refl
 add_pieces table rows (Some leaf) None = refl
 add_pieces table rows None o = refl
 
-pieces_append : (table : ℕ) (xs ys : List LeafCall) → call_pieces table (xs ++ ys) ≡ call_pieces table xs ++ call_pieces table ys
-pieces_append table [] ys = refl
-pieces_append table (x ∷ xs) ys = ap (λ (ps : List Piece). call_piece table x ∷ ps) (pieces_append table xs ys)
-
 try_is : (table : ℕ) (rows : List Row) (t : TryOf Reply) → pieces_of_try (try_piece table rows t) ≡ call_pieces table (calls_of rows t)
 try_is table rows t =
     ap (λ (ps : List Piece). ask_piece table t.first t.one ∷ ps)
     (ap₂ (λ (ps qs : List Piece). ps ++ qs) (also_pieces table t.second t.two) (add_pieces table rows (pick_of free_of is_added t) t.added)
-    ∙ sym (pieces_append table (asking_also t.second t.two) (adding rows (pick_of free_of is_added t) t.added)))
+    ∙ sym (map-append (call_piece table) (asking_also t.second t.two) (adding rows (pick_of free_of is_added t) t.added)))
 
 pub tries_are : (table : ℕ) (rows : List Row) (ts : List (TryOf Reply)) → flat_map pieces_of_try (map (try_piece table rows) ts) ≡ call_pieces table (calls_of_tries rows ts)
 tries_are table rows [] = refl
 tries_are table rows (t ∷ ts) =
-    ap₂ (λ (ps qs : List Piece). ps ++ qs) (try_is table rows t) (tries_are table rows ts) ∙ sym (pieces_append table (calls_of rows t) (calls_of_tries rows ts))
+    ap₂ (λ (ps qs : List Piece). ps ++ qs) (try_is table rows t) (tries_are table rows ts) ∙ sym (map-append (call_piece table) (calls_of rows t) (calls_of_tries rows ts))
 
 -- ---- and by its lines
 
@@ -82,17 +78,13 @@ add_is table rows (Some leaf) (Some r) = refl
 add_is table rows (Some leaf) None = refl
 add_is table rows None o = refl
 
-lines_append : (table : ℕ) (xs ys : List LeafCall) → map (line_of table) (xs ++ ys) ≡ map (line_of table) xs ++ map (line_of table) ys
-lines_append table [] ys = refl
-lines_append table (x ∷ xs) ys = ap (λ (ls : List Line). line_of table x ∷ ls) (lines_append table xs ys)
-
 pub lines_of_tries : (table : ℕ) (rows : List Row) (ts : List (TryOf Reply)) → map (line_of table) (calls_of_tries rows ts) ≡ flat_map (try_lines table) ts
 lines_of_tries table rows [] = refl
 lines_of_tries table rows (t ∷ ts) =
-    lines_append table (calls_of rows t) (calls_of_tries rows ts)
+    map-append (line_of table) (calls_of rows t) (calls_of_tries rows ts)
     ∙ ap₂ (λ (ls ms : List Line). ls ++ ms)
     (ap (λ (ls : List Line). reply_line t.first table t.one ∷ ls)
-    (lines_append table (asking_also t.second t.two) (adding rows (pick_of free_of is_added t) t.added)
+    (map-append (line_of table) (asking_also t.second t.two) (adding rows (pick_of free_of is_added t) t.added)
     ∙ ap₂ (λ (ls ms : List Line). ls ++ ms) (also_is table t.second t.two) (add_is table rows (pick_of free_of is_added t) t.added)))
     (lines_of_tries table rows ts)
 

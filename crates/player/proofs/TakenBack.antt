@@ -1,5 +1,5 @@
 -- A crew that takes a lane's seats and leaves back.
-use Rattle.std.proofs.Common.{◌≡◌, ◌≢◌, ◌⊎◌, inl, inr, ℕ, zero, suc, ◌<◌, ◌≤◌, List, [], ◌∷◌, length, Option, Some, None, Vec, Global, refl, sym, ap, subst, ◌∙◌, arith, length-set}
+use Rattle.std.proofs.Common.{◌≡◌, ◌⊎◌, inl, inr, ℕ, ◌<◌, ◌≤◌, List, length, Option, Some, None, Vec, Global, refl, sym, ap, subst, ◌∙◌, arith, length-set}
 use Rattle.std.specs.Prelude.{slice_get, slice_set, slice_index_or, is_some}
 use Rattle.std.proofs.lemmas.Option.{slice_get_within}
 use Rattle.berth_face.specs.Berth.{Meaning}
@@ -7,7 +7,7 @@ use Rattle.leaf_history.specs.History.{LegalFrom}
 use Rattle.leaf_table.specs.Turns.{Shared, TurnsTaken, history, is_founded, start_of}
 use Rattle.leaf_table.specs.Calls.{SeatView, base_seen}
 use Rattle.leaf_table.specs.Lists.{lists_in, place, row}
-use Rattle.leaf_steward.proofs.Seating.{same_at, set_either, set_get, some_same, told_legal}
+use Rattle.leaf_steward.proofs.Seating.{same_at, set_get, set_same, told_legal}
 use Rattle.script_text.specs.declared.fleet.FleetShape.{FleetShape}
 use Rattle.script_text.specs.Commands.{leaf_count}
 use Rattle.leaf_moves.specs.Holds.{Hold, HoldMeets, caller_in}
@@ -15,18 +15,18 @@ use Rattle.leaf_moves.specs.Lanes.{JoinsIf, JoinsTo, TakesBack, TakesBackAt}
 use Rattle.leaf_deeds.specs.declared.leaf.OneLeaf.{OneLeaf}
 use Rattle.player.specs.declared.members.Members.{Members}
 use Rattle.player.specs.Crew.{HasLeaf, HasSeats, SameSeats, column}
-use Rattle.player.specs.Rows.{AreRows, IsCallersAt}
+use Rattle.player.specs.Rows.{IsCallersAt}
 use Rattle.leaf_deeds.specs.Held.{berth_of, leaf_state}
 use Rattle.player.specs.Stage.{held_of, hold_at}
 use Rattle.player.specs.Members.{AreMembers, IsLeafOf, SameFleet, fleet_in, holds_from, holds_in}
 use Rattle.player.specs.Lending.{MeetsLeaf}
 use Rattle.player.specs.Returning.{JoinsFrom, LeafBack, LeavesBack, MayJoin}
 use Rattle.player.proofs.Calling.{stands_at}
-use Rattle.player.proofs.Columns.{caller_at, column_count, column_get, element_at, rows_kept}
+use Rattle.player.proofs.Columns.{below_or_not, caller_at, column_count, element_at, only_none, row_size, rows_kept}
 use Rattle.player.proofs.HoldLists.{holds_at, holds_back, holds_count, holds_set, seat_held}
 use Rattle.player.proofs.Lent.{column_of}
-use Rattle.player.proofs.MemberSteps.{set_twice, with_parts}
-use Rattle.player.proofs.Returned.{comes_back, seats_of_rows}
+use Rattle.player.proofs.MemberSteps.{members_with, seat_of, seats_of_rows, set_twice, with_parts, with_rows}
+use Rattle.player.proofs.Returned.{comes_back}
 
 -- ---- one seat
 
@@ -50,44 +50,9 @@ joined_caller t s None w ours theirs j = ours w (sym j)
 joined_caller t None (Some u) w ours theirs j = absurd j
 joined_caller t (Some s) (Some u) w ours theirs j = joined_seat t s u w (ours s refl) (theirs u refl) j
 
--- ---- rows
-
-row_size : {A : Type 0} (n size : ℕ) (rows : List (List A)) (table : ℕ) → AreRows n size rows → length (row rows table) ≤ size
-row_size {A} n size rows table are = pick (lt_or table n)
-  where
-    lt_or : (a b : ℕ) → (a < b) ⊎ (b ≤ a)
-    lt_or a b = grind arith
-
-    none_there : (ls : List (List A)) (i : ℕ) → length ls ≤ i → length (row ls i) ≡ 0
-    none_there [] i few = refl
-    none_there (l ∷ ls) zero few = absurd (omega (arith, few))
-    none_there (l ∷ ls) (suc i) few = none_there ls i (omega (arith, few))
-
-    one_row : (row rows table ≡ []) ⊎ (length (row rows table) ≡ size) → length (row rows table) ≤ size
-    one_row (inl none) = let zero_is = ap (λ (vs : List A). length vs) none in omega (arith, zero_is)
-    one_row (inr all) = omega (arith, all)
-
-    pick : (table < n) ⊎ (n ≤ table) → length (row rows table) ≤ size
-    pick (inl below) = one_row (are.each table below)
-    pick (inr above) = let zero_is = none_there rows table (omega (arith, above, are.count)) in omega (arith, zero_is)
-
-within_rows : {A : Type 0} (ls : List (List A)) (i j : ℕ) (s : A) → slice_get (row ls i) j ≡ Some s → i < length ls
-within_rows [] i j s at = absurd cc
-within_rows (l ∷ ls) zero j s at = omega arith
-within_rows (l ∷ ls) (suc i) j s at = let below = within_rows ls i j s at in omega (arith, below)
+-- ---- leaves
 
 module _ {B : Type 0} where
-  -- a seat of the rows is a callers' seat at its table
-  pub seat_of : (x : Members B) (table leaf : ℕ) (s : SeatView) → AreMembers x → place (lists_in x.rows.items) table leaf ≡ Some s → (t : Shared) × (place x.tables.now leaf table ≡ Some t) × IsCallersAt t s
-  seat_of x table leaf s are at =
-      let rows = lists_in x.rows.items in
-      let size = row_size (length x.names) (leaf_count (fleet_in x)) rows table are.rows in
-      let below : leaf < leaf_count (fleet_in x) = omega (arith, slice_get_within (row rows table) leaf s at, size) in
-      let column_is = are.columns leaf below in
-      let low = within_rows rows table leaf s at in
-      let t = element_at (row x.tables.now leaf) table (omega (arith, low, column_is.sizes.count)) in
-      (t.0, t.1, column_is.called.each table t.0 s t.1 (column_get leaf rows table low ∙ ap (λ (o : Option SeatView). Some o) at))
-
   leaf_moves : (x y : Members B) (leaf : ℕ) (one : OneLeaf B) → fleet_in y ≡ fleet_in x → y.tables.now ≡ x.tables.now → IsLeafOf x leaf one → IsLeafOf y leaf one
   leaf_moves x y leaf one fleet tables is = record {
     names = is.names ∙ sym (ap (λ (f : FleetShape). f.names) fleet);
@@ -111,11 +76,6 @@ module _ {B : Type 0} where
         let at = holds_at 0 number number x.tables.now x.leaves.items slot.0 (lists_in x.rows.items) (omega arith) slot.1 in
         subst (λ (p : Option (OneLeaf B)). LeafBack meaning number (held_of p) (holds_in x) (holds_in x)) (sym none)
         (record { before = here; after = here; at = at; tables = refl; comes = (refl, refl); now = sym (set_same (holds_in x) number here at) })
-      where
-        set_same : (hs : List (Hold B)) (i : ℕ) (h : Hold B) → slice_get hs i ≡ Some h → slice_set hs i h ≡ hs
-        set_same [] i h at = refl
-        set_same (g ∷ hs) zero h at = ap (λ (k : Hold B). k ∷ hs) (sym (some_same g h at))
-        set_same (g ∷ hs) (suc i) h at = ap (λ (l : List (Hold B)). g ∷ l) (set_same hs i h at)
 
     module _ (free : (h : Hold B) → slice_get (holds_in x) number ≡ Some h → h.held ≡ None) where
       pub slot_free : (slot : Option (OneLeaf B)) → slot ≡ slice_index_or x.leaves.items number slot → slot ≡ None
@@ -140,22 +100,7 @@ module _ {B : Type 0} where
       put_at = holds_at 0 number number x.tables.now leaves.items (Some one) (lists_in x.rows.items) (omega arith) there
 
       pub members_put : IsLeafOf x number one → AreMembers (with_parts x leaves x.rows)
-      members_put own = record {
-        named = are.named;
-        few = are.few;
-        leaves = ap (λ (ls : List (Option (OneLeaf B))). length ls) now ∙ (length-set x.leaves.items number (Some one) ∙ are.leaves);
-        tables = are.tables;
-        rows = are.rows;
-        names = are.names;
-        columns = are.columns;
-        each = λ leaf z at. by leaf z (set_either x.leaves.items number leaf (Some one) (Some z) (subst (λ (ls : List (Option (OneLeaf B))). slice_get ls leaf ≡ Some (Some z)) now at));
-      }
-        where
-          by : (leaf : ℕ) (z : OneLeaf B) → ((leaf ≡ number) × (Some z ≡ Some one)) ⊎ ((leaf ≢ number) × (slice_get x.leaves.items leaf ≡ Some (Some z))) → IsLeafOf (with_parts x leaves x.rows) leaf z
-          by leaf z (inl h) =
-              subst (λ (n : ℕ). IsLeafOf (with_parts x leaves x.rows) n z) (sym h.0)
-              (subst (λ (y : OneLeaf B). IsLeafOf (with_parts x leaves x.rows) number y) (sym (some_same z one h.1)) (record { names = own.names; tables = own.tables; seats = own.seats }))
-          by leaf z (inr h) = let was = are.each leaf z h.1 in record { names = was.names; tables = was.tables; seats = was.seats }
+      members_put own = members_with x number one leaves x.rows are now (only_none number (lists_in x.rows.items)) (are.columns number within) own
 
       pub put_held : HasLeaf (holds_in (with_parts x leaves x.rows)) number
       put_held = λ h at. ap (λ (k : Hold B). is_some k.held) (same_at (holds_in (with_parts x leaves x.rows)) number h put_hold at put_at)
@@ -210,14 +155,11 @@ module _ {B : Type 0} where
         let size = row_size (length x.names) count xs table are.rows in
         record {
           few = omega (arith, size, are.few.few);
-          counts = (no_more (lt_or (length (row xs table)) (length (row ys table))), omega (arith, size, are.tables));
+          counts = (no_more (below_or_not (length (row xs table)) (length (row ys table))), omega (arith, size, are.tables));
           ours = λ leaf s at. let found = seat_of x table leaf s are at in (found.0, found.1, found.2.seat);
           theirs = λ leaf u at. let found = seat_off table leaf u at in (found.0, found.1, found.2.seat);
         }
       where
-        lt_or : (a b : ℕ) → (a < b) ⊎ (b ≤ a)
-        lt_or a b = grind arith
-
         no_more : (length (row xs table) < length (row ys table)) ⊎ (length (row ys table) ≤ length (row xs table)) → length (row ys table) ≤ length (row xs table)
         no_more (inr few) = few
         no_more (inl more) =
@@ -239,21 +181,12 @@ module _ {B : Type 0} where
           (subst (λ (o : Option SeatView). JoinsIf (place xs table leaf) (place ys table leaf) o) seat ((joins table).joined leaf (omega arith)))
 
       pub members_between : AreMembers between
-      members_between = record {
-        named = are.named;
-        few = are.few;
-        leaves = are.leaves;
-        tables = are.tables;
-        rows = rows_kept (length x.names) count xs zs rows_count (λ t. (joins t).count) are.rows;
-        names = are.names;
-        columns = λ leaf below.
-            let old = are.columns leaf below in
-            column_of leaf count (row x.tables.now leaf) zs
-            (rows_kept (length (row x.tables.now leaf)) count xs zs rows_count (λ t. (joins t).count)
-            (record { count = old.sizes.count; each = λ table under. are.rows.each table (omega (arith, under, old.sizes.count, are.rows.count)) })) below old.few
-            (λ table t c at seat. caller_joined leaf table t c at seat);
-        each = λ leaf one at. let was = are.each leaf one at in record { names = was.names; tables = was.tables; seats = was.seats };
-      }
+      members_between = with_rows x rows are (rows_kept (length x.names) count xs zs rows_count (λ t. (joins t).count) are.rows) (λ leaf below.
+          let old = are.columns leaf below in
+          column_of leaf count (row x.tables.now leaf) zs
+          (rows_kept (length (row x.tables.now leaf)) count xs zs rows_count (λ t. (joins t).count)
+          (record { count = old.sizes.count; each = λ table under. are.rows.each table (omega (arith, under, old.sizes.count, are.rows.count)) })) below old.few
+          (λ table t c at seat. caller_joined leaf table t c at seat))
 
       pub free_between : ((leaf : ℕ) (h g : Hold B) → slice_get (holds_in x) leaf ≡ Some h → slice_get (holds_in y) leaf ≡ Some g → (h.held ≡ None) ⊎ (g.held ≡ None))
           → (leaf : ℕ) (h : Hold B) (o : Option (OneLeaf B)) → slice_get (holds_in between) leaf ≡ Some h → slice_get y.leaves.items leaf ≡ Some o → (h.held ≡ None) ⊎ (held_of o ≡ None)

@@ -1,16 +1,16 @@
 -- What each command does to the leaves that a crew holds.
-use Rattle.std.specs.Prelude.{◌≡◌, ◌⊎◌, ◌==◌, ℕ, zero, suc, ◌<◌, List, [], ◌∷◌, ◌++◌, length, slice_set, false, Option, Some, None, Result, Vec, IfOk, IsErr, if◌then◌else◌}
+use Rattle.std.specs.Prelude.{◌≡◌, ◌⊎◌, ◌==◌, ℕ, zero, suc, List, [], ◌∷◌, ◌++◌, length, slice_set, Option, Some, None, Result, Vec, IfOk, IsErr, ⊤, if◌then◌else◌}
 use Rattle.std.specs.Global.{Global}
 use Rattle.std.specs.List.{AllByRecursion, flat_map, range_with_len}
 use Rattle.berth_face.specs.Berth.{Meaning}
 use Rattle.row_model.specs.declared.rows.Row.{Row}
 use Rattle.leaf_model.specs.declared.queries.Query.{Query}
 use Rattle.answer_text.specs.Answer.{answer_lines}
+use Rattle.leaf_history.specs.Calls.{Ask, Call}
 use Rattle.leaf_history.specs.History.{Entry}
 use Rattle.leaf_table.specs.Turns.{Shared}
 use Rattle.leaf_table.specs.Calls.{SeatView}
 use Rattle.leaf_table.specs.Lists.{row}
-use Rattle.leaf_steward.specs.declared.notes.Note.{Note}
 use Rattle.aggregator.specs.declared.lists.Named.{Named}
 use Rattle.aggregator.specs.declared.fanned.Fanned.{Fanned}
 use Rattle.aggregator.specs.Asks.{AllAsked}
@@ -22,28 +22,29 @@ use Rattle.tailer.specs.declared.tries.Tailed.{Tailed}
 use Rattle.tailer.specs.Calls.{CallsOn, IsOverRows, calls_of_tries, free_of, is_added, sent_to, tries_seen}
 use Rattle.script_text.specs.declared.order.Order.TheVariants as order
 use Rattle.script_text.specs.declared.order.TableRequest.{TableRequest}
+use Rattle.script_text.specs.Orders.{IsRequest}
 use Rattle.printed_lines.specs.declared.line.Said.TheVariants as said
 use Rattle.printed_lines.specs.declared.line.Ending.{Ending}
 use Rattle.printed_lines.specs.declared.line.Line.{Line}
 use Rattle.printed_lines.specs.declared.line.Line.TheVariants as line
 use Rattle.printed_lines.specs.Lines.{IsOf}
 use Rattle.printed_lines.specs.declared.line.Deed.{Deed}
-use Rattle.printed_lines.specs.declared.line.Deed.TheVariants.{Drain, Flush, Kill, Start}
+use Rattle.printed_lines.specs.declared.line.Deed.TheVariants.{Start}
 use Rattle.transcript.specs.Pieces.{Piece, lines_in}
 use Rattle.transcript.specs.Shapes.{ActPiece, CallPiece, EachActs, QueryPieces, call_of}
-use Rattle.transcript.specs.Counts.{CountsRose, reads_disk}
+use Rattle.transcript.specs.Counts.{CountsRose}
 use Rattle.transcript.specs.Answers.{AnswersOrder}
 use Rattle.leaf_moves.specs.Holds.{GoOn, base_states_in}
-use Rattle.leaf_moves.specs.Stage.{Leaf, Carries}
-use Rattle.leaf_moves.specs.Steps.{DeedStep, Moves}
+use Rattle.leaf_moves.specs.Stage.{Leaf}
+use Rattle.leaf_moves.specs.Steps.{DeedStep}
 use Rattle.transcript.specs.Watching.{drained_by, started_by}
 use Rattle.player.specs.declared.answer.DeedOutcome.{DeedOutcome}
 use Rattle.printed_lines.specs.declared.line.Deed.{Deed}
-use Rattle.printed_lines.specs.declared.line.Deed.TheVariants as deed
+use Rattle.player.specs.declared.call.SeatCall.{SeatCall}
+use Rattle.player.specs.declared.call.SeatCall.TheVariants as seat
 use Rattle.player.specs.declared.members.Members.{Members}
-use Rattle.player.specs.Lines.{AreEnded, reply_line}
+use Rattle.player.specs.Lines.{reply_line}
 use Rattle.player.specs.Members.{GoesWith, fleet_in, holds_in}
-use Rattle.leaf_deeds.specs.Moves.{FaultRose}
 
 -- ---- deeds
 
@@ -81,6 +82,15 @@ pub record StartsFirst {B E : Type 0} (meaning : B → Meaning) (k : ℕ) (x : M
   pub goes : GoesWith meaning x.names (holds_in x) result pieces (holds_in y)
 
 -- ---- calls
+
+-- the call of a table that is made
+abbrev pub call_in : SeatCall → Call
+call_in (seat.Request r) = call_of r
+call_in (seat.Lent q) = Ask q.now
+
+abbrev pub IsSeatCall : SeatCall → Type 0
+IsSeatCall (seat.Request r) = IsRequest r
+IsSeatCall (seat.Lent q) = ⊤
 
 -- a call at one of the leaves
 pub record CallsAt {B E : Type 0} (meaning : B → Meaning) (leaf table : ℕ) (r : TableRequest) (x : Members B) (result : Result (Vec Line Global) E) (y : Members B) : Type 0 where

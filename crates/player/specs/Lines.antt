@@ -1,5 +1,5 @@
 -- The lines of calls and deeds, and the pieces that they belong to.
-use Rattle.std.specs.Prelude.{◌≡◌, ℕ, Bool, List, [], ◌∷◌, ◌++◌, map, Option, Result, Ok, Err, Vec, IfOk, ⊤}
+use Rattle.std.specs.Prelude.{◌≡◌, ℕ, Bool, List, [], ◌∷◌, ◌++◌, map, Option, Result, Ok, Err, Vec, IfOk}
 use Rattle.std.specs.Global.{Global}
 use Rattle.std.specs.List.{AllByRecursion}
 use Rattle.leaf_history.specs.Calls.{Call}
@@ -51,8 +51,8 @@ note_lines leaf notes = map (noted_line leaf) (noted_all notes)
 abbrev pub AreEnded : ℕ → Deed → List Note → Ending → List Line → Type 0
 AreEnded leaf deed notes ends lines = lines ≡ note_lines leaf notes ++ line.Ended deed leaf ends ∷ []
 
--- the lines of both, one after the other; neither is Err
-abbrev pub AreJoined : {E : Type 0} → Result (Vec Line Global) E → Result (Vec Line Global) E → List Line → Type 0
-AreJoined (Ok first) (Ok second) lines = lines ≡ first.items ++ second.items
-AreJoined (Ok first) (Err e) lines = ⊥
-AreJoined (Err e) second lines = ⊥
+-- the lines of both, with these between them; neither is Err
+abbrev pub AreJoined : {E : Type 0} → Result (Vec Line Global) E → List Line → Result (Vec Line Global) E → List Line → Type 0
+AreJoined (Ok first) between (Ok second) lines = lines ≡ first.items ++ (between ++ second.items)
+AreJoined (Ok first) between (Err e) lines = ⊥
+AreJoined (Err e) between second lines = ⊥

@@ -1,25 +1,24 @@
 -- What the leaves of a crew do while a rollover restarts them.
-use Rattle.std.specs.Prelude.{◌≡◌, ◌⊎◌, ℕ, ◌<◌, List, [], ◌∷◌, ◌++◌, map, Option, None, Result, Ok, Err, Vec, IfOk, ⊤}
+use Rattle.std.specs.Prelude.{◌≡◌, ℕ, ◌<◌, Bool, true, false, List, [], ◌∷◌, ◌++◌, map, None, Result, Vec, IfOk, ⊤}
 use Rattle.std.specs.Global.{Global}
+use Rattle.std.specs.List.{AllByRecursion}
 use denote.Ref.{MutBor}
 use denote.Param.Members.{Shared}
 use Rattle.berth_face.specs.Berth.{Meaning}
-use Rattle.rollover_watch.specs.declared.event.Drained.{Drained}
-use Rattle.rollover_watch.specs.declared.event.Started.{Started}
 use Rattle.rollover_driver.specs.Calls.{FleetCall}
 use Rattle.rollover_driver.specs.Calls as call
-use Rattle.printed_lines.specs.declared.line.Ending.{Ending}
 use Rattle.printed_lines.specs.declared.line.Line.{Line}
+use Rattle.printed_lines.specs.Lines.{IsOf}
 use Rattle.script_text.specs.Commands.{leaf_count}
 use Rattle.printed_lines.specs.declared.line.Deed.{Deed}
-use Rattle.printed_lines.specs.declared.line.Deed.TheVariants.{Drain, Start}
-use Rattle.transcript.specs.Pieces.{Acted, Noted, Piece, piece_lines}
+use Rattle.printed_lines.specs.declared.line.Deed.TheVariants as deed
+use Rattle.transcript.specs.Pieces.{Piece, Says}
+use Rattle.transcript.specs.Shapes.{ActPiece}
 use Rattle.transcript.specs.Watching.{drained_by, started_by}
 use Rattle.player.specs.declared.answer.DeedOutcome.{DeedOutcome}
-use Rattle.printed_lines.specs.declared.line.Deed.{Deed}
-use Rattle.printed_lines.specs.declared.line.Deed.TheVariants as deed
 use Rattle.player.specs.declared.members.Members.{Members}
 use Rattle.player.specs.Crew.{HasLeaf}
+use Rattle.player.specs.Lines.{AreJoined}
 use Rattle.player.specs.Members.{AreMembers, GoesWith, SameFleet, fleet_in, holds_in}
 use Rattle.player.specs.Commands.{DeedAt}
 
@@ -59,71 +58,68 @@ module _ {F T E : Type 0} (g : Shared F (MutBor T × (ℕ × (Deed × Unit {0}))
 
 -- ---- their lines
 
--- the lines of each deed
-abbrev pub lines_of : List (Vec Line Global) → List (List Line)
-lines_of parts = map (λ (lines : Vec Line Global). lines.items) parts
+-- The line that is put before those of a drain: the first of `heads`, the lines of the waves that are not begun, unless
+-- the last deed was a drain of the same wave.
+abbrev pub head_at : List Line → Bool → List Line
+head_at heads true = []
+head_at [] false = []
+head_at (l ∷ heads) false = l ∷ []
 
--- the lines of a deed are appended to those of earlier ones; neither is Err
-abbrev pub PartJoins : {E : Type 0} → Result (Vec (Vec Line Global) Global) E → Result (Vec Line Global) E → List (Vec Line Global) → Type 0
-PartJoins (Ok before) (Ok lines) after = after ≡ before.items ++ lines ∷ []
-PartJoins (Ok before) (Err e) after = ⊥
-PartJoins (Err e) part after = ⊥
+-- the lines of the waves that are not begun then
+abbrev pub heads_left : List Line → Bool → List Line
+heads_left heads true = heads
+heads_left [] false = []
+heads_left (l ∷ heads) false = heads
 
--- the lines of these pieces are appended to those of earlier deeds
-abbrev pub ArePartsOf : {E : Type 0} → Result (Vec (Vec Line Global) Global) E → List Piece → List (Vec Line Global) → Type 0
-ArePartsOf (Ok before) pieces after = lines_of after ≡ lines_of before.items ++ map piece_lines pieces
-ArePartsOf (Err e) pieces after = ⊥
+-- the piece of a drain or a start with this answer
+abbrev pub IsCall : FleetCall → Piece → Type 0
+IsCall (call.Drains leaf got) p = (acts : ActPiece leaf (deed.Drain None) p) × (got ≡ drained_by acts.1)
+IsCall (call.Starts leaf got) p = (acts : ActPiece leaf deed.Start p) × (got ≡ started_by acts.1)
 
--- ---- chains of deeds
+-- the pieces of calls, with the line of each wave before its first drain
+abbrev pub Puts : List Line → Bool → List FleetCall → List Piece → List Line → Bool → Type 0
+Puts heads draining [] ps heads' draining' = (ps ≡ []) × (heads' ≡ heads) × (draining' ≡ draining)
+Puts heads draining (call.Drains leaf got ∷ calls) ps heads' draining' = (p : Piece) × (others : List Piece) × IsCall (call.Drains leaf got) p × (ps ≡ map Says (head_at heads draining) ++ p ∷ others)
+    × Puts (heads_left heads draining) true calls others heads' draining'
+Puts heads draining (call.Starts leaf got ∷ calls) ps heads' draining' = (p : Piece) × (others : List Piece) × IsCall (call.Starts leaf got) p × (ps ≡ p ∷ others) × Puts heads false calls others heads' draining'
 
--- the piece of a drain with this answer
-abbrev pub IsDrained : ℕ → Drained → Piece → Type 0
-IsDrained leaf got p = (notes : List Noted) × (ending : Ending) × (p ≡ Acted leaf (Drain None) notes ending) × (got ≡ drained_by ending)
-
--- the piece of a start with this answer
-abbrev pub IsStarted : ℕ → Started → Piece → Type 0
-IsStarted leaf got p = (notes : List Noted) × (ending : Ending) × (p ≡ Acted leaf Start notes ending) × (got ≡ started_by ending)
-
--- one piece for each call, with its answer
-abbrev pub AreAnswered : List FleetCall → List Piece → Type 0
-AreAnswered [] [] = ⊤
-AreAnswered [] (p ∷ ps) = ⊥
-AreAnswered (call.Drains leaf got ∷ calls) [] = ⊥
-AreAnswered (call.Starts leaf got ∷ calls) [] = ⊥
-AreAnswered (call.Drains leaf got ∷ calls) (p ∷ ps) = IsDrained leaf got p × AreAnswered calls ps
-AreAnswered (call.Starts leaf got ∷ calls) (p ∷ ps) = IsStarted leaf got p × AreAnswered calls ps
-
--- lines for which memory ran out
-abbrev pub no_lines : Result (Vec Line Global) (Unit {0})
-no_lines = Err tt
-
--- calls, one after another, with the lines of each
-pub data Chain {T E : Type 0} (did : T → ℕ → Deed → DeedOutcome × Result (Vec Line Global) E → T → Type 0) (x : T) (told : Result (Vec (Vec Line Global) Global) E) : (calls : List FleetCall) (y : T) (told' : Result (Vec (Vec Line Global) Global) E) → Type 0 where
-  none : (calls : List FleetCall) (y : T) (told' : Result (Vec (Vec Line Global) Global) E)
+-- calls, one after another, with their lines
+pub data Chain {T E : Type 0} (did : T → ℕ → Deed → DeedOutcome × Result (Vec Line Global) E → T → Type 0) (x : T) (lines : Result (Vec Line Global) E) (heads : List Line) (draining : Bool)
+    : (calls : List FleetCall) (y : T) (lines' : Result (Vec Line Global) E) (heads' : List Line) (draining' : Bool) → Type 0 where
+  none : (calls : List FleetCall) (y : T) (lines' : Result (Vec Line Global) E) (heads' : List Line) (draining' : Bool)
       → calls ≡ []
       → y ≡ x
-      → told' ≡ told
-      → Chain did x told calls y told'
-  drained : (calls : List FleetCall) (y : T) (told' : Result (Vec (Vec Line Global) Global) E) (earlier : List FleetCall) (mid : T) (told_mid : Result (Vec (Vec Line Global) Global) E)
-      (leaf : ℕ) (answer : DeedOutcome) (lines : Result (Vec Line Global) E)
-      → Chain did x told earlier mid told_mid
-      → did mid leaf (deed.Drain None) (answer, lines) y
-      → IfOk told' (λ parts. PartJoins told_mid lines parts.items)
+      → lines' ≡ lines
+      → heads' ≡ heads
+      → draining' ≡ draining
+      → Chain did x lines heads draining calls y lines' heads' draining'
+  drained : (calls : List FleetCall) (y : T) (lines' : Result (Vec Line Global) E) (heads' : List Line) (draining' : Bool)
+      (earlier : List FleetCall) (mid : T) (lines_mid : Result (Vec Line Global) E) (heads_mid : List Line) (draining_mid : Bool)
+      (leaf : ℕ) (answer : DeedOutcome) (more : Result (Vec Line Global) E) (between : List Line)
+      → Chain did x lines heads draining earlier mid lines_mid heads_mid draining_mid
+      → did mid leaf (deed.Drain None) (answer, more) y
+      → IfOk lines' (λ all. AreJoined lines_mid between more all.items)
+      → between ≡ head_at heads_mid draining_mid
+      → heads' ≡ heads_left heads_mid draining_mid
+      → draining' ≡ true
       → calls ≡ earlier ++ call.Drains leaf answer.drained ∷ []
-      → Chain did x told calls y told'
-  started : (calls : List FleetCall) (y : T) (told' : Result (Vec (Vec Line Global) Global) E) (earlier : List FleetCall) (mid : T) (told_mid : Result (Vec (Vec Line Global) Global) E)
-      (leaf : ℕ) (answer : DeedOutcome) (lines : Result (Vec Line Global) E)
-      → Chain did x told earlier mid told_mid
-      → did mid leaf deed.Start (answer, lines) y
-      → IfOk told' (λ parts. PartJoins told_mid lines parts.items)
+      → Chain did x lines heads draining calls y lines' heads' draining'
+  started : (calls : List FleetCall) (y : T) (lines' : Result (Vec Line Global) E) (heads' : List Line) (draining' : Bool)
+      (earlier : List FleetCall) (mid : T) (lines_mid : Result (Vec Line Global) E) (heads_mid : List Line) (draining_mid : Bool)
+      (leaf : ℕ) (answer : DeedOutcome) (more : Result (Vec Line Global) E)
+      → Chain did x lines heads draining earlier mid lines_mid heads_mid draining_mid
+      → did mid leaf deed.Start (answer, more) y
+      → IfOk lines' (λ all. AreJoined lines_mid [] more all.items)
+      → heads' ≡ heads_mid
+      → draining' ≡ false
       → calls ≡ earlier ++ call.Starts leaf answer.started ∷ []
-      → Chain did x told calls y told'
+      → Chain did x lines heads draining calls y lines' heads' draining'
 
--- the leaves took these calls, with their pieces and the lines of each
-pub record Restarted {B E : Type 0} (meaning : B → Meaning) (x : Members B) (told : Result (Vec (Vec Line Global) Global) E) (calls : List FleetCall) (y : Members B) (told' : Result (Vec (Vec Line Global) Global) E) : Type 0 where
+-- the leaves took these calls, with their pieces and lines; the lines of the waves that are not begun name no table
+pub record RollsOn {B E : Type 0} (meaning : B → Meaning) (x : Members B) (heads : List Line) (calls : List FleetCall) (lines : Result (Vec Line Global) E) (y : Members B) (heads' : List Line) (draining : Bool) : Type 0 where
   pub pieces : List Piece
-  pub answered : AreAnswered calls pieces
+  pub puts : Puts heads false calls pieces heads' draining
   pub members : AreMembers x → AreMembers y
   pub same : SameFleet x y
-  pub goes : GoesWith meaning x.names (holds_in x) no_lines pieces (holds_in y)
-  pub parts : IfOk told' (λ after. ArePartsOf told pieces after.items)
+  pub goes : GoesWith meaning x.names (holds_in x) lines pieces (holds_in y)
+  pub fit : AllByRecursion (IsOf x.names) heads'

@@ -43,7 +43,7 @@ impl<'t, B: Berth> Members<'t, B> {
         let mut lines = Ok(Vec::new(alloc));
         for number in 0..self.leaves.len() {
             let more = self.act(rt, alloc, gate, number as u32, Deed::Start);
-            lines = joined(lines, more);
+            lines = joined(lines, None, more);
         }
         lines
     }

@@ -1,17 +1,15 @@
 // Calls of callers at one leaf.
 ghost use Rattle.std.specs.Prelude.{◌≡◌, ◌<◌, length};
-ghost use Rattle.leaf_history.specs.Calls.{Ask};
 ghost use Rattle.turnstile.specs.Seats.{IsSeatOf};
-ghost use Rattle.leaf_table.specs.Calls.{Answered, IsCaller, SameSeat, base_seen};
+ghost use Rattle.leaf_table.specs.Calls.{Answered, SameSeat, base_seen};
 ghost use Rattle.leaf_table.specs.Lists.{lists_in, row};
 ghost use Rattle.script_text.specs.Commands.{leaf_count};
 ghost use Rattle.script_text.specs.Orders.{IsRequest};
-ghost use Rattle.transcript.specs.Shapes.{call_of};
 ghost use Rattle.player.specs.Crew.{AllPass, HasSeats, StillHas};
-ghost use Rattle.player.specs.Rows.{CallsTable, HasSeat, IsColumn, OnlyColumn, called_at};
+ghost use Rattle.player.specs.Rows.{CallsTable, HasSeat, IsCallersAt, IsColumn, OnlyColumn, called_at};
 ghost use Rattle.player.specs.Lines.{CallsWith};
 ghost use Rattle.player.specs.Members.{AreMembers, SameFleet, fleet_in, holds_in};
-ghost use Rattle.player.specs.Commands.{CallsAt};
+ghost use Rattle.player.specs.Commands.{CallsAt, IsSeatCall, call_in};
 ghost use Rattle.player.specs.Asked.{AsksLeaf};
 
 use crate::entries::{call_line, call_lines};
@@ -24,6 +22,13 @@ use script_text::TableRequest;
 use std::alloc::{AllocError, Global};
 use std::sync::Wait;
 use std::thread::Threads;
+
+/// A caller's call: a request of a script, or a query that is only lent.
+#[derive(Drop)]
+pub enum SeatCall<'q> {
+    Request(TableRequest),
+    Lent(&'q Query),
+}
 
 impl<'t, B: Berth> Members<'t, B> {
     /// Makes a caller's call at that leaf's table. Gives its line; Err if memory for it ran out.
@@ -46,7 +51,8 @@ impl<'t, B: Berth> Members<'t, B> {
         ensures calls { CallsAt B.meaning leaf table request self.old result self.new }
     {
         let tables = self.tables.leaf(leaf);
-        let reply = call_one(rt, gate, tables, &mut self.rows, leaf, table, request);
+        let call = SeatCall::Request(request);
+        let reply = call_one(rt, gate, tables, &mut self.rows, leaf, table, call);
         call_lines(alloc, leaf, table, &reply)
     }
 
@@ -71,7 +77,8 @@ impl<'t, B: Berth> Members<'t, B> {
         ensures time { AllPass B.meaning (holds_in self.old) (holds_in self.new) }
     {
         let tables = self.tables.leaf(leaf);
-        let reply = ask_one(rt, gate, tables, &mut self.rows, leaf, table, query);
+        let call = SeatCall::Lent(query);
+        let reply = call_one(rt, gate, tables, &mut self.rows, leaf, table, call);
         (call_line(leaf, table, &reply), reply)
     }
 }
@@ -84,13 +91,13 @@ fn call_one<R: Wait + Threads + Sync, G: Gate>(
     rows: &mut Vec<Vec<Seat>>,
     leaf: u32,
     table: u32,
-    request: TableRequest,
+    call: SeatCall,
 ) -> Reply
     requires column { IsColumn leaf tables.now (lists_in rows.old.items) }
     requires table { table < length tables.now }
     requires has { HasSeat leaf table (lists_in rows.old.items) }
-    requires request { IsRequest request }
-    ensures calls { CallsTable table (call_of request) (called_at leaf tables.now (lists_in rows.old.items)) result
+    requires call { IsSeatCall call }
+    ensures calls { CallsTable table (call_in call.entry) (called_at leaf tables.now (lists_in rows.old.items)) result
         (called_at leaf tables.now (lists_in rows.new.items)) }
     ensures column { IsColumn leaf tables.now (lists_in rows.new.items) }
     ensures only { OnlyColumn leaf (lists_in rows.old.items) (lists_in rows.new.items) }
@@ -98,48 +105,7 @@ fn call_one<R: Wait + Threads + Sync, G: Gate>(
     let shared = &tables[table as usize];
     let row = &mut rows[table as usize];
     let seat = &mut row[leaf as usize];
-    call_by(rt, gate, shared, seat, request)
-}
-
-// Asks the leaf's table `table`, by the callers' seat there.
-fn ask_one<R: Wait + Threads + Sync, G: Gate>(
-    rt: &R,
-    gate: &G,
-    tables: &[SharedTable],
-    rows: &mut Vec<Vec<Seat>>,
-    leaf: u32,
-    table: u32,
-    query: &Query,
-) -> Reply
-    requires column { IsColumn leaf tables.now (lists_in rows.old.items) }
-    requires table { table < length tables.now }
-    requires has { HasSeat leaf table (lists_in rows.old.items) }
-    ensures calls { CallsTable table (Ask query.now) (called_at leaf tables.now (lists_in rows.old.items)) result
-        (called_at leaf tables.now (lists_in rows.new.items)) }
-    ensures column { IsColumn leaf tables.now (lists_in rows.new.items) }
-    ensures only { OnlyColumn leaf (lists_in rows.old.items) (lists_in rows.new.items) }
-{
-    let shared = &tables[table as usize];
-    let row = &mut rows[table as usize];
-    let seat = &mut row[leaf as usize];
-    ask_by(rt, gate, shared, seat, query)
-}
-
-// Asks a table by a seat.
-fn ask_by<R: Wait + Threads + Sync, G: Gate>(
-    rt: &R,
-    gate: &G,
-    shared: &SharedTable,
-    seat: &mut Seat,
-    query: &Query,
-) -> Reply
-    requires seat { IsSeatOf seat.old shared.now.site }
-    requires caller { IsCaller seat.old }
-    ensures seat { IsSeatOf seat.new shared.now.site }
-    ensures same { SameSeat seat.old seat.new }
-    ensures made { Answered (base_seen shared.now) seat.old (Ask query.now) result seat.new }
-{
-    shared.ask(rt, seat, query, gate)
+    call_by(rt, gate, shared, seat, call)
 }
 
 // Calls a table by a seat.
@@ -148,19 +114,19 @@ fn call_by<R: Wait + Threads + Sync, G: Gate>(
     gate: &G,
     shared: &SharedTable,
     seat: &mut Seat,
-    request: TableRequest,
+    call: SeatCall,
 ) -> Reply
-    requires seat { IsSeatOf seat.old shared.now.site }
-    requires caller { IsCaller seat.old }
-    requires request { IsRequest request }
+    requires seat { IsCallersAt shared.now seat.old }
+    requires call { IsSeatCall call }
     ensures seat { IsSeatOf seat.new shared.now.site }
     ensures same { SameSeat seat.old seat.new }
-    ensures made { Answered (base_seen shared.now) seat.old (call_of request) result seat.new }
+    ensures made { Answered (base_seen shared.now) seat.old (call_in call.entry) result seat.new }
 {
-    match request {
-        TableRequest::Add(rows) => shared.add(rt, seat, rows, gate),
-        TableRequest::Expire(horizon) => shared.expire(rt, seat, horizon, gate),
-        TableRequest::Keep(n) => shared.keep(rt, seat, n, gate),
-        TableRequest::Ask(query) => shared.ask(rt, seat, &query, gate),
+    match call {
+        SeatCall::Request(TableRequest::Add(rows)) => shared.add(rt, seat, rows, gate),
+        SeatCall::Request(TableRequest::Expire(horizon)) => shared.expire(rt, seat, horizon, gate),
+        SeatCall::Request(TableRequest::Keep(n)) => shared.keep(rt, seat, n, gate),
+        SeatCall::Request(TableRequest::Ask(query)) => shared.ask(rt, seat, &query, gate),
+        SeatCall::Lent(query) => shared.ask(rt, seat, query, gate),
     }
 }

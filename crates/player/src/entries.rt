@@ -1,5 +1,6 @@
 // The lines of calls and deeds.
 ghost use Rattle.std.specs.Prelude.{◌≡◌, ◌∷◌, ◌++◌, [], IfOk, OnOk};
+ghost use Rattle.std.specs.Option.{option_to_list};
 ghost use Rattle.printed_lines.specs.declared.line.Line.TheVariants.{Entry};
 ghost use Rattle.leaf_moves.specs.Steps.{said_of_note};
 ghost use Rattle.player.specs.Lines.{AreEnded, AreJoined, note_line, note_lines, reply_line};
@@ -102,15 +103,19 @@ fn said_of_note(what: What) -> Said
     }
 }
 
-/// The lines of both, first those of `first`. Err if either is.
+/// The lines of both, with a line between them if there is one. Err if either is.
 pub fn joined(
     first: Result<Vec<Line>, AllocError>,
+    between: Option<Line>,
     second: Result<Vec<Line>, AllocError>,
 ) -> Result<Vec<Line>, AllocError>
-    ensures { IfOk result (λ lines. AreJoined first second lines.items) }
+    ensures { IfOk result (λ lines. AreJoined first (option_to_list between) second lines.items) }
 {
     let mut lines = first?;
     let mut more = second?;
+    if let Some(line) = between {
+        lines.push(line)?;
+    }
     lines.append(&mut more)?;
     Ok(lines)
 }

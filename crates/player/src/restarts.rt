@@ -1,12 +1,17 @@
 // The leaves of a crew while a rollover restarts them.
-ghost use Rattle.std.specs.Prelude.{◌≡◌, [], ◌∷◌, ◌++◌, IfOk, IsOkAnd, OnOk, MatchResult};
-ghost use Rattle.player.specs.Restarts.{DoesDeeds, IsRestart, MayRestart, PartJoins};
+ghost use Rattle.std.specs.Prelude.{◌≡◌, [], true, false, IfOk};
+ghost use Rattle.std.specs.Option.{option_to_list};
+ghost use Rattle.player.specs.Lines.{AreJoined};
+ghost use Rattle.player.specs.Restarts.{DoesDeeds, IsRestart, MayRestart, head_at, heads_left};
 
 use crate::answer::DeedOutcome;
+use crate::entries::joined;
 use printed_lines::{Deed, Line};
 use rollover_driver::Fleet;
 use rollover_watch::{Drained, Started};
 use std::alloc::{AllocError, Global};
+use std::collections::VecDeque;
+use std::mem::replace;
 
 /// Leaves that a closure drains and starts, and the relation that it keeps.
 pub trait RestartLeaves {
@@ -24,11 +29,13 @@ pub trait RestartLeaves {
     ghost did: { Self → ℕ → Deed → DeedOutcome × Result (Vec Line Global) AllocError → Self → Type 0 };
 }
 
-/// The leaves, the lines of each deed so far, and the closure that does the deeds: a trait's method could not take the
-/// gate.
+/// The leaves, the lines of their deeds so far, the lines of the waves that are not begun, whether the last deed was a
+/// drain, and the closure that does the deeds: a trait's method could not take the gate.
 pub struct Restarts<'f, T, F> {
     pub leaves: T,
-    pub told: Result<Vec<Vec<Line>>, AllocError>,
+    pub lines: Result<Vec<Line>, AllocError>,
+    pub heads: VecDeque<Line>,
+    pub draining: bool,
     pub act: &'f F,
 }
 
@@ -37,29 +44,35 @@ impl<
     T: RestartLeaves,
     F: Fn(&mut T, u32, Deed) -> (DeedOutcome, Result<Vec<Line>, AllocError>),
 > Restarts<'f, T, F> {
-    pub fn of(alloc: Global, leaves: T, act: &'f F) -> Self
+    pub fn of(alloc: Global, leaves: T, heads: Vec<Line>, act: &'f F) -> Self
         requires { DoesDeeds F.Fn act.now T.may T.did }
         ensures deeds { DoesDeeds F.Fn result.act.now T.may T.did }
         ensures leaves { result.leaves ≡ leaves }
-        ensures told { IsOkAnd result.told (λ parts. parts.items ≡ []) }
+        ensures lines { IfOk result.lines (λ lines. lines.items ≡ []) }
+        ensures heads { result.heads.items ≡ heads.items }
+        ensures draining { result.draining ≡ false }
     {
         Restarts {
             leaves,
-            told: Ok(Vec::new(alloc)),
+            lines: Ok(Vec::new(alloc)),
+            heads: VecDeque::from_vec(heads),
+            draining: false,
             act,
         }
     }
 
-    // Drains or starts a leaf, and keeps the lines.
-    fn restart(&mut self, leaf: u32, deed: Deed) -> DeedOutcome
+    // Drains or starts a leaf. Keeps the lines, after the line of the wave that begins, if one does.
+    fn restart(&mut self, leaf: u32, deed: Deed, head: Option<Line>) -> DeedOutcome
         requires may { MayRestart F.Fn self.old.act.now T.may T.did self.old.leaves leaf }
         requires deed { IsRestart deed }
         ensures act { self.new.act ≡ self.old.act }
-        ensures done { (lines : _) × T.did self.old.leaves leaf deed (result, lines) self.new.leaves
-            × IfOk self.new.told (λ parts. PartJoins self.old.told lines parts.items) }
+        ensures spot { (self.new.heads ≡ self.old.heads) × (self.new.draining ≡ self.old.draining) }
+        ensures done { (more : _) × T.did self.old.leaves leaf deed (result, more) self.new.leaves
+            × IfOk self.new.lines (λ lines. AreJoined self.old.lines (option_to_list head) more lines.items) }
     {
-        let (answer, lines) = (self.act)(&mut self.leaves, leaf, deed);
-        put_part(&mut self.told, lines);
+        let (answer, more) = (self.act)(&mut self.leaves, leaf, deed);
+        let lines = replace(&mut self.lines, Err(AllocError));
+        self.lines = joined(lines, head, more);
         answer
     }
 }
@@ -75,37 +88,32 @@ impl<
 
     ghost has = { λ fleet leaf. MayRestart F.Fn fleet.act.now T.may T.did fleet.leaves leaf };
 
-    ghost stands = { λ first calls now. Chain T.did first.leaves first.told calls now.leaves now.told };
+    ghost stands = { λ first calls now. Chain T.did first.leaves first.lines first.heads.items first.draining calls
+        now.leaves now.lines now.heads.items now.draining };
 
     fn drain(&mut self, leaf: u32) -> Drained {
-        self.restart(leaf, Deed::Drain(None)).drained
+        let head = next_head(&mut self.heads, &mut self.draining);
+        self.restart(leaf, Deed::Drain(None), head).drained
     }
 
     fn start(&mut self, leaf: u32) -> Started {
-        self.restart(leaf, Deed::Start).started
+        self.draining = false;
+        self.restart(leaf, Deed::Start, None).started
     }
 
-    ghost stays = { λ fleet. restart.none [] fleet.leaves fleet.told refl refl refl };
+    ghost stays = { λ fleet. restart.none [] fleet.leaves fleet.lines fleet.heads.items fleet.draining refl refl refl
+        refl refl };
 }
 
-// Appends the lines of a deed. Err if they or those before are.
-fn put_part(told: &mut Result<Vec<Vec<Line>>, AllocError>, part: Result<Vec<Line>, AllocError>)
-    ensures { IfOk told.new (λ parts. PartJoins told.old part parts.items) }
+// The line of the wave whose first drain comes now: the next, unless the last deed was a drain.
+fn next_head(heads: &mut VecDeque<Line>, draining: &mut bool) -> Option<Line>
+    ensures head { option_to_list result ≡ head_at heads.old.items draining.old }
+    ensures heads { heads.new.items ≡ heads_left heads.old.items draining.old }
+    ensures draining { draining.new ≡ true }
 {
-    if let Ok(parts) = told {
-        if let Err(fault) = push_part(parts, part) {
-            *told = Err(fault);
-        }
+    if *draining {
+        return None;
     }
-}
-
-// The same, after lines that are not Err.
-fn push_part(
-    parts: &mut Vec<Vec<Line>>,
-    part: Result<Vec<Line>, AllocError>,
-) -> Result<(), AllocError>
-    ensures { OnOk result (MatchResult part (λ lines. parts.new.items ≡ parts.old.items ++ lines ∷ []) (λ refused. ⊥)) }
-{
-    parts.push(part?)?;
-    Ok(())
+    *draining = true;
+    heads.pop_front()
 }

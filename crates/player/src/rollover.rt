@@ -6,11 +6,11 @@ ghost use Rattle.script_text.specs.Commands.{leaf_count};
 ghost use Rattle.player.specs.Crew.{AllPass, HasLeaf, PlaysOrder, StillHas};
 ghost use Rattle.player.specs.Members.{AreMembers, SameFleet, fleet_in, holds_in};
 ghost use Rattle.player.specs.Restarts.{DeedIsDone, IsRestart, MayDo};
-ghost use Rattle.player.specs.Rolled.{RollsThrough};
+ghost use Rattle.player.specs.Rolled.{RollsThrough, wave_lines};
 
 use crate::members::Members;
 use crate::restarts::Restarts;
-use crate::rolled::rolled_lines;
+use crate::rolled::{ended, wave_lines};
 use berth_face::{Berth, Gate};
 use leaf_model::Names;
 use printed_lines::{Deed, Line};
@@ -48,24 +48,27 @@ impl<'t, B: Berth> Members<'t, B> {
         ensures time { AllPass B.meaning (holds_in self.old) (holds_in self.new) }
     {
         let plan = waves(alloc, self.machines, self.per_machine, percent)?;
-        let (rolled, told) = self.roll(rt, alloc, gate, &plan, watches);
-        rolled_lines(alloc, plan, rolled, told?, watches.as_slice())
+        let heads = wave_lines(alloc, &plan)?;
+        let (rolled, lines) = self.roll(rt, alloc, gate, &plan, heads, watches);
+        ended(lines, rolled, &plan, watches.as_slice())
     }
 
-    // Goes through the waves, and gives the lines of each deed.
+    // Goes through the waves, and gives the lines: those of each wave are its own, `heads`, and those of its deeds.
     fn roll<R: Wait + Threads + Sync, G: Gate>(
         &mut self,
         rt: &R,
         alloc: Global,
         gate: &G,
         plan: &Waves,
+        heads: Vec<Line>,
         watches: &mut Vec<Box<dyn Watch>>,
-    ) -> (Rolled, Result<Vec<Vec<Line>>, AllocError>)
+    ) -> (Rolled, Result<Vec<Line>, AllocError>)
         requires members { AreMembers self.old }
         requires held { (leaf : ℕ) → HasLeaf (holds_in self.old) leaf }
         requires few { length plan.now ≤ leaf_count (fleet_in self.old) }
         requires known { AllByRecursion (λ wave. AllByRecursion (λ leaf. leaf < leaf_count (fleet_in self.old)) wave)
             plan.now }
+        requires heads { heads.items ≡ wave_lines 1 (length plan.now) plan.now }
         ensures { RollsThrough B.meaning plan.now self.old (map (λ watch. held watch) watches.old.items) result.0
             result.1 self.new (map (λ watch. held watch) watches.new.items) }
     {
@@ -73,15 +76,17 @@ impl<'t, B: Berth> Members<'t, B> {
             requires { MayDo members.old number × IsRestart deed }
             ensures { DeedIsDone B.meaning number deed members.old result members.new }
         { members.deed(rt, alloc, gate, number, deed) };
-        let mut fleet = Restarts::of(alloc, self.taken(alloc), &act);
+        let mut fleet = Restarts::of(alloc, self.taken(alloc), heads, &act);
         let rolled = drive(&mut fleet, plan, watches);
         let Restarts {
             leaves,
-            told,
+            lines,
+            heads: _,
+            draining: _,
             act: _,
         } = fleet;
         self.put_back(leaves);
-        (rolled, told)
+        (rolled, lines)
     }
 
     // Takes the leaves out, and leaves none.

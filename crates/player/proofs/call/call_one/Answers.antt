@@ -1,44 +1,41 @@
 use Rattle.std.proofs.Common.{List, Option, sym, subst}
 use Rattle.leaf_table.specs.Calls.{SeatView}
 use Rattle.leaf_table.specs.Lists.{lists_in}
+use Rattle.player.specs.Commands.{call_in}
 use Rattle.player.specs.Rows.{SeatRow, CallsTable, called_at}
-use Rattle.transcript.specs.Shapes.{call_of}
 use Rattle.player.proofs.Calling.{called_on, calls, is_called, stands_at}
-use Rattle.player.proofs.SeatRows.{column_then, is_then, only_then, there, row_wide}
+use Rattle.player.proofs.SeatRows.{RowRead, column_then, is_then, only_then, there, row_wide}
 use Rattle.player.proofs.call.call_one.Goals as goal
 
 pub index_mut-seat-requires : goal.index_mut-seat-requires
-index_mut-seat-requires g c = row_wide c.args.leaf c.args.tables.now c.args.rows.now.items c.args.table c.index_mut-row.result.now c.requires.column c.requires.table c.requires.has c.index_mut-row.ensures.value
+index_mut-seat-requires g c =
+    let row : RowRead c.args.leaf c.args.tables.now c.args.rows.now.items c.args.table c.index_mut-row.result.now =
+    record { is = c.requires.column; within = c.requires.table; has = c.requires.has; read = c.index_mut-row.ensures.value } in
+    row_wide row
 
 pub call_by-requires-clause-seat : goal.call_by-requires-clause-seat
 call_by-requires-clause-seat g c = λ κs bounds.
+    let row : RowRead c.args.leaf c.args.tables.now c.args.rows.now.items c.args.table c.index_mut-row.result.now =
+    record { is = c.requires.column; within = c.requires.table; has = c.requires.has; read = c.index_mut-row.ensures.value } in
     let x : SeatRow = called_at c.args.leaf c.args.tables.now (lists_in c.args.rows.now.items) in
-    let was = there c.args.leaf c.args.tables.now c.args.rows.now.items c.args.table c.index_mut-row.result.now c.requires.column c.requires.table c.requires.has c.index_mut-row.ensures.value c.index_mut-seat.result.now c.index_mut-seat.ensures.value in
-    (is_called x c.args.table c.index-tables-table.result c.index_mut-seat.result.now c.requires.column.called (stands_at c.args.tables.now c.args.table c.index-tables-table.result c.requires.table c.index-tables-table.is) was).seat
+    let seat = c.index_mut-seat.result.now in
+    let shared = c.index-tables-table.result in
+    is_called x c.args.table shared seat c.requires.column.called (stands_at c.args.tables.now c.args.table shared c.requires.table c.index-tables-table.is) (there row seat c.index_mut-seat.ensures.value)
 
-pub call_by-requires-clause-caller : goal.call_by-requires-clause-caller
-call_by-requires-clause-caller g c = λ κs bounds.
+pub returns : goal.returns
+returns g c =
+    let row : RowRead c.args.leaf c.args.tables.now c.args.rows.now.items c.args.table c.index_mut-row.result.now =
+    record { is = c.requires.column; within = c.requires.table; has = c.requires.has; read = c.index_mut-row.ensures.value } in
     let x : SeatRow = called_at c.args.leaf c.args.tables.now (lists_in c.args.rows.now.items) in
-    let was = there c.args.leaf c.args.tables.now c.args.rows.now.items c.args.table c.index_mut-row.result.now c.requires.column c.requires.table c.requires.has c.index_mut-row.ensures.value c.index_mut-seat.result.now c.index_mut-seat.ensures.value in
-    (is_called x c.args.table c.index-tables-table.result c.index_mut-seat.result.now c.requires.column.called (stands_at c.args.tables.now c.args.table c.index-tables-table.result c.requires.table c.index-tables-table.is) was).caller
-
-pub returns-clause-calls : goal.returns-clause-calls
-returns-clause-calls g c =
-    let x : SeatRow = called_at c.args.leaf c.args.tables.now (lists_in c.args.rows.now.items) in
-    let was = there c.args.leaf c.args.tables.now c.args.rows.now.items c.args.table c.index_mut-row.result.now c.requires.column c.requires.table c.requires.has c.index_mut-row.ensures.value c.index_mut-seat.result.now c.index_mut-seat.ensures.value in
-    let then = column_then c.args.leaf c.args.tables.now c.args.rows.now.items c.args.table c.index_mut-row.result.now c.requires.column c.requires.table c.requires.has c.index_mut-row.ensures.value c.call_by.new.seat in
-    subst (λ (seats : List (Option SeatView)). CallsTable c.args.table (call_of c.args.request) x c.call_by.result (record { tables = c.args.tables.now; seats = seats })) (sym then)
-    (calls x c.args.table c.index-tables-table.result c.index_mut-seat.result.now c.requires.column.called (stands_at c.args.tables.now c.args.table c.index-tables-table.result c.requires.table c.index-tables-table.is) was
-    (call_of c.args.request) c.call_by.result c.call_by.new.seat c.call_by.ensures.made)
-
-pub returns-clause-column : goal.returns-clause-column
-returns-clause-column g c =
-    let x : SeatRow = called_at c.args.leaf c.args.tables.now (lists_in c.args.rows.now.items) in
-    let was = there c.args.leaf c.args.tables.now c.args.rows.now.items c.args.table c.index_mut-row.result.now c.requires.column c.requires.table c.requires.has c.index_mut-row.ensures.value c.index_mut-seat.result.now c.index_mut-seat.ensures.value in
-    is_then c.args.leaf c.args.tables.now c.args.rows.now.items c.args.table c.index_mut-row.result.now c.requires.column c.requires.table c.requires.has c.index_mut-row.ensures.value c.call_by.new.seat
-    (called_on x c.args.table c.index-tables-table.result c.index_mut-seat.result.now c.requires.column.called (stands_at c.args.tables.now c.args.table c.index-tables-table.result c.requires.table c.index-tables-table.is) was
-    (call_of c.args.request) c.call_by.result c.call_by.new.seat c.call_by.ensures.seat c.call_by.ensures.same c.call_by.ensures.made)
-
-pub returns-clause-only : goal.returns-clause-only
-returns-clause-only g c =
-    only_then c.args.leaf c.args.tables.now c.args.rows.now.items c.args.table c.index_mut-row.result.now c.requires.column c.requires.table c.requires.has c.index_mut-row.ensures.value c.call_by.new.seat
+    let seat = c.index_mut-seat.result.now in
+    let shared = c.index-tables-table.result in
+    let at = stands_at c.args.tables.now c.args.table shared c.requires.table c.index-tables-table.is in
+    let was = there row seat c.index_mut-seat.ensures.value in
+    let then = c.call_by.new.seat in
+    let made = c.call_by.ensures in
+    record {
+      calls = subst (λ (seats : List (Option SeatView)). CallsTable c.args.table (call_in c.args.call) x c.call_by.result (record { tables = c.args.tables.now; seats = seats })) (sym (column_then row then))
+          (calls x c.args.table shared seat c.requires.column.called at was (call_in c.args.call) c.call_by.result then made.made);
+      column = is_then row then (called_on x c.args.table shared seat c.requires.column.called at was (call_in c.args.call) c.call_by.result then made.seat made.same made.made);
+      only = only_then row then;
+    }

@@ -5,7 +5,8 @@ use Rattle.transcript.specs.Pieces.{place_among}
 use Rattle.player.specs.Crew.{HasSeats}
 use Rattle.player.specs.Members.{fleet_in, holds_in}
 use Rattle.player.specs.Commands.{query_lines}
-use Rattle.player.proofs.Asking.{asks_refused, asks_told, members_row, seats_at}
+use Rattle.player.proofs.Asking.{asks_refused, asks_told, members_row}
+use Rattle.player.proofs.RowCalls.{seats_at}
 use Rattle.player.proofs.members.Members.ask.Goals as goal
 
 pub ask_row-requires-clause-seats : goal.ask_row-requires-clause-seats

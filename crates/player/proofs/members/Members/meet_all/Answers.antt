@@ -1,9 +1,9 @@
 use Rattle.std.proofs.Common.{◌≤◌, ◌+◌, length, refl, ◌∙◌, arith}
 use Rattle.leaf_table.specs.Lists.{lists_in}
 use Rattle.player.specs.Members.{holds_in}
-use Rattle.player.proofs.Chains.{still_none}
+use Rattle.player.proofs.Chains.{still_more, still_none}
 use Rattle.player.proofs.HoldLists.{holds_count, still_leaf}
-use Rattle.player.proofs.MeetLeaves.{all_pass, leaves_all, leaves_more, leaves_none, still_more}
+use Rattle.player.proofs.MeetLeaves.{all_pass, leaves_all, leaves_more, leaves_none}
 use Rattle.player.proofs.members.Members.meet_all.Goals as goal
 
 pub loop-number-init : goal.loop-number-init

@@ -1,12 +1,15 @@
-use Rattle.std.proofs.Common.{◌≡◌, ℕ, ◌<◌, refl, sym, ap, subst, ◌∙◌}
+use Rattle.std.proofs.Common.{◌≡◌, ◌<◌, Bool, List, length, sym, subst, ◌∙◌}
 use mir.Syntax.{of_param}
 use denote.Exit.{unseen}
 use denote.Param.Send.{Quiet-if}
+use Rattle.printed_lines.specs.declared.line.Line.{Line}
 use Rattle.script_text.specs.Commands.{leaf_count}
 use Rattle.player.specs.declared.members.Members.{Members}
 use Rattle.player.specs.Members.{fleet_in}
-use Rattle.player.specs.Restarts.{MayDo, Restarted}
-use Rattle.player.proofs.Restarting.{begun_none, chained, may_still, of_waves}
+use Rattle.player.specs.Restarts.{Chain, DeedIsDone, MayDo, RollsOn}
+use Rattle.player.specs.Rolled.{wave_lines}
+use Rattle.player.proofs.Restarting.{chained, may_still, of_waves}
+use Rattle.player.proofs.WaveLines.{waves_fit}
 use Rattle.player.proofs.members.Members.roll.Goals as goal
 
 pub of-fleet-requires : goal.of-fleet-requires
@@ -34,16 +37,23 @@ drive-rolled-requires-clause-known g c =
 
 pub returns : goal.returns
 returns g c =
-    let made = c.drive-rolled.ensures.drives in
+    let driven = c.drive-rolled.ensures.drives in
+    let made = c.of-fleet.ensures in
     let meaning = g.B.Berth.meaning in
-    let first = c.of-fleet.result.told in
-    let told = c.drive-rolled.new.fleet.told in
+    let fleet = c.of-fleet.result in
+    let then = c.drive-rolled.new.fleet in
+    let plan = c.args.plan.now in
+    let x = c.args.self.now in
+    let heads : List Line = wave_lines 1 (length plan) plan in
+    let leaves : fleet.leaves ≡ x = made.leaves ∙ c.taken.ensures.taken in
+    let chain = subst (λ (b : Bool). Chain (λ u leaf t r v. DeedIsDone meaning leaf t u r v) x fleet.lines heads b driven.0 then.leaves then.lines then.heads.items then.draining) made.draining
+    (subst (λ (ls : List Line). Chain (λ u leaf t r v. DeedIsDone meaning leaf t u r v) x fleet.lines ls fleet.draining driven.0 then.leaves then.lines then.heads.items then.draining) (made.heads ∙ c.requires.heads)
+    (subst (λ (u : Members g.row.B.Denot). Chain (λ u leaf t r v. DeedIsDone meaning leaf t u r v) u fleet.lines fleet.heads.items fleet.draining driven.0 then.leaves then.lines then.heads.items then.draining) leaves driven.1)) in
     record {
-      first = first;
-      none = begun_none first c.of-fleet.ensures.told;
-      calls = made.0;
-      restarted = subst (λ (x : Members g.row.B.Denot). Restarted meaning x first made.0 c.put_back.new.self told) (c.of-fleet.ensures.leaves ∙ c.taken.ensures.taken)
-          (subst (λ (y : Members g.row.B.Denot). Restarted meaning c.of-fleet.result.leaves first made.0 y told) (sym c.put_back.ensures)
-          (chained meaning c.of-fleet.result.leaves first c.drive-rolled.new.fleet.leaves told made.0 made.1));
-      drives = made.2;
+      calls = driven.0;
+      left = then.heads.items;
+      draining = then.draining;
+      rolls = subst (λ (y : Members g.row.B.Denot). RollsOn meaning x heads driven.0 then.lines y then.heads.items then.draining) (sym c.put_back.ensures)
+          (chained meaning x heads fleet.lines made.lines (waves_fit x.names 1 (length plan) plan) driven.0 then.leaves then.lines then.heads.items then.draining chain);
+      drives = driven.2;
     }

@@ -1,6 +1,6 @@
-use Rattle.std.proofs.Common.{length, arith, rules}
+use Rattle.std.proofs.Common.{arith, rules}
 use Rattle.std.specs.Prelude.{IsErr}
-use Rattle.player.proofs.Asking.{seats_at}
+use Rattle.player.proofs.RowCalls.{seats_at}
 use Rattle.player.proofs.Tailing.{members_row, none_sent, one_sent, some_leaves}
 use Rattle.player.proofs.members.Members.tail.Goals as goal
 
