@@ -1,13 +1,11 @@
 -- What is cut off for a lane, and what is left.
-use Rattle.std.proofs.Common.{◌≡◌, ℕ, suc, ◌+◌, ◌-◌, ◌<◌, ◌≤◌, Bool, true, false, cond, List, [], ◌∷◌, ◌++◌, length, Option, Some, None, refl, sym, ap, subst, ◌∙◌, arith}
+use Rattle.std.proofs.Common.{◌≡◌, ℕ, suc, ◌+◌, ◌-◌, ◌<◌, ◌≤◌, Bool, true, false, cond, List, [], ◌∷◌, ◌++◌, length, map, Option, Some, None, refl, sym, ap, subst, ◌∙◌, arith}
 use Rattle.std.specs.Prelude.{slice_get, is_some, count_by, MatchBool, replicate}
 use Rattle.std.specs.List.{AllByRecursion}
-use Rattle.std.proofs.lemmas.List.{length-replicate}
+use Rattle.std.proofs.lemmas.List.{length-replicate, map-append}
 use Rattle.std.proofs.lemmas.List.Sums.{sum_by_push}
 use Rattle.turnstile.specs.Seats.{keeps_all_but}
 use Rattle.leaf_table.specs.Calls.{SeatView}
-use Rattle.script_text.specs.declared.command.Command.{Command}
-use Rattle.script_text.specs.Fits.{IsCommand}
 use Rattle.script_text.specs.declared.fleet.FleetShape.{FleetShape}
 use Rattle.script_text.specs.Commands.{leaf_count}
 use Rattle.leaf_moves.specs.Holds.{Hold, caller_in}
@@ -15,10 +13,10 @@ use Rattle.leaf_moves.specs.Stage.{Leaf}
 use Rattle.leaf_moves.specs.Lanes.{CutsOff, CutsOffAt, SplitsIf}
 use Rattle.player.specs.Crew.{HasAll, HasLeaf, HasSeats, Spares, StillHas, is_set}
 use Rattle.bursts.specs.declared.plan.LanePlan.{LanePlan}
-use Rattle.bursts.specs.Needs.{AreAlone, AreSpare, CanLend, IsAmong, IsLanePlan, acts_on, leaves_acted_on, needed, needs_at, table_needed}
+use Rattle.bursts.specs.Needs.{AreAlone, AreSpare, CanLend, IsLanePlan, acts_on, leaves_acted_on, needs_at, planned_commands, table_needed}
 use Rattle.lane_play.specs.Played.{MayPlayOn}
 use Rattle.lane_play.proofs.Held.{still_leaf, still_seats, there_too}
-use Rattle.bursts.proofs.Needed.{all_marked, has_for, marked_by_length, set_below, table_below}
+use Rattle.bursts.proofs.Needed.{marked_by_length, marked_may, set_below}
 
 -- ---- one seat
 
@@ -31,17 +29,14 @@ off_some : (s off rest : Option SeatView) → SplitsIf true s off rest → is_so
 off_some None off rest splits some = absurd cc
 off_some (Some s) off rest splits some = ap (λ (o : Option SeatView). is_some o) splits.1
 
-share_less : (n : ℕ) (s off rest : Option SeatView) (c : SeatView) → SplitsIf true s off rest → rest ≡ Some c → ((v : SeatView) → s ≡ Some v → suc n ≤ v.share) → n ≤ c.share
-share_less n None off rest c splits is enough = let none : rest ≡ None = splits.1 in absurd cc
-share_less n (Some s) off rest c splits is enough =
+share_left : (needed : Bool) (n : ℕ) (s off rest : Option SeatView) (c : SeatView) → SplitsIf needed s off rest → rest ≡ Some c → ((v : SeatView) → s ≡ Some v → n + cond needed 1 0 ≤ v.share) → n ≤ c.share
+share_left needed n None off rest c splits is enough = let none : rest ≡ None = splits.1 in absurd cc
+share_left true n (Some s) off rest c splits is enough =
     let kept : rest ≡ Some (keeps_all_but 1 s) = splits.2 in
     let same : keeps_all_but 1 s ≡ c = cc in
     let share : s.share - 1 ≡ c.share = ap (λ (v : SeatView). v.share) same in
     omega (arith, share, enough s refl)
-
-share_same : (n : ℕ) (s off rest : Option SeatView) (c : SeatView) → SplitsIf false s off rest → rest ≡ Some c → ((v : SeatView) → s ≡ Some v → n ≤ v.share) → n ≤ c.share
-share_same n None off rest c splits is enough = let none : rest ≡ None = splits.1 in absurd cc
-share_same n (Some s) off rest c splits is enough =
+share_left false n (Some s) off rest c splits is enough =
     let kept : rest ≡ Some s = splits.1 in
     let same : s ≡ c = cc in
     let share : s.share ≡ c.share = ap (λ (v : SeatView). v.share) same in
@@ -80,17 +75,10 @@ module _ {B : Type 0} (needs acts : ℕ → Bool) (xs off rest : List (Hold B)) 
       let splits = subst (λ (b : Bool). SplitsIf b (caller_in c.1.x.callers table) (caller_in o.callers table) (caller_in c.0.callers table)) needed (c.1.is.seats table) in
       off_some (caller_in c.1.x.callers table) (caller_in o.callers table) (caller_in c.0.callers table) splits (has leaf c.1.x c.1.at)
 
-  pub rest_spares : (table n : ℕ) → needs table ≡ true → Spares xs table (suc n) → Spares rest table n
-  rest_spares table n needed spares = λ leaf r c at is.
+  pub rest_spares : (table n : ℕ) → Spares xs table (n + cond (needs table) 1 0) → Spares rest table n
+  rest_spares table n spares = λ leaf r c at is.
       let o = cut_rest leaf r at in
-      let splits = subst (λ (b : Bool). SplitsIf b (caller_in o.1.x.callers table) (caller_in o.0.callers table) (caller_in r.callers table)) needed (o.1.is.seats table) in
-      share_less n (caller_in o.1.x.callers table) (caller_in o.0.callers table) (caller_in r.callers table) c splits is (λ v at_v. spares leaf o.1.x v o.1.at at_v)
-
-  pub rest_spares_same : (table n : ℕ) → needs table ≡ false → Spares xs table n → Spares rest table n
-  rest_spares_same table n needed spares = λ leaf r c at is.
-      let o = cut_rest leaf r at in
-      let splits = subst (λ (b : Bool). SplitsIf b (caller_in o.1.x.callers table) (caller_in o.0.callers table) (caller_in r.callers table)) needed (o.1.is.seats table) in
-      share_same n (caller_in o.1.x.callers table) (caller_in o.0.callers table) (caller_in r.callers table) c splits is (λ v at_v. spares leaf o.1.x v o.1.at at_v)
+      share_left (needs table) n (caller_in o.1.x.callers table) (caller_in o.0.callers table) (caller_in r.callers table) c (o.1.is.seats table) is (λ v at_v. spares leaf o.1.x v o.1.at at_v)
 
   pub rest_leaf : (leaf : ℕ) → acts leaf ≡ false → HasLeaf xs leaf → HasLeaf rest leaf
   rest_leaf leaf stays has = λ r at.
@@ -108,39 +96,31 @@ module _ {B : Type 0} (needs acts : ℕ → Bool) (xs off rest : List (Hold B)) 
 
 -- ---- plans
 
-pub length_snoc : {A : Type 0} (xs : List A) (x : A) → length (xs ++ x ∷ []) ≡ suc (length xs)
-length_snoc [] x = refl
-length_snoc (y ∷ ys) x = ap suc (length_snoc ys x)
-
-front_all : {A : Type 0} (P : A → Type 0) (xs : List A) (x : A) → AllByRecursion P (xs ++ x ∷ []) → AllByRecursion P xs × P x
+pub front_all : {A : Type 0} (P : A → Type 0) (xs : List A) (x : A) → AllByRecursion P (xs ++ x ∷ []) → AllByRecursion P xs × P x
 front_all P [] x all = (tt, all.0)
 front_all P (y ∷ ys) x all = let more = front_all P ys x all.1 in ((all.0, more.0), more.1)
 
-if_true : (b : Bool) → b ≡ true → ◌≡◌ {A = ℕ} (cond b 1 0) 1
-if_true true e = refl
-if_true false e = absurd cc
-
-if_false : (b : Bool) → b ≡ false → ◌≡◌ {A = ℕ} (cond b 1 0) 0
-if_false true e = absurd cc
-if_false false e = refl
+pub lanes_last : (plans : List LanePlan) (plan : LanePlan) (all : List LanePlan) → all ≡ plans ++ plan ∷ [] → map planned_commands all ≡ map planned_commands plans ++ planned_commands plan ∷ []
+lanes_last plans plan all is = ap (λ (ps : List LanePlan). map planned_commands ps) is ∙ map-append planned_commands plans (plan ∷ [])
 
 count_snoc : (p : LanePlan → Bool) (plans : List LanePlan) (plan : LanePlan) → count_by p (plans ++ plan ∷ []) ≡ count_by p plans + cond (p plan) 1 0
 count_snoc p plans plan = sum_by_push (λ (q : LanePlan). cond (p q) 1 0) plans plan
 
-counted_yes : (p : LanePlan → Bool) (plans : List LanePlan) (plan : LanePlan) → p plan ≡ true → count_by p (plans ++ plan ∷ []) ≡ suc (count_by p plans)
-counted_yes p plans plan sure =
-    omega (arith, count_snoc p plans plan, if_true (p plan) sure)
+counted_yes : (p : LanePlan → Bool) (plans : List LanePlan) (plan : LanePlan) → p plan ≡ true → count_by p (plans ++ plan ∷ []) ≡ count_by p plans + 1
+counted_yes p plans plan sure = count_snoc p plans plan ∙ ap (λ (b : Bool). count_by p plans + cond b 1 0) sure
 
-counted_no : (p : LanePlan → Bool) (plans : List LanePlan) (plan : LanePlan) → p plan ≡ false → count_by p (plans ++ plan ∷ []) ≡ count_by p plans
-counted_no p plans plan never =
-    omega (arith, count_snoc p plans plan, if_false (p plan) never)
+counted_no : (p : LanePlan → Bool) (plans : List LanePlan) (plan : LanePlan) → p plan ≡ false → count_by p (plans ++ plan ∷ []) ≡ count_by p plans + 0
+counted_no p plans plan never = count_snoc p plans plan ∙ ap (λ (b : Bool). count_by p plans + cond b 1 0) never
 
 cases : (b : Bool) (C : Type 0) → (b ≡ true → C) → (b ≡ false → C) → C
 cases true C sure never = sure refl
 cases false C sure never = never refl
 
-spares_at : {B : Type 0} (xs : List (Hold B)) (table n m : ℕ) → n ≡ m → Spares xs table n → Spares xs table m
-spares_at xs table n m same spares = subst (Spares xs table) same spares
+-- what was cut off by these marks was cut off by the plan's
+pub cut_by : {B : Type 0} (plan : LanePlan) (xs off rest : List (Hold B)) (tables leaves : List Bool) → tables ≡ plan.needs.tables.items → leaves ≡ plan.needs.leaves.items → CutsOff (is_set tables) (is_set leaves) xs off rest
+    → CutsOff (is_set plan.needs.tables.items) (is_set plan.needs.leaves.items) xs off rest
+cut_by plan xs off rest tables leaves one two cut =
+    subst (λ (ms : List Bool). CutsOff (is_set plan.needs.tables.items) (is_set ms) xs off rest) two (subst (λ (ms : List Bool). CutsOff (is_set ms) (is_set leaves) xs off rest) one cut)
 
 module _ {B : Type 0} (fleet : FleetShape) (plans : List LanePlan) (plan : LanePlan) (xs : List (Hold B)) (can : CanLend fleet xs (plans ++ plan ∷ [])) where
   pub last_plan : IsLanePlan fleet plan
@@ -169,43 +149,25 @@ module _ {B : Type 0} (fleet : FleetShape) (plans : List LanePlan) (plan : LaneP
     lends_on = record {
       plans_are = (front_all (IsLanePlan fleet) plans plan can.plans_are).0;
       alone = λ leaf. let few = can.alone leaf in omega (arith, few, count_snoc (acts_on leaf) plans plan);
-      spare = λ table below. cases (needs_at table plan) (Spares rest table (suc (count_by (needs_at table) plans)))
-          (λ sure. rest_spares (is_set plan.needs.tables.items) (is_set plan.needs.leaves.items) xs off rest cut table (suc (count_by (needs_at table) plans)) sure
-          (spares_at xs table (suc (count_by (needs_at table) (plans ++ plan ∷ []))) (suc (suc (count_by (needs_at table) plans))) (ap suc (counted_yes (needs_at table) plans plan sure)) (can.spare table below)))
-          (λ never. rest_spares_same (is_set plan.needs.tables.items) (is_set plan.needs.leaves.items) xs off rest cut table (suc (count_by (needs_at table) plans)) never
-          (spares_at xs table (suc (count_by (needs_at table) (plans ++ plan ∷ []))) (suc (count_by (needs_at table) plans)) (ap suc (counted_no (needs_at table) plans plan never)) (can.spare table below)));
+      spare = λ table below.
+          let more : suc (count_by (needs_at table) (plans ++ plan ∷ [])) ≡ suc (count_by (needs_at table) plans) + cond (needs_at table plan) 1 0 = omega (arith, count_snoc (needs_at table) plans plan) in
+          rest_spares (is_set plan.needs.tables.items) (is_set plan.needs.leaves.items) xs off rest cut table (suc (count_by (needs_at table) plans)) (subst (Spares xs table) more (can.spare table below));
       seats = λ table below. rest_seats (is_set plan.needs.tables.items) (is_set plan.needs.leaves.items) xs off rest cut table (can.seats table below);
       leaves = λ leaf some. cases (acts_on leaf plan) (HasLeaf rest leaf)
           (λ sure. absurd (omega (arith, some, can.alone leaf, counted_yes (acts_on leaf) plans plan sure)))
           (λ never. rest_leaf (is_set plan.needs.tables.items) (is_set plan.needs.leaves.items) xs off rest cut leaf never (can.leaves leaf (omega (arith, some, counted_no (acts_on leaf) plans plan never))));
     }
 
-    lane_may : (cs : List Command) → AllByRecursion (IsCommand (leaf_count fleet) fleet.names) cs
-        → AllByRecursion (λ (c : Command). (i : ℕ) → IsAmong (table_needed fleet.names c) i → i < length fleet.names → is_set plan.needs.tables.items i ≡ true) cs
-        → AllByRecursion (λ (c : Command). (i : ℕ) → IsAmong (leaves_acted_on c) i → i < leaf_count fleet → is_set plan.needs.leaves.items i ≡ true) cs
-        → AllByRecursion (MayPlayOn fleet off) cs
-    lane_may [] are tables leaves = tt
-    lane_may (c ∷ cs) are tables leaves = (
-      (
-        are.0,
-        has_for fleet off c are.0
-            (λ table at. let marked = tables.0 table at (table_below fleet c table are.0 at) in
-            off_seats (is_set plan.needs.tables.items) (is_set plan.needs.leaves.items) xs off rest cut table marked (lends_seats table marked).0)
-            (λ leaf at below. let marked = leaves.0 leaf at below in
-            off_leaf (is_set plan.needs.tables.items) (is_set plan.needs.leaves.items) xs off rest cut leaf marked (lends_leaf leaf marked)),
-      ),
-      lane_may cs are.1 tables.1 leaves.1,
-    )
-
     -- the lane may play with what was cut off
     pub lane_ready : AllByRecursion (MayPlayOn fleet off) plan.commands.items
     lane_ready =
-        let cs = plan.commands.items in
-        lane_may cs last_plan.commands
-        (subst (λ (ms : List Bool). AllByRecursion (λ (c : Command). (i : ℕ) → IsAmong (table_needed fleet.names c) i → i < length fleet.names → is_set ms i ≡ true) cs) (sym last_plan.needs.tables)
-        (all_marked (table_needed fleet.names) cs (replicate (length fleet.names) false) (length fleet.names) (length-replicate (length fleet.names) false)))
-        (subst (λ (ms : List Bool). AllByRecursion (λ (c : Command). (i : ℕ) → IsAmong (leaves_acted_on c) i → i < leaf_count fleet → is_set ms i ≡ true) cs) (sym last_plan.needs.leaves)
-        (all_marked leaves_acted_on cs (replicate (leaf_count fleet) false) (leaf_count fleet) (length-replicate (leaf_count fleet) false)))
+        marked_may fleet off plan.commands.items (replicate (length fleet.names) false) (replicate (leaf_count fleet) false) (length-replicate (length fleet.names) false) (length-replicate (leaf_count fleet) false) last_plan.commands
+        (λ table set.
+        let marked : is_set plan.needs.tables.items table ≡ true = subst (λ (ms : List Bool). is_set ms table ≡ true) (sym last_plan.needs.tables) set in
+        off_seats (is_set plan.needs.tables.items) (is_set plan.needs.leaves.items) xs off rest cut table marked (lends_seats table marked).0)
+        (λ leaf set.
+        let marked : is_set plan.needs.leaves.items leaf ≡ true = subst (λ (ms : List Bool). is_set ms leaf ≡ true) (sym last_plan.needs.leaves) set in
+        off_leaf (is_set plan.needs.tables.items) (is_set plan.needs.leaves.items) xs off rest cut leaf marked (lends_leaf leaf marked))
 
 -- all of it is there before anything is cut off
 pub can_lend : {B : Type 0} (fleet fleet' : FleetShape) (xs ys : List (Hold B)) (plans : List LanePlan) → fleet' ≡ fleet → AllByRecursion (IsLanePlan fleet) plans → AreAlone plans → AreSpare fleet xs plans → HasAll fleet xs

@@ -1,36 +1,29 @@
 -- Lanes for which nothing is cut off, and which play nothing.
-use Rattle.std.proofs.Common.{◌≡◌, ℕ, zero, suc, false, List, [], ◌∷◌, ◌++◌, map, Option, Some, None, refl, sym, ap, subst, ◌∙◌, append_assoc, append-nil}
-use Rattle.std.specs.Prelude.{slice_get}
+use Rattle.std.proofs.Common.{◌≡◌, ℕ, zero, suc, false, List, [], ◌∷◌, ◌++◌, map, Option, Some, None, refl, sym, ap, subst, ◌∙◌}
+use Rattle.std.specs.Prelude.{option_map, slice_get}
 use Rattle.std.proofs.lemmas.List.{length-map}
+use Rattle.std.proofs.lemmas.Option.{same_Some, slice_get-map}
 use Rattle.berth_face.specs.Berth.{Meaning}
 use Rattle.leaf_table.specs.Calls.{SeatView}
+use Rattle.script_text.specs.declared.command.Command.{Command}
 use Rattle.script_text.specs.declared.fleet.FleetShape.{FleetShape}
-use Rattle.transcript.specs.Pieces.{Played}
+use Rattle.rollover_watch.specs.Watches.{Held}
+use Rattle.printed_lines.specs.declared.line.Line.{Line}
+use Rattle.transcript.specs.Pieces.{Played, commands_in, pieces_in}
+use Rattle.transcript.specs.Watching.{HearsAll}
 use Rattle.leaf_moves.specs.Holds.{Hold, caller_in}
-use Rattle.leaf_moves.specs.Lanes.{CutsOff, CutsOffAt, Fans, PlaysOn, SplitsIf, TakesBack, TakesBackAt, JoinsIf}
-
--- ---- lists
-
-same_some : {X : Type 0} (x y : X) → Some x ≡ Some y → x ≡ y
-same_some x y e = cc
-
-get_map : {X Y : Type 0} (f : X → Y) (xs : List X) (i : ℕ) (x : X) → slice_get xs i ≡ Some x → slice_get (map f xs) i ≡ Some (f x)
-get_map f [] i x at = cc
-get_map f (y ∷ ys) zero x at = ap (λ z. Some (f z)) (same_some y x at)
-get_map f (y ∷ ys) (suc i) x at = get_map f ys i x at
-
-one_there : {A : Type 0} (xs : List A) (i : ℕ) (x y : A) → slice_get xs i ≡ Some x → slice_get xs i ≡ Some y → y ≡ x
-one_there xs i x y at also = cc
+use Rattle.leaf_moves.specs.Lanes.{CutsOff, CutsOffAt, Fans, SplitsIf, TakesBack, TakesBackAt, JoinsIf}
+use Rattle.player.specs.Crew.{AllCounted}
+use Rattle.lane_play.proofs.Held.{counted_none, one_there}
+use Rattle.lane_play.proofs.Playing.{plays_none}
+use Rattle.bursts.specs.Lanes.{ArePrefixes, FansWent, LanesFit, all_of}
 
 -- ---- a hand that holds nothing
 
-no_seat : SeatView → Option SeatView
-no_seat s = None
-
-abbrev pub no_seats : List (Option SeatView) → List (Option SeatView)
+abbrev no_seats : List (Option SeatView) → List (Option SeatView)
 no_seats callers = map (λ (c : Option SeatView). None) callers
 
-abbrev pub nothing_of : {B : Type 0} → Hold B → Hold B
+abbrev nothing_of : {B : Type 0} → Hold B → Hold B
 nothing_of x = record { tables = x.tables; callers = no_seats x.callers; held = None }
 
 no_caller : (callers : List (Option SeatView)) (table : ℕ) → caller_in (no_seats callers) table ≡ None
@@ -49,12 +42,13 @@ joins_none c off none = subst (λ (o : Option SeatView). JoinsIf c o c) (sym non
     by None = refl
     by (Some s) = refl
 
-module _ {B : Type 0} (meaning : B → Meaning) (fleet : FleetShape) (xs : List (Hold B)) where
+module _ {B : Type 0} (meaning : B → Meaning) (xs : List (Hold B)) where
   abbrev off : List (Hold B)
   off = map (λ (x : Hold B). nothing_of x) xs
 
   off_at : (leaf : ℕ) (x o : Hold B) → slice_get xs leaf ≡ Some x → slice_get off leaf ≡ Some o → o ≡ nothing_of x
-  off_at leaf x o at there = one_there off leaf (nothing_of x) o (get_map (λ (y : Hold B). nothing_of y) xs leaf x at) there
+  off_at leaf x o at there =
+      same_Some o (nothing_of x) (sym there ∙ (slice_get-map (λ (y : Hold B). nothing_of y) xs leaf ∙ ap (λ (h : Option (Hold B)). option_map (λ (y : Hold B). nothing_of y) h) at))
 
   cuts_at : (x : Hold B) → CutsOffAt (λ table. false) false x (nothing_of x) x
   cuts_at x = record {
@@ -89,27 +83,43 @@ module _ {B : Type 0} (meaning : B → Meaning) (fleet : FleetShape) (xs : List 
         (subst (λ (h : Hold B). TakesBackAt meaning r h r) (sym (off_at leaf r o at there)) (back_at r));
   }
 
--- so many lanes without a command
-abbrev pub idle : ℕ → List (List Played)
-idle zero = []
-idle (suc k) = idle k ++ [] ∷ []
+-- ---- lanes of which nothing was played
 
-pub idle_snoc : (k : ℕ) → idle k ++ [] ∷ [] ≡ [] ∷ idle k
-idle_snoc zero = refl
-idle_snoc (suc k) = ap (λ (ps : List (List Played)). ps ++ [] ∷ []) (idle_snoc k)
+abbrev unplayed : List (List Command) → List (List Played)
+unplayed [] = []
+unplayed (lane ∷ lanes) = [] ∷ unplayed lanes
 
-module _ {B : Type 0} (meaning : B → Meaning) (fleet : FleetShape) where
-  pub idle_fans : (k : ℕ) (xs : List (Hold B)) → Fans meaning fleet xs (idle k) xs
-  idle_fans zero xs = Fans.none xs [] xs refl refl
-  idle_fans (suc k) xs =
-      Fans.beside xs (idle (suc k)) xs (idle k) [] (λ table. false) (λ leaf. false) (off meaning fleet xs) xs xs (off meaning fleet xs)
-      (cuts meaning fleet xs) (idle_fans k xs) (PlaysOn.none (off meaning fleet xs) [] (off meaning fleet xs) refl refl) (back meaning fleet xs) refl
+unplayed_snoc : (lanes : List (List Command)) → [] ∷ unplayed lanes ≡ unplayed lanes ++ [] ∷ []
+unplayed_snoc [] = refl
+unplayed_snoc (lane ∷ lanes) = ap (λ (ps : List (List Played)). [] ∷ ps) (unplayed_snoc lanes)
 
-  -- before lanes that played, as many others may stand that played nothing
-  pub idle_before : (k : ℕ) (xs : List (Hold B)) (lanes : List (List Played)) (ys : List (Hold B)) → Fans meaning fleet xs lanes ys → Fans meaning fleet xs (idle k ++ lanes) ys
-  idle_before k xs lanes ys (Fans.none ws ls zs empty same) =
-      subst (λ (ms : List (List Played)). Fans meaning fleet xs ms ys) (sym (ap (λ (ms : List (List Played)). idle k ++ ms) empty ∙ append-nil (idle k)))
-      (subst (λ (hs : List (Hold B)). Fans meaning fleet xs (idle k) hs) (sym same) (idle_fans k xs))
-  idle_before k xs lanes ys (Fans.beside ws ls zs first lane needs acts o rest rest' o' cut fan plays takes is) =
-      Fans.beside xs (idle k ++ lanes) ys (idle k ++ first) lane needs acts o rest rest' o' cut (idle_before k rest first rest' fan) plays takes
-      (ap (λ (ms : List (List Played)). idle k ++ ms) is ∙ sym (append_assoc (idle k) first (lane ∷ [])))
+unplayed_begin : (lanes : List (List Command)) → ArePrefixes (map commands_in (unplayed lanes)) lanes
+unplayed_begin [] = tt
+unplayed_begin (lane ∷ lanes) = ((lane, refl), unplayed_begin lanes)
+
+unplayed_all : (lanes : List (List Command)) → all_of (unplayed lanes) ≡ []
+unplayed_all [] = refl
+unplayed_all (lane ∷ lanes) = unplayed_all lanes
+
+unplayed_fit : (names : List (List ℕ)) (lanes : List (List Command)) → LanesFit names (unplayed lanes)
+unplayed_fit names [] = tt
+unplayed_fit names (lane ∷ lanes) = (tt, unplayed_fit names lanes)
+
+module _ {B : Type 0} (meaning : B → Meaning) (fleet : FleetShape) (xs : List (Hold B)) where
+  idle_fans : (lanes : List (List Command)) → Fans meaning fleet xs (unplayed lanes) xs
+  idle_fans [] = Fans.none xs [] xs refl refl
+  idle_fans (lane ∷ lanes) =
+      Fans.beside xs ([] ∷ unplayed lanes) xs (unplayed lanes) [] (λ table. false) (λ leaf. false) (off meaning xs) xs xs (off meaning xs)
+      (cuts meaning xs) (idle_fans lanes) (plays_none meaning fleet (off meaning xs)) (back meaning xs) (unplayed_snoc lanes)
+
+  pub fans_idle : (lanes : List (List Command)) (us : List Held) (ys : List (Hold B)) (told : Option (List Line)) → ys ≡ xs → told ≡ None → FansWent meaning fleet lanes xs us told ys us
+  fans_idle lanes us ys told same none =
+      subst (λ (hs : List (Hold B)). FansWent meaning fleet lanes xs us told hs us) (sym same) (subst (λ (o : Option (List Line)). FansWent meaning fleet lanes xs us o xs us) (sym none) (record {
+        played = unplayed lanes;
+        begun = unplayed_begin lanes;
+        plays = idle_fans lanes;
+        counted = subst (λ qs. AllCounted meaning (pieces_in qs) xs xs) (sym (unplayed_all lanes)) (counted_none meaning xs);
+        fit = unplayed_fit fleet.names lanes;
+        heard = subst (λ qs. HearsAll fleet qs us us) (sym (unplayed_all lanes)) refl;
+        lines_are = tt;
+      }))

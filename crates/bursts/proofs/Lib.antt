@@ -1,8 +1,8 @@
 pub mod Needed
 pub mod Hearing
-pub mod Handing
 pub mod Cutting
-pub mod Lending
+pub mod Idle
+pub mod Lanes
+pub mod Working
 pub mod Taking
 pub mod Items
-pub mod Idle

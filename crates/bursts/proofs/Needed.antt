@@ -1,9 +1,10 @@
 -- What a command needs, and what is marked for the commands of a lane.
-use Rattle.std.proofs.Common.{◌≡◌, ◌⊎◌, inl, inr, ap₂, drop, ◌++◌, ℕ, zero, suc, ◌+◌, ◌<◌, ◌≤◌, ◌==◌, ◌||◌, Bool, true, false, cond, List, [], ◌∷◌, length, refl, sym, ap, subst, ◌∙◌, arith, eq-eqb}
+use Rattle.std.proofs.Common.{◌≡◌, ◌⊎◌, inl, inr, drop, ℕ, zero, suc, ◌+◌, ◌<◌, ◌≤◌, ◌==◌, Bool, true, false, cond, List, [], ◌∷◌, length, map, refl, sym, ap, subst, ◌∙◌, arith, eq-eqb}
 use Rattle.std.specs.Prelude.{slice_index_or, slice_set, replicate}
 use Rattle.std.specs.List.{AllByRecursion, Contains, filter}
 use Rattle.std.specs.Str.{bytes_eq}
-use Rattle.std.proofs.lemmas.List.{length-replicate, length-set}
+use Rattle.std.proofs.lemmas.Bool.{or_left, or_right}
+use Rattle.std.proofs.lemmas.List.{drop_more, get_or-replicate, get_or-set_same, length-replicate, length-set}
 use Rattle.std.proofs.lemmas.List.Sums.{length-filter}
 use Rattle.std.proofs.lemmas.Slice.Eq.{bytes_eq-Decides}
 use Rattle.script_text.specs.declared.command.Command.{Command}
@@ -20,7 +21,7 @@ use Rattle.transcript.specs.Pieces.{place_among}
 use Rattle.leaf_moves.specs.Holds.{Hold}
 use Rattle.player.specs.Crew.{HasAimed, HasAll, HasFor, HasLeaf, HasOrder, HasSeats, is_set}
 use Rattle.bursts.specs.declared.plan.LanePlan.{LanePlan}
-use Rattle.bursts.specs.Needs.{AreAlone, ArePlans, Everywhere, IsAmong, IsLanePlan, IsPlanOf, Nowhere, OnlyAt, NeededPlaces, acts_on, leaves_aimed_at, leaves_acted_on, marked, marked_by, needed, table_aimed_at, table_needed}
+use Rattle.bursts.specs.Needs.{AreAlone, ArePlans, Everywhere, IsAmong, IsLanePlan, Nowhere, OnlyAt, NeededPlaces, acts_on, leaves_aimed_at, leaves_acted_on, marked, marked_by, needed, planned_commands, table_aimed_at, table_needed}
 use Rattle.lane_play.specs.Played.{MayPlayOn}
 
 -- ---- commands
@@ -100,11 +101,6 @@ set_kept (m ∷ ms) zero (suc i) e = e
 set_kept (m ∷ ms) (suc j) zero e = e
 set_kept (m ∷ ms) (suc j) (suc i) e = set_kept ms j i e
 
-set_there : (marks : List Bool) (j : ℕ) → j < length marks → is_set (slice_set marks j true) j ≡ true
-set_there [] j below = absurd (omega (arith, below))
-set_there (m ∷ ms) zero below = refl
-set_there (m ∷ ms) (suc j) below = set_there ms j (omega (arith, below))
-
 set_only : (marks : List Bool) (j i : ℕ) → is_set (slice_set marks j true) i ≡ true → (j ≡ i) ⊎ (is_set marks i ≡ true)
 set_only [] j i e = inr e
 set_only (m ∷ ms) zero zero e = inl refl
@@ -120,11 +116,6 @@ none_set : (n i : ℕ) → is_set (replicate n false) i ≡ false
 none_set zero i = refl
 none_set (suc n) zero = refl
 none_set (suc n) (suc i) = none_set n i
-
-all_set : (n i : ℕ) → i < n → is_set (replicate n true) i ≡ true
-all_set zero i below = absurd (omega (arith, below))
-all_set (suc n) zero below = refl
-all_set (suc n) (suc i) below = all_set n i (omega (arith, below))
 
 pub set_below : (marks : List Bool) (i : ℕ) → is_set marks i ≡ true → i < length marks
 set_below [] i e = absurd cc
@@ -143,7 +134,7 @@ marked_by_length place (c ∷ cs) marks = marked_by_length place cs (marked (pla
 marked_kept : (place : NeededPlaces) (marks : List Bool) (i : ℕ) → is_set marks i ≡ true → is_set (marked place marks) i ≡ true
 marked_kept Nowhere marks i e = e
 marked_kept (OnlyAt j) marks i e = set_kept marks j i e
-marked_kept Everywhere marks i e = all_set (length marks) i (set_below marks i e)
+marked_kept Everywhere marks i e = get_or-replicate (length marks) i true false (set_below marks i e)
 
 all_kept : (place : Command → NeededPlaces) (cs : List Command) (marks : List Bool) (i : ℕ) → is_set marks i ≡ true → is_set (marked_by place cs marks) i ≡ true
 all_kept place [] marks i e = e
@@ -152,25 +143,25 @@ all_kept place (c ∷ cs) marks i e = all_kept place cs (marked (place c) marks)
 marked_there : (place : NeededPlaces) (marks : List Bool) (i : ℕ) → IsAmong place i → i < length marks → is_set (marked place marks) i ≡ true
 marked_there Nowhere marks i at below = absurd at
 marked_there (OnlyAt j) marks i at below =
-    subst (λ k. is_set (slice_set marks j true) k ≡ true) at (set_there marks j (subst (λ k. k < length marks) (sym at) below))
-marked_there Everywhere marks i at below = all_set (length marks) i below
+    subst (λ k. is_set (slice_set marks j true) k ≡ true) at (get_or-set_same marks j true false (subst (λ k. k < length marks) (sym at) below))
+marked_there Everywhere marks i at below = get_or-replicate (length marks) i true false below
 
--- whatever a command needs is marked
-pub all_marked : (place : Command → NeededPlaces) (cs : List Command) (marks : List Bool) (n : ℕ) → length marks ≡ n
-    → AllByRecursion (λ (c : Command). (i : ℕ) → IsAmong (place c) i → i < n → is_set (marked_by place cs marks) i ≡ true) cs
-all_marked place [] marks n long = tt
-all_marked place (c ∷ cs) marks n long = (
-  λ i at below. all_kept place cs (marked (place c) marks) i (marked_there (place c) marks i at (omega (arith, below, long))),
-  all_marked place cs (marked (place c) marks) n (marked_length (place c) marks ∙ long),
-)
-
-pub or_left : (a b : Bool) → a ≡ true → (a || b) ≡ true
-or_left true b e = refl
-or_left false b e = absurd cc
-
-pub or_right : (a b : Bool) → b ≡ true → (a || b) ≡ true
-or_right true b e = refl
-or_right false b e = e
+-- with a seat at each marked table, and each marked leaf, the commands may be played
+pub marked_may : {B : Type 0} (fleet : FleetShape) (xs : List (Hold B)) (cs : List Command) (tables leaves : List Bool) → length tables ≡ length fleet.names → length leaves ≡ leaf_count fleet
+    → AllByRecursion (IsCommand (leaf_count fleet) fleet.names) cs → ((table : ℕ) → is_set (marked_by (table_needed fleet.names) cs tables) table ≡ true → HasSeats xs table)
+    → ((leaf : ℕ) → is_set (marked_by leaves_acted_on cs leaves) leaf ≡ true → HasLeaf xs leaf) → AllByRecursion (MayPlayOn fleet xs) cs
+marked_may fleet xs [] tables leaves t l are seats acts = tt
+marked_may fleet xs (c ∷ cs) tables leaves t l are seats acts =
+    let more_tables = marked (table_needed fleet.names c) tables in
+    let more_leaves = marked (leaves_acted_on c) leaves in (
+      (
+        are.0,
+        has_for fleet xs c are.0
+            (λ table at. seats table (all_kept (table_needed fleet.names) cs more_tables table (marked_there (table_needed fleet.names c) tables table at (omega (arith, table_below fleet c table are.0 at, t)))))
+            (λ leaf at below. acts leaf (all_kept leaves_acted_on cs more_leaves leaf (marked_there (leaves_acted_on c) leaves leaf at (omega (arith, below, l))))),
+      ),
+      marked_may fleet xs cs more_tables more_leaves (marked_length (table_needed fleet.names c) tables ∙ t) (marked_length (leaves_acted_on c) leaves ∙ l) are.1 seats acts,
+    )
 
 by_steward : (leaf : ℕ) (marks : List Bool) (i : ℕ) → is_set (slice_set marks leaf true) i ≡ true → ((leaf == i) ≡ true) ⊎ (is_set marks i ≡ true)
 by_steward leaf marks i e = by (set_only marks leaf i e)
@@ -211,46 +202,17 @@ needed_steward cs n i e = by (marked_stewards cs (replicate n false) i e)
 
 -- the first of what is left
 pub drop_next : {A : Type 0} (xs : List A) (i : ℕ) (x : A) → i < length xs → x ≡ slice_index_or xs i x → drop i xs ≡ x ∷ drop (i + 1) xs
-drop_next {A = A} xs i x below is =
-    let more : suc i ≡ i + 1 = omega arith in
-    first xs i below ∙ ap₂ (λ (y : A) (n : ℕ). y ∷ drop n xs) (sym is) more
+drop_next {A = A} xs i x below is = drop_more xs i x below ∙ ap (λ (y : A). y ∷ drop (i + 1) xs) (sym is)
+
+fewer : (leaf : ℕ) (fleet : FleetShape) (plans : List LanePlan) → AllByRecursion (IsLanePlan fleet) plans → length (filter (acts_on leaf) plans) ≤ length (filter (has_steward leaf) (map planned_commands plans))
+fewer leaf fleet [] are = omega arith
+fewer leaf fleet (p ∷ ps) are =
+    by (acts_on leaf p) (has_steward leaf p.commands.items) (filter (acts_on leaf) ps) (filter (has_steward leaf) (map planned_commands ps)) marks (fewer leaf fleet ps are.1)
   where
-    first : (ys : List A) (j : ℕ) → j < length ys → drop j ys ≡ slice_index_or ys j x ∷ drop (suc j) ys
-    first [] j under = absurd (omega (arith, under))
-    first (y ∷ ys) zero under = refl
-    first (y ∷ ys) (suc j) under = first ys j (omega (arith, under))
+    marks : acts_on leaf p ≡ true → has_steward leaf p.commands.items ≡ true
+    marks e = needed_steward p.commands.items (leaf_count fleet) leaf (subst (λ (ms : List Bool). is_set ms leaf ≡ true) are.0.needs.leaves e)
 
-pub plans_more : (fleet : FleetShape) (lanes : List (List Command)) (plans : List LanePlan) (lane : List Command) (plan : LanePlan) → ArePlans fleet lanes plans → IsPlanOf fleet lane plan → ArePlans fleet (lanes ++ lane ∷ []) (plans ++ plan ∷ [])
-plans_more fleet [] [] lane plan are is = (is, tt)
-plans_more fleet [] (p ∷ ps) lane plan are is = absurd are
-plans_more fleet (l ∷ ls) [] lane plan are is = absurd are
-plans_more fleet (l ∷ ls) (p ∷ ps) lane plan are is = (are.0, plans_more fleet ls ps lane plan are.1 is)
-
-pub plans_all : (fleet : FleetShape) (lanes : List (List Command)) (plans : List LanePlan) → ArePlans fleet lanes plans → AllByRecursion (IsLanePlan fleet) plans
-plans_all fleet [] [] are = tt
-plans_all fleet [] (p ∷ ps) are = absurd are
-plans_all fleet (l ∷ ls) [] are = absurd are
-plans_all fleet (l ∷ ls) (p ∷ ps) are = (are.0.is, plans_all fleet ls ps are.1)
-
-pub plans_count : (fleet : FleetShape) (lanes : List (List Command)) (plans : List LanePlan) → ArePlans fleet lanes plans → length plans ≡ length lanes
-plans_count fleet [] [] are = refl
-plans_count fleet [] (p ∷ ps) are = absurd are
-plans_count fleet (l ∷ ls) [] are = absurd are
-plans_count fleet (l ∷ ls) (p ∷ ps) are = ap suc (plans_count fleet ls ps are.1)
-
-fewer : (leaf : ℕ) (fleet : FleetShape) (lanes : List (List Command)) (plans : List LanePlan) → ArePlans fleet lanes plans → length (filter (acts_on leaf) plans) ≤ length (filter (has_steward leaf) lanes)
-fewer leaf fleet [] [] are = omega arith
-fewer leaf fleet [] (p ∷ ps) are = absurd are
-fewer leaf fleet (l ∷ ls) [] are = absurd are
-fewer leaf fleet (l ∷ ls) (p ∷ ps) are =
-    by (acts_on leaf p) (has_steward leaf l) (filter (acts_on leaf) ps) (filter (has_steward leaf) ls) marks (fewer leaf fleet ls ps are.1)
-  where
-    marks : acts_on leaf p ≡ true → has_steward leaf l ≡ true
-    marks e =
-        let here : is_set (needed leaves_acted_on (leaf_count fleet) p.commands.items) leaf ≡ true = subst (λ (ms : List Bool). is_set ms leaf ≡ true) are.0.is.needs.leaves e in
-        subst (λ (cs : List Command). has_steward leaf cs ≡ true) are.0.lane_is (needed_steward p.commands.items (leaf_count fleet) leaf here)
-
-    by : (a b : Bool) (us : List LanePlan) (vs : List (List Command)) → (a ≡ true → b ≡ true) → length us ≤ length vs → length (cond a (p ∷ us) us) ≤ length (cond b (l ∷ vs) vs)
+    by : (a b : Bool) (us : List LanePlan) (vs : List (List Command)) → (a ≡ true → b ≡ true) → length us ≤ length vs → length (cond a (p ∷ us) us) ≤ length (cond b (p.commands.items ∷ vs) vs)
     by true true us vs m le = omega (arith, le)
     by true false us vs m le = let wrong : false ≡ true = m refl in absurd cc
     by false true us vs m le = omega (arith, le)
@@ -259,5 +221,6 @@ fewer leaf fleet (l ∷ ls) (p ∷ ps) are =
 -- no leaf is acted on by two lanes
 pub alone : (fleet : FleetShape) (lanes : List (List Command)) (plans : List LanePlan) → ArePlans fleet lanes plans → OneSteward lanes → AreAlone plans
 alone fleet lanes plans are one leaf =
-    let below = fewer leaf fleet lanes plans are in
+    let below : length (filter (acts_on leaf) plans) ≤ length (filter (has_steward leaf) lanes) =
+    subst (λ (ls : List (List Command)). length (filter (acts_on leaf) plans) ≤ length (filter (has_steward leaf) ls)) are.lanes_are (fewer leaf fleet plans are.each) in
     omega (arith, below, one leaf, length-filter (acts_on leaf) plans)

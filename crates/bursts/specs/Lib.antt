@@ -1,4 +1,4 @@
 pub mod Items
 pub mod Needs
 pub mod Rolling
-pub mod Lent
+pub mod Lanes

@@ -1,5 +1,5 @@
 -- What the commands of a lane need, and whether a crew can lend it to all lanes.
-use Rattle.std.specs.Prelude.{◌≡◌, ℕ, suc, ◌<◌, ◌≤◌, List, [], ◌∷◌, Bool, true, false, length, replicate, slice_set, count_by, ⊤}
+use Rattle.std.specs.Prelude.{◌≡◌, ℕ, suc, ◌<◌, ◌≤◌, List, [], ◌∷◌, Bool, true, false, length, map, replicate, slice_set, count_by, ⊤}
 use Rattle.std.specs.List.{AllByRecursion}
 use Rattle.script_text.specs.declared.command.Command.{Command}
 use Rattle.script_text.specs.Aims.{Aim, AtLeaf, AtLeaves, AtNamed, AtTable, aim_of}
@@ -83,11 +83,9 @@ pub record IsPlanOf (fleet : FleetShape) (lane : List Command) (plan : LanePlan)
   pub lane_is : plan.commands.items ≡ lane
 
 -- one plan for each lane
-abbrev pub ArePlans : FleetShape → List (List Command) → List LanePlan → Type 0
-ArePlans fleet [] [] = Unit {0}
-ArePlans fleet [] (p ∷ ps) = ⊥
-ArePlans fleet (l ∷ ls) [] = ⊥
-ArePlans fleet (l ∷ ls) (p ∷ ps) = IsPlanOf fleet l p × ArePlans fleet ls ps
+pub record ArePlans (fleet : FleetShape) (lanes : List (List Command)) (plans : List LanePlan) : Type 0 where
+  pub lanes_are : map planned_commands plans ≡ lanes
+  pub each : AllByRecursion (IsLanePlan fleet) plans
 
 -- ---- what can be lent
 

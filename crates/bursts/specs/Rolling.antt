@@ -1,5 +1,5 @@
 -- Which lanes of a burst have a rollover, and how the watches go with them.
-use Rattle.std.specs.Prelude.{◌≡◌, ℕ, zero, suc, ◌+◌, List, [], ◌∷◌, Bool, true, false}
+use Rattle.std.specs.Prelude.{◌≡◌, ℕ, ◌+◌, List, [], ◌∷◌, Bool, true, false}
 use Rattle.std.specs.List.{list_any}
 use Rattle.script_text.specs.declared.command.Command.{Command}
 use Rattle.script_text.specs.declared.command.Command.TheVariants as command
@@ -26,9 +26,3 @@ rolling (lane ∷ lanes) = one_if (has_rollover lane) + rolling lanes
 abbrev pub IsHandedOver : Bool → List Held → List Held → List Held → Type 0
 IsHandedOver true was left its = (its ≡ was) × (left ≡ [])
 IsHandedOver false was left its = left ≡ was
-
--- what the watches heard of lanes, `n` of which have a rollover: nothing if none has; else the watches that were handed
--- over heard it, and are back
-abbrev pub Between : ℕ → List Held → List Held → List Held → List Held → Type 0
-Between zero was now before after = after ≡ before
-Between (suc n) was now before after = (before ≡ was) × (after ≡ now)

@@ -20,8 +20,9 @@ use std::alloc::{AllocError, Global};
 use std::sync::Wait;
 use std::thread::Threads;
 
-/// Plays the lanes of a burst: beside one another if the callers have ids enough for them, else in turn. After Err,
-/// which is want of memory, all leaves, seats and watches are still back.
+/// Plays the lanes of a burst. If the callers have ids enough for them, all seats meet, so that each lane knows what
+/// was done before the burst, and the lanes play beside one another; else they play in turn. After Err, which is want
+/// of memory, all leaves, seats and watches are still back.
 pub fn play_burst<'t, R: Wait + Threads + Sync, B: Berth, G: Gate>(
     rt: &R,
     alloc: Global,
@@ -43,7 +44,11 @@ pub fn play_burst<'t, R: Wait + Threads + Sync, B: Berth, G: Gate>(
 {
     let plans = plan_all(alloc, crew, lanes)?;
     if are_spare(crew, plans.as_slice()) {
-        play_beside(rt, alloc, gate, crew, watches, plans)
+        let mut works = Vec::with_capacity(alloc, plans.len())?;
+        crew.meet_all();
+        let lines = play_beside(rt, alloc, gate, crew, watches, plans, &mut works);
+        works.destroy_empty();
+        lines
     } else {
         play_in_turn(rt, alloc, gate, crew, watches, plans)
     }

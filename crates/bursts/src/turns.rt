@@ -2,22 +2,23 @@
 ghost use Rattle.std.specs.Prelude.{◌≡◌, ◌≤◌, length, map};
 ghost use Rattle.std.specs.List.{AllByRecursion};
 ghost use Rattle.player.specs.Crew.{AllPass, HasAll, StillHas};
+ghost use Rattle.lane_play.specs.Went.{told_lines};
+ghost use Rattle.bursts.specs.Lanes.{TurnsWent};
 ghost use Rattle.bursts.specs.Needs.{IsLanePlan, planned_commands};
-ghost use Rattle.lane_play.specs.Went.{TurnsWent, told_lines};
 
-use crate::lines::put_lane;
-use crate::plan::LanePlan;
+use crate::lines::behind;
+use crate::plan::{LanePlan, count};
 use berth_face::{Berth, Gate};
 use lane_play::play_lane;
 use player::Crew;
 use printed_lines::Line;
 use rollover_watch::Watch;
 use std::alloc::{AllocError, Global};
-use std::collections::VecDeque;
 use std::sync::Wait;
 use std::thread::Threads;
 
-/// Plays lanes one after another, over the whole crew and with the same watches.
+/// Plays lanes one after another, over the whole crew and with the same watches. Calls itself for all but the last, and
+/// plays that.
 pub fn play_in_turn<'t, R: Wait + Threads + Sync, B: Berth, G: Gate>(
     rt: &R,
     alloc: Global,
@@ -36,13 +37,12 @@ pub fn play_in_turn<'t, R: Wait + Threads + Sync, B: Berth, G: Gate>(
     ensures still { StillHas crew.old.holds crew.new.holds }
     ensures time { AllPass B.meaning crew.old.holds crew.new.holds }
 {
-    let mut lines = Vec::new(alloc);
-    let mut number: u32 = 0;
-    let mut rest = VecDeque::from_vec(plans);
-    while let Some(plan) = rest.pop_front() {
-        let own = play_lane(rt, alloc, gate, number, crew, watches, plan.commands)?;
-        put_lane(&mut lines, number, own)?;
-        number += 1;
-    }
-    Ok(lines)
+    let mut plans = plans;
+    let Some(plan) = plans.pop() else {
+        return Ok(Vec::new(alloc));
+    };
+    let number = count(&plans);
+    let lines = play_in_turn(rt, alloc, gate, crew, watches, plans)?;
+    let own = play_lane(rt, alloc, gate, number, crew, watches, plan.commands);
+    behind(Ok(lines), number, own)
 }

@@ -4,6 +4,7 @@ use player::Crew;
 use printed_lines::Line;
 use rollover_watch::Watch;
 use script_text::Command;
+use std::alloc::AllocError;
 
 /// A lane, with what was cut off for it.
 #[derive(Drop)]
@@ -11,12 +12,10 @@ pub struct LaneWork<'t, B: Berth> {
     pub number: u32,
     pub crew: Crew<'t, B>,
     pub commands: Vec<Command>,
-    /// Whether one of its commands is a rollover.
-    pub rolls: bool,
     /// The watches of the burst if one of its commands is a rollover, else none.
     pub watches: Vec<Box<dyn Watch>>,
-    /// The lines of all its commands. None before they were played, and if memory ran out.
-    pub lines: Option<Vec<Line>>,
+    /// The lines of all its commands. Err before they were played, and if memory ran out.
+    pub lines: Result<Vec<Line>, AllocError>,
 }
 
 impl<'t, B: Berth> LaneWork<'t, B> {

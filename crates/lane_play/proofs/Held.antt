@@ -136,23 +136,17 @@ module _ {B : Type 0} (meaning : B → Meaning) (leaf : ℕ) where
   counted_if_on xs ys (Some l) (Some m) None a b = absurd b
   counted_if_on xs ys (Some l) (Some m) (Some n) a b = counted_on leaf xs ys (meaning l.1) (meaning m.1) (meaning n.1) a b
 
+  counted_still : (xs : List Piece) (h : Option (Leaf × B)) → ((test : Deed → Ending → Bool) → deeds_in test leaf xs ≡ 0) → CountedIf meaning leaf xs h h
+  counted_still xs None none = none
+  counted_still xs (Some l) none = no_deeds leaf xs (meaning l.1) none
+
   -- of two who hold different leaves, the first that of this number
   pub counted_first : (xs ys : List Piece) (h h' : Option (Leaf × B)) → CountedIf meaning leaf xs h h' → ((test : Deed → Ending → Bool) → deeds_in test leaf ys ≡ 0) → CountedIf meaning leaf (xs ++ ys) h h'
-  counted_first xs ys None None a none = λ test. both_none test leaf xs ys (a test) (none test)
-  counted_first xs ys None (Some m) a none = absurd a
-  counted_first xs ys (Some l) None a none = absurd a
-  counted_first xs ys (Some l) (Some m) a none = counted_on leaf xs ys (meaning l.1) (meaning m.1) (meaning m.1) a (no_deeds leaf ys (meaning m.1) none)
+  counted_first xs ys h h' a none = counted_if_on xs ys h h' h' a (counted_still ys h' none)
 
   -- the second
   pub counted_second : (xs ys : List Piece) (h h' : Option (Leaf × B)) → ((test : Deed → Ending → Bool) → deeds_in test leaf xs ≡ 0) → CountedIf meaning leaf ys h h' → CountedIf meaning leaf (xs ++ ys) h h'
-  counted_second xs ys None None none a = λ test. both_none test leaf xs ys (none test) (a test)
-  counted_second xs ys None (Some m) none a = absurd a
-  counted_second xs ys (Some l) None none a = absurd a
-  counted_second xs ys (Some l) (Some m) none a = counted_on leaf xs ys (meaning l.1) (meaning l.1) (meaning m.1) (no_deeds leaf xs (meaning l.1) none) a
-
-  counted_if_none : (h : Option (Leaf × B)) → CountedIf meaning leaf [] h h
-  counted_if_none None = λ test. refl
-  counted_if_none (Some l) = no_deeds leaf [] (meaning l.1) (λ test. refl)
+  counted_second xs ys h h' none a = counted_if_on xs ys h h h' (counted_still xs h none) a
 
   -- the same berth, whatever its leaf did with others
   pub counted_berth : (h : Option (Leaf × B)) (l l' : Leaf) (b : B) → h ≡ Some (l', b) → CountedIf meaning leaf [] (Some (l, b)) h
@@ -163,7 +157,7 @@ module _ {B : Type 0} (meaning : B → Meaning) where
   counted_none xs = record {
     count = refl;
     each = λ leaf x y at also.
-        subst (λ (k : Option (Leaf × B)). CountedIf meaning leaf [] x.held k) (sym (ap (λ (h : Hold B). h.held) (one_there xs leaf x y at also))) (counted_if_none meaning leaf x.held);
+        subst (λ (k : Option (Leaf × B)). CountedIf meaning leaf [] x.held k) (sym (ap (λ (h : Hold B). h.held) (one_there xs leaf x y at also))) (counted_still meaning leaf [] x.held (λ test. refl));
   }
 
   pub all_counted_on : (xs ys zs : List (Hold B)) (ps qs : List Piece) → AllCounted meaning ps xs ys → AllCounted meaning qs ys zs → AllCounted meaning (ps ++ qs) xs zs

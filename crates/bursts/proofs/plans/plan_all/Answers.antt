@@ -1,11 +1,11 @@
-use Rattle.std.proofs.Common.{◌≡◌, List, [], ◌∷◌, ◌++◌, sym, ap, subst, ◌∙◌, append_assoc}
+use Rattle.std.proofs.Common.{◌≡◌, List, [], ◌∷◌, ◌++◌, map, sym, ap, subst, ◌∙◌, append_assoc}
 use Rattle.std.specs.List.{AllByRecursion}
 use Rattle.script_text.specs.declared.command.Command.{Command}
 use Rattle.script_text.specs.Fits.{IsCommand}
 use Rattle.script_text.specs.Commands.{leaf_count}
-use Rattle.bursts.specs.declared.plan.LanePlan.{LanePlan}
-use Rattle.bursts.specs.Needs.{ArePlans}
-use Rattle.bursts.proofs.Needed.{plans_more}
+use Rattle.lane_play.proofs.Playing.{all_append}
+use Rattle.bursts.specs.Needs.{IsLanePlan, planned_commands}
+use Rattle.bursts.proofs.Cutting.{lanes_last}
 use Rattle.bursts.proofs.plans.plan_all.Goals as goal
 
 pub loop-lane-preserved : goal.loop-lane-preserved
@@ -13,12 +13,14 @@ loop-lane-preserved g c =
     let inv = c.loop-lane.invariant in
     let fleet = c.args.crew.now.fleet in
     let lane = c.in-Some.lane in
+    let plan = c.in_ok-plan.field-0 in
     let rest = c.pop_front.new.self.items in
+    let plans = c.loop-lane.plans.items in
     let items : c.loop-lane.rest.items ≡ lane ∷ rest = c.in-Some.ensures.items in
-    let pushed : c.push.new.self.items ≡ c.loop-lane.plans.items ++ c.in_ok-plan.field-0 ∷ [] = c.in_ok-push.ensures.items in
+    let pushed : c.push.new.self.items ≡ plans ++ plan ∷ [] = c.in_ok-push.ensures.items in
     record {
-      done = inv.done ++ lane ∷ [];
-      all = append_assoc inv.done (lane ∷ []) rest ∙ (ap (λ (ls : List (List Command)). inv.done ++ ls) (sym items) ∙ inv.all);
-      plans = subst (λ (ps : List LanePlan). ArePlans fleet (inv.done ++ lane ∷ []) ps) (sym pushed) (plans_more fleet inv.done c.loop-lane.plans.items lane c.in_ok-plan.field-0 inv.plans c.in_ok-plan.ensures);
+      all = ap (λ (ls : List (List Command)). ls ++ rest) (lanes_last plans plan c.push.new.self.items pushed) ∙ (append_assoc (map planned_commands plans) (planned_commands plan ∷ []) rest
+          ∙ (ap (λ (l : List Command). map planned_commands plans ++ l ∷ rest) c.in_ok-plan.ensures.lane_is ∙ (ap (λ (ls : List (List Command)). map planned_commands plans ++ ls) (sym items) ∙ inv.all)));
+      each = subst (AllByRecursion (IsLanePlan fleet)) (sym pushed) (all_append (IsLanePlan fleet) plans (plan ∷ []) inv.each (c.in_ok-plan.ensures.is, tt));
       may = (subst (AllByRecursion (AllByRecursion (IsCommand (leaf_count fleet) fleet.names))) items inv.may).1;
     }

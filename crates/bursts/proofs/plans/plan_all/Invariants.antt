@@ -1,18 +1,16 @@
-use Rattle.std.proofs.Common.{◌≡◌, ◌++◌, List}
+use Rattle.std.proofs.Common.{◌≡◌, ◌++◌, map}
 use Rattle.std.specs.List.{AllByRecursion}
 use Rattle.std.specs.VecDeque.{deque_len}
-use Rattle.script_text.specs.declared.command.Command.{Command}
 use Rattle.script_text.specs.Fits.{IsCommand}
 use Rattle.script_text.specs.Commands.{leaf_count}
-use Rattle.bursts.specs.Needs.{ArePlans}
+use Rattle.bursts.specs.Needs.{IsLanePlan, planned_commands}
 use Rattle.bursts.proofs.plans.plan_all.Given as goal
 
 -- some lanes are planned, and the others are left
 abbrev pub invariant-loop-lane : goal.invariant-loop-lane
 invariant-loop-lane g l = record {
-  done : List (List Command);
-  all : done ++ l.rest.items ≡ l.fn.lanes.items;
-  plans : ArePlans l.crew.fleet done l.plans.items;
+  all : map planned_commands l.plans.items ++ l.rest.items ≡ l.fn.lanes.items;
+  each : AllByRecursion (IsLanePlan l.crew.fleet) l.plans.items;
   may : AllByRecursion (AllByRecursion (IsCommand (leaf_count l.crew.fleet) l.crew.fleet.names)) l.rest.items;
 }
 

@@ -1,5 +1,8 @@
-use Rattle.std.proofs.Common.{◌≡◌, [], ◌∷◌, ◌++◌, refl, sym, ap, subst, ◌∙◌, append_assoc}
+use Rattle.std.proofs.Common.{◌≡◌, [], ◌∷◌, ◌++◌, Some, refl, sym, ap, subst, ◌∙◌, append_assoc}
+use Rattle.std.specs.Prelude.{Ok}
 use Rattle.std.specs.List.{AllByRecursion}
+use Rattle.std.specs.declared.alloc.AllocError.{AllocError}
+use Rattle.std.proofs.lemmas.Result.{err_from_is_err_and}
 use Rattle.script_text.specs.Fits.{IsCommand}
 use Rattle.script_text.specs.declared.fleet.FleetShape.{FleetShape}
 use Rattle.script_text.specs.Commands.{leaf_count}
@@ -7,9 +10,7 @@ use Rattle.player.specs.Crew.{HasFor}
 use Rattle.lane_play.specs.Played.{MayPlayOn}
 use Rattle.lane_play.proofs.Held.{pass_none, pass_on, still_on, still_same}
 use Rattle.lane_play.proofs.Still.{may_play, still_may}
-use Rattle.lane_play.proofs.Playing.{command_over, has_lines, lane_begins, lane_goes_on, lane_stops, no_lines}
-use Rattle.std.proofs.lemmas.Result.{err_from_is_err_and}
-use Rattle.std.specs.Prelude.{Ok}
+use Rattle.lane_play.proofs.Playing.{lane_begins, lane_goes_on, lane_stops, no_lines, over_fleet, was_played}
 use Rattle.lane_play.proofs.lane.play_lane.Goals as goal
 
 pub loop-command-init : goal.loop-command-init
@@ -42,16 +43,16 @@ pub loop-command-preserved : goal.loop-command-preserved
 loop-command-preserved g c =
     let inv = c.loop-command.invariant in
     let fleet = c.args.crew.now.fleet in
+    let command = c.in-Some.command in
     let rest = c.pop_front.new.self.items in
-    let items : c.loop-command.rest.items ≡ c.in-Some.command ∷ rest = c.in-Some.ensures.items in
+    let items : c.loop-command.rest.items ≡ command ∷ rest = c.in-Some.ensures.items in
     let may = subst (AllByRecursion (MayPlayOn fleet c.loop-command.crew.holds)) items inv.may in
-    let one = command_over g.B.Berth.meaning fleet c.loop-command.crew.fleet inv.fleet c.loop-command.crew.holds c.play_command.new.crew.holds _ _ c.in-Some.command (Ok c.in_ok-more.more) c.in_ok-more.ensures.plays in
-    let two = has_lines g.B.Berth.meaning fleet c.in-Some.command c.loop-command.crew.holds c.play_command.new.crew.holds _ _ c.in_ok-more.more one in
+    let one = over_fleet g.B.Berth.meaning fleet c.loop-command.crew.fleet inv.fleet c.loop-command.crew.holds c.play_command.new.crew.holds _ _ command (Ok c.in_ok-more.more) c.in_ok-more.ensures.plays in
     record {
-      done = inv.done ++ c.in-Some.command ∷ [];
-      all = append_assoc inv.done (c.in-Some.command ∷ []) rest ∙ (ap (λ r. inv.done ++ r) (sym items) ∙ inv.all);
-      went = lane_goes_on g.B.Berth.meaning fleet c.args.crew.now.holds c.loop-command.crew.holds c.play_command.new.crew.holds _ _ _ inv.done c.in-Some.command
-          c.loop-command.lines.items c.in_ok-more.more.items c.append.new.self.items inv.went two.0 two.1 c.in_ok-append.ensures.items;
+      done = inv.done ++ command ∷ [];
+      all = append_assoc inv.done (command ∷ []) rest ∙ (ap (λ r. inv.done ++ r) (sym items) ∙ inv.all);
+      went = lane_goes_on g.B.Berth.meaning fleet c.args.crew.now.holds c.loop-command.crew.holds _ _ inv.done c.loop-command.lines.items inv.went command [] (Ok c.in_ok-more.more) (Some c.append.new.self.items)
+          c.play_command.new.crew.holds _ (was_played AllocError c.in_ok-more.more one) (c.in_ok-more.more, refl, refl, c.in_ok-append.ensures.items);
       may = still_may fleet c.loop-command.crew.holds c.play_command.new.crew.holds c.play_command.ensures.still rest may.1;
       fleet = c.play_command.ensures.fleet.0 ∙ inv.fleet;
       tables = c.play_command.ensures.fleet.1 ∙ inv.tables;
@@ -76,15 +77,15 @@ returns-in_err-more-clause-went g c =
     let inv = c.loop-command.invariant in
     let fleet = c.args.crew.now.fleet in
     let e = err_from_is_err_and c.from_residual.result c.from_residual.ensures.1 in
-    let one = command_over g.B.Berth.meaning fleet c.loop-command.crew.fleet inv.fleet c.loop-command.crew.holds c.play_command.new.crew.holds _ _ c.in-Some.command _ c.play_command.ensures.plays in
-    lane_stops g.B.Berth.meaning fleet c.args.crew.now.holds c.loop-command.crew.holds c.play_command.new.crew.holds _ _ _ inv.done c.in-Some.command c.pop_front.new.self.items c.args.commands.items c.loop-command.lines.items _
-    inv.went one (sym inv.all ∙ ap (λ r. inv.done ++ r) c.in-Some.ensures.items) _ (no_lines _ e.0 e.1)
+    let one = over_fleet g.B.Berth.meaning fleet c.loop-command.crew.fleet inv.fleet c.loop-command.crew.holds c.play_command.new.crew.holds _ _ c.in-Some.command _ c.play_command.ensures.plays in
+    lane_stops g.B.Berth.meaning fleet c.args.crew.now.holds c.loop-command.crew.holds _ _ inv.done c.loop-command.lines.items inv.went c.in-Some.command c.pop_front.new.self.items c.args.commands.items _ _
+    c.play_command.new.crew.holds _ one (ap (λ r. inv.done ++ r) (sym c.in-Some.ensures.items) ∙ inv.all) (no_lines _ e.0 e.1)
 
 pub returns-in_err-append-clause-went : goal.returns-in_err-append-clause-went
 returns-in_err-append-clause-went g c =
     let inv = c.loop-command.invariant in
     let fleet = c.args.crew.now.fleet in
     let e = err_from_is_err_and c.from_residual-in_err-append.result c.from_residual-in_err-append.ensures.1 in
-    let one = command_over g.B.Berth.meaning fleet c.loop-command.crew.fleet inv.fleet c.loop-command.crew.holds c.play_command.new.crew.holds _ _ c.in-Some.command _ c.play_command.ensures.plays in
-    lane_stops g.B.Berth.meaning fleet c.args.crew.now.holds c.loop-command.crew.holds c.play_command.new.crew.holds _ _ _ inv.done c.in-Some.command c.pop_front.new.self.items c.args.commands.items c.loop-command.lines.items _
-    inv.went one (sym inv.all ∙ ap (λ r. inv.done ++ r) c.in-Some.ensures.items) _ (no_lines _ e.0 e.1)
+    let one = over_fleet g.B.Berth.meaning fleet c.loop-command.crew.fleet inv.fleet c.loop-command.crew.holds c.play_command.new.crew.holds _ _ c.in-Some.command _ c.play_command.ensures.plays in
+    lane_stops g.B.Berth.meaning fleet c.args.crew.now.holds c.loop-command.crew.holds _ _ inv.done c.loop-command.lines.items inv.went c.in-Some.command c.pop_front.new.self.items c.args.commands.items _ _
+    c.play_command.new.crew.holds _ one (ap (λ r. inv.done ++ r) (sym c.in-Some.ensures.items) ∙ inv.all) (no_lines _ e.0 e.1)
