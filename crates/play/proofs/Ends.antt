@@ -1,9 +1,14 @@
 -- A play from its beginning to its end.
-use Rattle.std.proofs.Common.{◌≡◌, ◌⊎◌, inl, inr, ℕ, ◌+◌, ◌-◌, ◌<◌, ◌≤◌, List, [], ◌∷◌, ◌++◌, length, refl, sym, ap, subst, ◌∙◌, arith, Option, Some, None, take-append-drop}
+use Rattle.std.proofs.Common.{◌≡◌, inl, inr, ℕ, ◌+◌, ◌-◌, ◌<◌, ◌≤◌, List, [], ◌∷◌, ◌++◌, length, refl, sym, ap, subst, ◌∙◌, arith, Option, Some, None, take-append-drop}
 use Rattle.std.specs.Prelude.{Result, Ok, drop, map, slice_get, take}
-use Rattle.std.proofs.lemmas.List.{append-nil, length-append, length-drop, length-take}
+use Rattle.std.proofs.Math.Seq.{length_front}
+use Rattle.std.proofs.lemmas.Bool.{cases_lt}
+use Rattle.std.proofs.lemmas.List.{append-nil, length-drop, length-take-le}
+use Rattle.std.proofs.lemmas.Slice.{drop-append-drop}
 use Rattle.berth_face.specs.Berth.{Meaning}
 use Rattle.berth_face.specs.Streams.{ReadsAll}
+use Rattle.berth_face.proofs.Streams.{appends_none}
+use Rattle.leaf_history.specs.History.{Entry}
 use Rattle.region_layout.specs.Names.{AreNames, IsName}
 use Rattle.crash_moments.specs.Left.{NamedStates}
 use Rattle.rollover_watch.specs.Watches.{Held}
@@ -15,31 +20,39 @@ use Rattle.script_text.specs.declared.script.Script.{Script}
 use Rattle.script_text.specs.Commands.{Fault, leaf_count}
 use Rattle.script_text.specs.Script.{script_of}
 use Rattle.script_text.specs.Fits.{AreItems, AreTables, IsAlone, IsItem, IsTableName}
-use Rattle.printed_lines.specs.declared.line.Line.{Line}
 use Rattle.printed_lines.specs.Lines.{lines_text}
 use Rattle.script_text.specs.declared.fleet.FleetShape.{FleetShape}
 use Rattle.transcript.specs.Pieces.{One, Played, PlayedItem, all_lines, all_pieces, deeds, script_fleet, item_of, plays_in}
 use Rattle.transcript.specs.Counts.{CountsRose}
 use Rattle.transcript.specs.Strangers.{StrangersIn}
 use Rattle.transcript.specs.Telling.{AreTold}
-use Rattle.transcript.specs.Transcript.{Known, Transcript, first_life, base_states_of}
-use Rattle.leaf_moves.specs.Holds.{Hold, berth_in}
-use Rattle.transcript.specs.Leaving.{AtBerth, IsToldRun, IsWritten, LeavesBerth}
+use Rattle.transcript.specs.Transcript.{Known, first_life, base_states_of}
+use Rattle.leaf_moves.specs.Holds.{GoOn, HasMet, Hold, berth_in}
+use Rattle.transcript.specs.Leaving.{AreKnown, IsToldRun, IsWritten}
 use Rattle.leaf_moves.specs.Stage.{Leaf}
 use Rattle.transcript.specs.Watching.{HearsAll}
 use Rattle.transcript.specs.Moments.{MomentsRise, notes_told}
 use Rattle.transcript_fleet.specs.Laws.{IsToldFleet}
 use Rattle.play.specs.Standing.{MayRun, MayRunAlone}
-use Rattle.play.specs.Played.{KeepsCounts, LeavesBerths, leaves_in, leaves_of, leaves_told}
-use Rattle.play.specs.Runs.{AreCounted, HoldsKeep, IsFleetOf, IsRun, ToldFleet, berths_in, fleet_named}
+use Rattle.play.specs.Played.{LeavesBerths, leaves_in, leaves_of, leaves_told}
+use Rattle.play.specs.Runs.{HasPlayed, IsFleetOf, RunSoFar, berths_in}
 use Rattle.transcript_fleet.proofs.Lists.{All-weaken}
-use Rattle.transcript_fleet.proofs.Sessions.{berth_held}
-use Rattle.transcript_leaf.proofs.Lists.{element_at, length_mapped, same_some, within}
-use Rattle.play.proofs.Holding.{berth_at, held_there}
-use Rattle.play.proofs.Lists.{behind_at, below_or_not, drop_front, drop_later, front_at}
-use Rattle.play.proofs.Plays.{appends_nothing, keeps_same}
+use Rattle.transcript_fleet.proofs.Ending.{ended}
+use Rattle.transcript_standing.specs.Followed.{FollowedSome}
+use Rattle.transcript_standing.proofs.Following.{follow_to_end}
+use Rattle.transcript_standing.proofs.Lists.{get_before}
+use Rattle.transcript_standing.proofs.Right.{tell_right}
+use Rattle.standing_feed.specs.declared.follower.Follower.{Follower}
+use Rattle.player.specs.Crew.{AllPass, CountedIf, PassesIf}
+use Rattle.play.proofs.Holding.{AreHeld, held_at, held_berths, held_count, held_there, keeps_passed, keeps_same}
+use Rattle.play.proofs.Lists.{drop_later, get_front, get_take, same_dropped}
+use Rattle.play.proofs.Plays.{run_as}
 
 -- ---- the fleet of some items
+
+-- a fleet with these numbers of machines and leaves and these names
+abbrev pub fleet_named : ℕ → ℕ → List (List ℕ) → FleetShape
+fleet_named machines per_machine names = record { machines = machines; per_machine = per_machine; names = names }
 
 tables_are_names : (names : List (List ℕ)) → AreTables names → AreNames names
 tables_are_names names t = record {
@@ -60,7 +73,7 @@ item_may fleet (item.Burst lanes) h = h
 
 -- of items that begin with a fleet
 fleet_is : (machines per_machine : ℕ) (tables : List (List ℕ)) (more : List Item) → AreItems (item.One (command.Fleet machines per_machine tables) ∷ more)
-    → IsFleetOf (item.One (command.Fleet machines per_machine tables) ∷ more) machines per_machine tables
+    → IsFleetOf (item.One (command.Fleet machines per_machine tables) ∷ more) (fleet_named machines per_machine tables)
 fleet_is machines per_machine tables more c = record {
   is = refl;
   are_names = tables_are_names tables c.1;
@@ -70,7 +83,7 @@ fleet_is machines per_machine tables more c = record {
 
 -- what was read of the first item is that fleet
 pub plan_is : (items : List Item) → AreItems items → 0 < length items → (machines per_machine : ℕ) (names : List (List ℕ))
-    → machines ≡ (script_fleet items).machines → per_machine ≡ (script_fleet items).per_machine → names ≡ (script_fleet items).names → IsFleetOf items machines per_machine names
+    → machines ≡ (script_fleet items).machines → per_machine ≡ (script_fleet items).per_machine → names ≡ (script_fleet items).names → IsFleetOf items (fleet_named machines per_machine names)
 plan_is [] c some machines per_machine names e f h = absurd (omega (arith, some))
 plan_is (item.One (command.Fleet m p tables) ∷ more) c some machines per_machine names e f h = rw (e, f, h) (fleet_is m p tables more c)
 plan_is (item.One _ ∷ more) c some machines per_machine names e f h = absurd c
@@ -116,164 +129,138 @@ pub nothing_written : {B : Type 0} (base : ℕ → Option NamedStates) (meaning 
     → IsWritten meaning berths berths base items was was watches watches
 nothing_written base meaning items was berths watches e = rw e (record {
   lines = [];
-  written = appends_nothing was;
+  written = appends_none was;
   told = λ known are. nothing_told meaning berths known watches;
 })
 
 -- ---- a run over the first berths
 
--- as many berths as leaves
-pub own_count : {B : Type 0} (own : List B) (xs : List (Hold B)) → map Some own ≡ map (λ (x : Hold B). berth_in x) xs → length own ≡ length xs
-own_count {B} own xs are =
-    sym (length_mapped Some own) ∙ (ap (λ (os : List (Option B)). length os) are ∙ length_mapped (λ (x : Hold B). berth_in x) xs)
+-- A crew was made over the first berths, for the fleet of these items. The other berths are left.
+pub record IsCrewOf {B : Type 0} (items : List Item) (fleet : FleetShape) (olds rest : List B) (firsts : List (Hold B)) : Type 0 where
+  pub is : fleet ≡ script_fleet items
+  pub names : AreNames (script_fleet items).names
+  pub enough : leaves_in items ≤ length olds
+  pub held : AreHeld (take (leaves_in items) olds) firsts
+  pub left : rest ≡ drop (leaves_in items) olds
 
-module _ {B : Type 0} (meaning : B → Meaning) (front rest own : List B) (xs : List (Hold B)) (are : map Some own ≡ map (λ (x : Hold B). berth_in x) xs) (count : length xs ≡ length front) where
-  abbrev olds : List B
-  olds = front ++ rest
+module _ {B : Type 0} {meaning : B → Meaning} {items : List Item} {fleet : FleetShape} {olds rest : List B} {firsts xs : List (Hold B)} (crew : IsCrewOf items fleet olds rest firsts) (time : AllPass meaning firsts xs) where
+  crew_count : length xs ≡ leaves_in items
+  crew_count = time.count ∙ (sym (held_count (take (leaves_in items) olds) firsts crew.held) ∙ length-take-le (leaves_in items) olds crew.enough)
 
-  abbrev news : List B
-  news = own ++ rest
+  -- there is room for the berths that were taken
+  pub room_again : (len capacity : ℕ) → len ≡ length rest → length olds ≤ capacity → length xs + len ≤ capacity
+  room_again len capacity is room =
+      let others : length rest ≡ length olds - leaves_in items = ap (λ (bs : List B). length bs) crew.left ∙ length-drop (leaves_in items) olds in
+      omega (arith, crew.enough, crew_count, others, is, room)
 
-  as_many_berths : length own ≡ length front
-  as_many_berths = own_count own xs are ∙ count
+-- the berths `own` of its leaves were put back before the others
+module _ {B : Type 0} {meaning : B → Meaning} {items : List Item} {fleet : FleetShape} {olds rest news : List B} {firsts xs : List (Hold B)} (crew : IsCrewOf items fleet olds rest firsts) (time : AllPass meaning firsts xs)
+    (own : List B) (are : AreHeld own xs) (back : news ≡ own ++ rest) where
+  own_count : length own ≡ leaves_in items
+  own_count = held_count own xs are ∙ crew_count crew time
 
-  -- the leaf that has this berth now
-  held_at : (leaf : ℕ) (new : B) → leaf < length front → slice_get news leaf ≡ Some new → (x : Hold B) × (l : Leaf) × (slice_get xs leaf ≡ Some x) × (x.held ≡ Some (l, new))
-  held_at leaf new below now =
-      let found = element_at xs leaf (omega (arith, below, count)) in
-      let here = sym (front_at own rest leaf (omega (arith, below, as_many_berths))) ∙ now in
-      let held = held_there found.0 new (berth_at own xs are leaf new found.0 here found.1) in
-      (found.0, held.0, found.1, held.1)
+  news_are : news ≡ own ++ drop (leaves_in items) olds
+  news_are = back ∙ ap (λ (bs : List B). own ++ bs) crew.left
 
-  had_at : (leaf : ℕ) (old : B) → leaf < length front → slice_get olds leaf ≡ Some old → slice_get front leaf ≡ Some old
-  had_at leaf old below at = sym (front_at front rest leaf below) ∙ at
+  firsts_are : berths_in firsts ≡ take (leaves_in items) olds
+  firsts_are = held_berths (take (leaves_in items) olds) firsts crew.held
 
-  -- what holds of each leaf holds of its berth
-  at_berth : (P : Meaning → Meaning → Type 0) (leaf : ℕ) → leaf < length front
-      → ((old : B) (x : Hold B) (l : Leaf) (new : B) → slice_get front leaf ≡ Some old → slice_get xs leaf ≡ Some x → x.held ≡ Some (l, new) → P (meaning old) (meaning new)) → AtBerth meaning olds news leaf P
-  at_berth P leaf below each = λ old new at now.
-      let x = held_at leaf new below now in
-      each old x.0 x.1 new (had_at leaf old below at) x.2 x.3
+  same_behind : drop (leaves_in items) news ≡ drop (leaves_in items) olds
+  same_behind = ap (drop (leaves_in items)) news_are ∙ drop-append-drop (leaves_in items) olds own (leaves_in items) (omega arith) own_count
 
-  same_behind : drop (length front) news ≡ drop (length front) olds
-  same_behind = drop_front (length front) own rest as_many_berths ∙ sym (drop_front (length front) front rest refl)
+  -- the leaf of a berth, as it was and as it is
+  was_at : (leaf : ℕ) (old : B) → leaf < leaves_in items → slice_get olds leaf ≡ Some old → (x : Hold B) × (slice_get firsts leaf ≡ Some x) × (berth_in x ≡ Some old)
+  was_at leaf old below at = held_at (take (leaves_in items) olds) firsts crew.held leaf old (get_front (leaves_in items) olds leaf below ∙ at)
 
-  -- ---- what it leaves of the berths
+  now_at : (leaf : ℕ) (new : B) → leaf < leaves_in items → slice_get news leaf ≡ Some new → (x : Hold B) × (slice_get xs leaf ≡ Some x) × (berth_in x ≡ Some new)
+  now_at leaf new below at =
+      held_at own xs are leaf new (sym (get_before own rest leaf (omega (arith, below, own_count))) ∙ (ap (λ (bs : List B). slice_get bs leaf) (sym back) ∙ at))
 
-  pub leaves_berths : HoldsKeep meaning front xs → (leaves : ℕ) → leaves ≡ length front → LeavesBerths meaning leaves olds news
-  leaves_berths keeps leaves e = subst (λ n. LeavesBerths meaning n olds news) (sym e) (record {
-    as_many = length_both;
-    used = λ leaf old new at now. by leaf old new at now (below_or leaf);
+  -- what holds of each leaf, as it was and as it is, holds of its berth
+  both_at : (P : Option (Leaf × B) → Option (Leaf × B) → Type 0) (leaf : ℕ) → leaf < leaves_in items
+      → ((x y : Hold B) → slice_get firsts leaf ≡ Some x → slice_get xs leaf ≡ Some y → P x.held y.held)
+      → (old new : B) → slice_get olds leaf ≡ Some old → slice_get news leaf ≡ Some new → (l : Leaf) × (m : Leaf) × P (Some (l, old)) (Some (m, new))
+  both_at P leaf below each old new at now =
+      let x = was_at leaf old below at in
+      let y = now_at leaf new below now in
+      let was = held_there x.0 old x.2 in
+      let is = held_there y.0 new y.2 in
+      (was.0, is.0, subst (λ (h : Option (Leaf × B)). P h (Some (is.0, new))) was.1 (subst (λ (h : Option (Leaf × B)). P x.0.held h) is.1 (each x.0 y.0 x.1 y.1)))
+
+  pub leaves_berths : LeavesBerths meaning (leaves_in items) olds news
+  leaves_berths = record {
+    as_many = ap (λ (bs : List B). length bs) news_are ∙ length_front olds own (leaves_in items) (own_count ∙ sym (length-take-le (leaves_in items) olds crew.enough));
+    used = λ leaf old new at now. elim (cases_lt leaf (leaves_in items)) [
+      | inl below ↦ keeps_passed (meaning old) (meaning new) (both_at (PassesIf meaning) leaf below (time.each leaf) old new at now).2
+      | inr past ↦ keeps_same meaning old new (same_dropped (leaves_in items) olds news leaf old new past same_behind at now)
+    ];
     others = same_behind;
-  })
-    where
-      length_both : length news ≡ length olds
-      length_both = length-append own rest ∙ (ap (λ n. n + length rest) as_many_berths ∙ sym (length-append front rest))
-
-      below_or : (leaf : ℕ) → (leaf < length front) ⊎ (length front ≤ leaf)
-      below_or leaf = below_or_not leaf (length front)
-
-      by : (leaf : ℕ) (old new : B) → slice_get olds leaf ≡ Some old → slice_get news leaf ≡ Some new → (leaf < length front) ⊎ (length front ≤ leaf) → KeepsCounts (meaning old) (meaning new)
-      by leaf old new at now (inl below) = at_berth KeepsCounts leaf below (keeps.each leaf) old new at now
-      by leaf old new at now (inr past) =
-          let same : old ≡ new = same_some old new (sym at ∙ (sym (behind_at own front rest leaf as_many_berths (omega (arith, past, as_many_berths))) ∙ now)) in
-          subst (λ (b : B). KeepsCounts (meaning old) (meaning b)) same (keeps_same (meaning old))
-
-  -- ---- what it is
-
-  module _ (known : ℕ → Option Known) (watching watched : List Held) where
-    -- what these lines are, of a fleet
-    pub record ToldBy (lines : List Line) (fleet : FleetShape) (items : List Item) : Type 0 where
-      pub transcript : Transcript fleet known items (lines_text fleet.names lines)
-      pub lines_are : all_lines transcript.played ≡ lines
-      pub standing : AreTold fleet (base_states_of fleet known) transcript.histories transcript.played
-      pub heard : HearsAll fleet (plays_in transcript.played) watching watched
-      pub counts : (leaf : ℕ) → leaf < (leaf_count fleet) → AtBerth meaning olds news leaf (CountsRose leaf (all_pieces transcript.played))
-      pub strangers : (leaf : ℕ) (k : Known) → leaf < (leaf_count fleet) → known leaf ≡ Some k → StrangersIn fleet.names k.held.disk k.held.region (deeds leaf (all_pieces transcript.played))
-      pub leaves : (leaf : ℕ) (k : Known) → leaf < (leaf_count fleet) → known leaf ≡ Some k →
-          AtBerth meaning olds news leaf (LeavesBerth fleet.names k.base (transcript.lives leaf) (transcript.histories leaf))
-      pub moments : (leaf : ℕ) → leaf < (leaf_count fleet) → AtBerth meaning olds news leaf (λ old new. MomentsRise (transcript.histories leaf) old.clock (notes_told leaf (all_pieces transcript.played)) new.clock)
-      pub others : drop (leaf_count fleet) news ≡ drop (leaf_count fleet) olds
-
-    pub fleet_told : (fleet : FleetShape) (played : List PlayedItem) → leaf_count fleet ≡ length front → AreCounted meaning front xs (all_pieces played) → HearsAll fleet (plays_in played) watching watched → ToldFleet meaning fleet known played front xs
-        → ToldBy (all_lines played) fleet (map item_of played)
-    fleet_told fleet played size counted heard whole =
-        let told : IsToldFleet meaning fleet known played front xs = whole.fleet_is in
-        let t : Transcript fleet known (map item_of played) (lines_text fleet.names (all_lines played)) = told.transcript in
-        let same : t.played ≡ played = told.played_is in
-        record {
-          transcript = t;
-          lines_are = ap all_lines same;
-          standing = whole.standing;
-          heard = subst (λ (ps : List PlayedItem). HearsAll fleet (plays_in ps) watching watched) (sym same) heard;
-          counts = λ leaf below. at_berth (CountsRose leaf (all_pieces t.played)) leaf (omega (arith, below, size))
-              (λ old x l new at now held. subst (λ (ps : List PlayedItem). CountsRose leaf (all_pieces ps) (meaning old) (meaning new)) (sym same) (counted leaf old x l new at now held));
-          strangers = λ leaf k below is. subst (λ (ps : List PlayedItem). StrangersIn fleet.names k.held.disk k.held.region (deeds leaf (all_pieces ps))) (sym same) (told.strangers leaf k below is);
-          leaves = λ leaf k below is. at_berth (LeavesBerth fleet.names k.base (t.lives leaf) (t.histories leaf)) leaf (omega (arith, below, size))
-              (λ old x l new at now held. told.leaves leaf k old new x is at now (berth_held x l new held));
-          moments = λ leaf below. at_berth (λ old new. MomentsRise (t.histories leaf) old.clock (notes_told leaf (all_pieces t.played)) new.clock) leaf (omega (arith, below, size))
-              (λ old x l new at now held. subst (λ (ps : List PlayedItem). MomentsRise (t.histories leaf) (meaning old).clock (notes_told leaf (all_pieces ps)) (meaning new).clock) (sym same)
-              (told.moments leaf old new x at now (berth_held x l new held)));
-          others = subst (λ n. drop n news ≡ drop n olds) (sym size) same_behind;
-        }
-
-    pub run_told : (lines : List Line) (items : List Item) → ToldBy lines (script_fleet items) items → IsToldRun meaning olds news items known lines watching watched
-    run_told lines items t = record { transcript = t.transcript; lines_are = t.lines_are; standing = t.standing; watched = t.heard; counts = t.counts; strangers = t.strangers; leaves = t.leaves; moments = t.moments; others = t.others }
-
-  run_written : (base : ℕ → Option NamedStates) (items : List Item) (was now : Option (List ℕ)) (watching watched : List Held) → leaf_count (script_fleet items) ≡ length front
-      → IsRun base meaning (script_fleet items) front was now watching watched items xs → IsWritten meaning olds news base items was now watching watched
-  run_written base items was now watching watched size run = record {
-    lines = all_lines run.played;
-    written = run.text;
-    told = λ known bases.
-        let told = fleet_told known watching watched (script_fleet items) run.played size run.counted run.heard
-        (run.told known (λ leaf old at. bases leaf old (front_at front rest leaf (within front leaf old at) ∙ at))) in
-        run_told known watching watched (all_lines run.played) items (subst (λ (is : List Item). ToldBy known watching watched (all_lines run.played) (script_fleet items) is) run.items_are told);
   }
 
--- ---- over all berths
+  -- where nothing was done, all berths are as they were
+  pub same_berths : xs ≡ firsts → news ≡ olds
+  same_berths same =
+      let still : own ≡ take (leaves_in items) olds = sym (held_berths own xs are) ∙ (ap (λ (hs : List (Hold B)). berths_in hs) same ∙ firsts_are) in
+      news_are ∙ (ap (λ (bs : List B). bs ++ drop (leaves_in items) olds) still ∙ take-append-drop (leaves_in items) olds)
 
-module _ {B : Type 0} (meaning : B → Meaning) (olds news own : List B) (old_xs xs : List (Hold B)) (leaves : ℕ)
-    (enough : leaves ≤ length olds) (had : berths_in old_xs ≡ take leaves olds) (are : map Some own ≡ map (λ (x : Hold B). berth_in x) xs) (has : news ≡ own ++ drop leaves olds)
-    (count : length xs ≡ length (berths_in old_xs)) where
-  abbrev front : List B
-  front = take leaves olds
+  -- once all seats have met again, what was played of the items is told
+  module _ {base : ℕ → Option NamedStates} {watching watched : List Held} (known : ℕ → Option Known) (bases : AreKnown meaning olds news base known) (played : List PlayedItem) (same : script_fleet (map item_of played) ≡ script_fleet items)
+      (given : HasPlayed base meaning (script_fleet items) firsts watching watched played xs) (met : (leaf : ℕ) (x : Hold B) → slice_get xs leaf ≡ Some x → HasMet meaning x)
+      (follows : AreKnown meaning (berths_in firsts) (berths_in firsts) base known → (histories : ℕ → ℕ → List Entry) → GoOn xs histories → FollowedSome (script_fleet items) (base_states_of (script_fleet items) known) histories played []) where
+    abbrev played_fleet : FleetShape
+    played_fleet = script_fleet (map item_of played)
 
-  front_is : length front ≡ leaves
-  front_is = length-take leaves olds ∙ omega (arith, enough)
+    known_first : AreKnown meaning (berths_in firsts) (berths_in firsts) base known
+    known_first leaf old at = bases leaf old (get_take (leaves_in items) olds leaf old (ap (λ (bs : List B). slice_get bs leaf) (sym firsts_are) ∙ at))
 
-  count_front : length xs ≡ length front
-  count_front = count ∙ ap (λ (bs : List B). length bs) had
+    first_at : (leaf : ℕ) (old : B) → leaf < leaves_in items → slice_get olds leaf ≡ Some old → slice_get (berths_in firsts) leaf ≡ Some old
+    first_at leaf old below at = ap (λ (bs : List B). slice_get bs leaf) firsts_are ∙ (get_front (leaves_in items) olds leaf below ∙ at)
 
-  abbrev parts : front ++ drop leaves olds ≡ olds
-  parts = take-append-drop leaves olds
+    inside : (leaf : ℕ) → leaf < leaf_count played_fleet → leaf < leaves_in items
+    inside leaf below = subst (λ (f : FleetShape). leaf < leaf_count f) same below
 
-  pub crew_written : (base : ℕ → Option NamedStates) (items played : List Item) (fleet : FleetShape) (was now : Option (List ℕ)) (watching watched : List Held) → script_fleet items ≡ fleet → leaf_count fleet ≡ leaves
-      → played ≡ items → IsRun base meaning fleet (berths_in old_xs) was now watching watched played xs → IsWritten meaning olds news base items was now watching watched
-  crew_written base items played fleet was now watching watched is size all ran =
-      let run : IsRun base meaning fleet (berths_in old_xs) was now watching watched items xs =
-      subst (λ (is : List Item). IsRun base meaning fleet (berths_in old_xs) was now watching watched is xs) all ran in
-      let here : IsRun base meaning (script_fleet items) front was now watching watched items xs =
-      subst (λ (f : FleetShape). IsRun base meaning f front was now watching watched items xs) (sym is)
-      (subst (λ (bs : List B). IsRun base meaning fleet bs was now watching watched items xs) had run) in
-      let sized : leaf_count (script_fleet items) ≡ length front = ap (λ (f : FleetShape). leaf_count f) is ∙ (size ∙ sym front_is) in
-      subst (λ (bs : List B). IsWritten meaning bs news base items was now watching watched) parts
-      (subst (λ (bs : List B). IsWritten meaning (front ++ drop leaves olds) bs base items was now watching watched) (sym has)
-      (run_written meaning front (drop leaves olds) own xs are count_front base items was now watching watched sized here))
+    has_played : HasPlayed base meaning played_fleet firsts watching watched played xs
+    has_played = subst (λ (f : FleetShape). HasPlayed base meaning f firsts watching watched played xs) (sym same) given
 
-  pub crew_leaves : HoldsKeep meaning (berths_in old_xs) xs → LeavesBerths meaning leaves olds news
-  crew_leaves keeps =
-      subst (λ (bs : List B). LeavesBerths meaning leaves bs news) parts
-      (subst (λ (bs : List B). LeavesBerths meaning leaves (front ++ drop leaves olds) bs) (sym has)
-      (leaves_berths meaning front (drop leaves olds) own xs are count_front (subst (λ (bs : List B). HoldsKeep meaning bs xs) had keeps) leaves (sym front_is)))
+    told : IsToldFleet meaning played_fleet known played (berths_in firsts) xs
+    told = ended meaning (berths_in firsts) played_fleet known played xs (has_played.session known known_first) met
 
--- there is room for the berths that were taken
-pub room_again : {B : Type 0} (olds rest : List B) (old_xs xs : List (Hold B)) (leaves len capacity : ℕ) → leaves ≤ length olds → berths_in old_xs ≡ take leaves olds → rest ≡ drop leaves olds
-    → length xs ≡ length (berths_in old_xs) → len ≡ length rest → length olds ≤ capacity → length xs + len ≤ capacity
-room_again {B} olds rest old_xs xs leaves len capacity enough had left count is room =
-    let taken : length xs ≡ leaves = count ∙ (ap (λ (bs : List B). length bs) had ∙ (length-take leaves olds ∙ omega (arith, enough))) in
-    let others : len ≡ length olds - leaves = is ∙ (ap (λ (bs : List B). length bs) left ∙ length-drop leaves olds) in
-    omega (arith, enough, taken, others, room)
+    rightly : AreTold played_fleet (base_states_of played_fleet known) told.transcript.histories told.transcript.played
+    rightly = tell_right played_fleet known (map item_of played) (lines_text played_fleet.names (all_lines played)) told.transcript (subst (λ (f : FleetShape). AreNames f.names) (sym same) crew.names)
+        (subst (λ (ps : List PlayedItem). FollowedSome played_fleet (base_states_of played_fleet known) told.transcript.histories ps []) (sym told.played_is)
+        (subst (λ (f : FleetShape). FollowedSome f (base_states_of f known) told.transcript.histories played []) (sym same) (follows known_first told.transcript.histories told.go_on)))
+
+    pub has_told : IsToldRun meaning olds news (map item_of played) known (all_lines played) watching watched
+    has_told = record {
+      transcript = told.transcript;
+      lines_are = ap all_lines told.played_is;
+      standing = rightly;
+      watched = subst (λ (ps : List PlayedItem). HearsAll played_fleet (plays_in ps) watching watched) (sym told.played_is) has_played.heard;
+      counts = λ leaf below old new at now. subst (λ (ps : List PlayedItem). CountsRose leaf (all_pieces ps) (meaning old) (meaning new)) (sym told.played_is)
+          (both_at (CountedIf meaning leaf (all_pieces played)) leaf (inside leaf below) (has_played.counted.each leaf) old new at now).2;
+      strangers = λ leaf k below is. subst (λ (ps : List PlayedItem). StrangersIn played_fleet.names k.held.disk k.held.region (deeds leaf (all_pieces ps))) (sym told.played_is) (told.strangers leaf k below is);
+      leaves = λ leaf k below is old new at now.
+          let x = now_at leaf new (inside leaf below) now in
+          told.leaves leaf k old new x.0 is (first_at leaf old (inside leaf below) at) x.1 x.2;
+      moments = λ leaf below old new at now.
+          let x = now_at leaf new (inside leaf below) now in
+          subst (λ (ps : List PlayedItem). MomentsRise (told.transcript.histories leaf) (meaning old).clock (notes_told leaf (all_pieces ps)) (meaning new).clock) (sym told.played_is)
+          (told.moments leaf old new x.0 (first_at leaf old (inside leaf below) at) x.1 x.2);
+      others = subst (λ (f : FleetShape). drop (leaf_count f) news ≡ drop (leaf_count f) olds) (sym same) same_behind;
+    }
+
+  pub run_written : {base : ℕ → Option NamedStates} {was now : Option (List ℕ)} {watching watched : List Held} {given : List Item} {fs : List Follower} → given ≡ items
+      → RunSoFar base meaning fleet firsts was now watching watched given fs xs → ((leaf : ℕ) (x : Hold B) → slice_get xs leaf ≡ Some x → HasMet meaning x) → IsWritten meaning olds news base items was now watching watched
+  run_written {base} {was} {now} {watching} {watched} {given} {fs} all ran met =
+      let run : RunSoFar base meaning (script_fleet items) firsts was now watching watched items fs xs =
+      subst (λ (f : FleetShape). RunSoFar base meaning f firsts was now watching watched items fs xs) crew.is (run_as (sym all) refl ran) in
+      record {
+        lines = all_lines run.played;
+        written = run.text;
+        told = λ known bases. subst (λ (is : List Item). IsToldRun meaning olds news is known (all_lines run.played) watching watched) run.items_are
+            (has_told known bases run.played (ap (λ (is : List Item). script_fleet is) run.items_are) run.has met
+            (λ is histories on. follow_to_end (script_fleet items) (base_states_of (script_fleet items) known) histories run.played [] fs (run.followed known is histories on)));
+      }
 
 -- ---- what a source tells of it
 
@@ -284,11 +271,7 @@ few_leaves (item.One _ ∷ more) c = absurd c
 few_leaves (item.Burst lanes ∷ more) c = absurd c
 
 more_leaves : {B : Type 0} (meaning : B → Meaning) (few many : ℕ) (olds news : List B) → few ≤ many → LeavesBerths meaning few olds news → LeavesBerths meaning many olds news
-more_leaves meaning few many olds news below leaves = record {
-  as_many = leaves.as_many;
-  used = leaves.used;
-  others = drop_later few many news olds below leaves.others leaves.as_many;
-}
+more_leaves meaning few many olds news below leaves = record { as_many = leaves.as_many; used = leaves.used; others = drop_later few many news olds below leaves.others }
 
 all_read : (xs text ys : List ℕ) → xs ≡ text ++ ys → ys ≡ [] → text ≡ xs
 all_read xs text ys e none = sym (append-nil text) ∙ (ap (λ (zs : List ℕ). text ++ zs) (sym none) ∙ sym e)

@@ -1,33 +1,29 @@
 -- The tables of a fleet, and the seats at them, leaf by leaf.
-use Rattle.std.proofs.Common.{◌≡◌, ℕ, zero, suc, ◌<◌, ◌≤◌, true, false, List, [], ◌∷◌, length, map, Option, Some, None, refl, sym, ap, ap₂, subst, ◌∙◌, arith}
-use Rattle.std.specs.Prelude.{slice_get, IfSome}
+use Rattle.std.proofs.Common.{◌≡◌, ℕ, zero, suc, ◌<◌, List, [], ◌∷◌, length, map, Option, Some, refl, sym, ap, ap₂, subst, ◌∙◌, arith}
+use Rattle.std.specs.Prelude.{slice_get}
 use Rattle.std.specs.List.{AllByRecursion}
-use Rattle.berth_face.specs.Berth.{Meaning}
 use Rattle.region_layout.specs.Names.{IsName}
 use Rattle.crash_moments.specs.Left.{NamedStates}
 use Rattle.turnstile.specs.Seats.{unused_seat}
-use Rattle.leaf_table.specs.Turns.{Shared, is_founded, start_of}
+use Rattle.leaf_table.specs.Turns.{Shared}
 use Rattle.leaf_table.specs.Calls.{SeatView, base_seen, name_of}
 use Rattle.leaf_table.specs.Lists.{place, row}
 use Rattle.leaf_table.specs.Fleet.{IsAt, IsNewFleet, IsShortName}
 use Rattle.printed_lines.specs.Lines.{name_at}
 use Rattle.player.specs.Crew.{column}
-use Rattle.play.specs.Played.{AreBases, BasesAreShut, IsBase}
 use Rattle.play.specs.Runs.{table_base, table_bases}
 use Rattle.transcript_fleet.proofs.Lists.{All-weaken}
-use Rattle.transcript_leaf.proofs.Lists.{element_at, length_mapped, name_is, same_some, within}
-use Rattle.play.proofs.Lists.{all_each}
+use Rattle.transcript_leaf.proofs.Lists.{length_mapped, name_is, same_some, within}
 
--- New tables of these names, with the steward's seat and the callers' at each, none of which was used. They are founded
--- with the base where one is named, and else they are not founded.
+-- New tables of these names, with the steward's seat and the callers' at each, none of which was used. Each is founded
+-- with what the base says of its name, where one is named, and else it is not founded.
 pub record AreNewTables (base : Option NamedStates) (names : List (List ℕ)) (tables : List Shared) (stewards : List SeatView) (callers : List (Option SeatView)) : Type 0 where
   pub named : map name_of tables ≡ names
   pub stewards_are : length stewards ≡ length tables
   pub callers_are : length callers ≡ length tables
   pub unused : (place : ℕ) (t : Shared) → slice_get tables place ≡ Some t
       → (slice_get stewards place ≡ Some (unused_seat t.site 0 1 1024)) × (slice_get callers place ≡ Some (Some (unused_seat t.site 1 65536 65536)))
-  pub founded : IfSome base (λ b. AllByRecursion (λ (t : Shared). (is_founded (base_seen t) ≡ true) × (start_of (base_seen t) ≡ b (name_of t))) tables)
-  pub unfounded : base ≡ None → AllByRecursion (λ (t : Shared). is_founded (base_seen t) ≡ false) tables
+  pub based : (place : ℕ) (t : Shared) → slice_get tables place ≡ Some t → base_seen t ≡ table_base base (name_of t)
 
 -- names of a leaf are short enough for tables
 pub names_short : (names : List (List ℕ)) → AllByRecursion IsName names → AllByRecursion IsShortName names
@@ -50,19 +46,6 @@ column_at {A} leaf (r ∷ rows) zero x below at = ap (λ (o : Option A). Some o)
 column_at leaf (r ∷ rows) (suc t) x below at = column_at leaf rows t x (omega (arith, below)) at
 
 -- ---- the tables of one leaf
-
--- what its tables are founded with, by their names
-founded_with : (base : Option NamedStates) (ts : List Shared) → IfSome base BasesAreShut → ((place : ℕ) (t : Shared) → slice_get ts place ≡ Some t → base_seen t ≡ table_base base (name_of t))
-    → IfSome base (λ b. AllByRecursion (λ (t : Shared). (is_founded (base_seen t) ≡ true) × (start_of (base_seen t) ≡ b (name_of t))) ts)
-founded_with None ts are each = tt
-founded_with (Some b) ts are each = all_each (λ (t : Shared). (is_founded (base_seen t) ≡ true) × (start_of (base_seen t) ≡ b (name_of t))) ts (λ place t at.
-    let is = each place t at in
-    (ap is_founded is, ap start_of is ∙ sym (are (name_of t))))
-
-unfounded_with : (base : Option NamedStates) (ts : List Shared) → ((place : ℕ) (t : Shared) → slice_get ts place ≡ Some t → base_seen t ≡ table_base base (name_of t))
-    → base ≡ None → AllByRecursion (λ (t : Shared). is_founded (base_seen t) ≡ false) ts
-unfounded_with base ts each none = all_each (λ (t : Shared). is_founded (base_seen t) ≡ false) ts (λ place t at.
-    ap is_founded (each place t at ∙ ap (λ (o : Option NamedStates). table_base o (name_of t)) none))
 
 module _ (base : ℕ → Option NamedStates) (names : List (List ℕ)) (leaves : ℕ) (rows : List (List Shared)) (stewards callers : List (List SeatView))
     (f : IsNewFleet (table_bases base names) leaves names 65536 rows stewards callers) (leaf : ℕ) (below : leaf < leaves) where
@@ -101,28 +84,13 @@ module _ (base : ℕ → Option NamedStates) (names : List (List ℕ)) (leaves :
       let named : name_at names t ≡ name_of n.0.table = sym (name_is names t n.0.name n.0.named) ∙ sym n.0.new.named in
       subst (λ (u : Shared). base_seen u ≡ table_base (base leaf) (name_of u)) n.1 (n.0.new.founded ∙ ap (table_base (base leaf)) named)
 
-  new_tables : IfSome (base leaf) BasesAreShut → AreNewTables (base leaf) names tables seats (column leaf callers)
-  new_tables are = record {
+  pub new_tables : AreNewTables (base leaf) names tables seats (column leaf callers)
+  new_tables = record {
     named = named_as tables names as_many (λ t table name at named.
         let n = new_at t table at in
         ap name_of (sym n.1) ∙ (n.0.new.named ∙ same_some n.0.name name (sym n.0.named ∙ named)));
     stewards_are = (f.in_leaf leaf below).1 ∙ sym as_many;
     callers_are = length_mapped (λ (r : List SeatView). slice_get r leaf) callers ∙ (f.counts.2 ∙ sym as_many);
     unused = unused_at;
-    founded = founded_with (base leaf) tables are picked_at;
-    unfounded = unfounded_with (base leaf) tables picked_at;
+    based = picked_at;
   }
-
--- ---- of leaves whose berths have these bases
-
--- a base's tables are shut
-base_is_shut : (base : Option NamedStates) (m : Meaning) → IfSome base (λ b. IsBase b m) → IfSome base BasesAreShut
-base_is_shut None m is = tt
-base_is_shut (Some b) m is = is.is
-
-pub leaf_tables : {B : Type 0} (base : ℕ → Option NamedStates) (meaning : B → Meaning) (berths : List B) (names : List (List ℕ)) (leaves : ℕ) (rows : List (List Shared)) (stewards callers : List (List SeatView))
-    → AreBases base meaning berths → leaves ≤ length berths → IsNewFleet (table_bases base names) leaves names 65536 rows stewards callers
-    → (leaf : ℕ) → leaf < leaves → AreNewTables (base leaf) names (row rows leaf) (row stewards leaf) (column leaf callers)
-leaf_tables base meaning berths names leaves rows stewards callers are enough f leaf below =
-    let berth = element_at berths leaf (omega (arith, below, enough)) in
-    new_tables base names leaves rows stewards callers f leaf below (base_is_shut (base leaf) (meaning berth.0) (are leaf berth.0 berth.1))

@@ -17,18 +17,13 @@ use Rattle.run_ends.specs.declared.status.Status.TheVariants as status
 use Rattle.play.specs.Inspected.{InspectEndsShort, IsLookedAt, IsSeen}
 use Rattle.play.specs.Played.{KeepsCounts, LeavesBerths}
 use Rattle.play.specs.Shortened.{IfShort}
-
-keeps_read : (old new : Meaning) → Untouched old new → KeepsCounts old new
-keeps_read old new same = record { tells = same.time.tells; region_faults = same.time.region_faults; disk_faults = same.time.disk_faults }
-
-keeps_still : (m : Meaning) → KeepsCounts m m
-keeps_still m = record { tells = refl; region_faults = omega arith; disk_faults = omega arith }
+use Rattle.play.proofs.Holding.{keeps_passed, keeps_same}
 
 -- nothing was looked at
 pub leaves_all : {B : Type 0} (meaning : B → Meaning) (leaves : ℕ) (berths : List B) → LeavesBerths meaning leaves berths berths
-leaves_all {B} meaning leaves berths = record {
+leaves_all meaning leaves berths = record {
   as_many = refl;
-  used = λ leaf old new was is. subst (λ (b : B). KeepsCounts (meaning old) (meaning b)) (some_same old new (sym was ∙ is)) (keeps_still (meaning old));
+  used = λ leaf old new was is. keeps_same meaning old new (some_same old new (sym was ∙ is));
   others = refl;
 }
 
@@ -36,12 +31,12 @@ module _ {B : Type 0} (meaning : B → Meaning) (leaf : ℕ) (olds news : List B
   own_keeps : (other : ℕ) (old new : B) → slice_get olds other ≡ Some old → other ≡ leaf → new ≡ looked.berth_now → KeepsCounts (meaning old) (meaning new)
   own_keeps other old new was own is =
       let same : looked.berth ≡ old = some_same looked.berth old (sym looked.at ∙ ap (λ (i : ℕ). slice_get olds i) (sym own) ∙ was) in
-      subst (λ (b : B). KeepsCounts (meaning old) (meaning b)) (sym is) (subst (λ (b : B). KeepsCounts (meaning b) (meaning looked.berth_now)) same (keeps_read (meaning looked.berth) (meaning looked.berth_now) looked.untouched))
+      subst (λ (b : B). KeepsCounts (meaning old) (meaning b)) (sym is) (subst (λ (b : B). KeepsCounts (meaning b) (meaning looked.berth_now)) same (keeps_passed (meaning looked.berth) (meaning looked.berth_now) looked.untouched.time))
 
   used : (other : ℕ) (old new : B) → slice_get olds other ≡ Some old → slice_get news other ≡ Some new → KeepsCounts (meaning old) (meaning new)
   used other old new was is = elim (set_either olds leaf other looked.berth_now new (ap (λ (l : List B). slice_get l other) (sym looked.back) ∙ is)) [
     | inl own ↦ own_keeps other old new was own.0 own.1
-    | inr still ↦ subst (λ (b : B). KeepsCounts (meaning old) (meaning b)) (some_same old new (sym was ∙ still.1)) (keeps_still (meaning old))
+    | inr still ↦ keeps_same meaning old new (some_same old new (sym was ∙ still.1))
   ]
 
   pub leaves_looked : LeavesBerths meaning (leaf + 1) olds news

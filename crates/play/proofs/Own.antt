@@ -4,7 +4,6 @@ use Rattle.std.specs.Prelude.{nat_lt}
 use Rattle.std.proofs.lemmas.Bool.{cond-false}
 use Rattle.std.proofs.lemmas.Bool.Decides.{nat_tests}
 use Rattle.berth_face.specs.Streams.{ReadsAll, TakesAtMost}
-use Rattle.row_model.specs.declared.script_fault.Why.{Why}
 use Rattle.row_model.specs.declared.script_fault.Why.TheVariants as why
 use Rattle.row_model.specs.declared.script_fault.ScriptFault.{ScriptFault}
 use Rattle.row_model.specs.declared.script_fault.ScriptFault.TheVariants.{At, NoMemory}
@@ -17,34 +16,22 @@ use Rattle.run_ends.specs.declared.status.Status.TheVariants as status
 use Rattle.play.specs.Outcome.{play_verdict, status_of_fault, status_played}
 
 -- the status of a text that is not too long is what it comes to
-pub short_decides : (text : List ℕ) (s : Status) → length text ≤ longest_text → if_short text s ≡ s
+short_decides : (text : List ℕ) (s : Status) → length text ≤ longest_text → if_short text s ≡ s
 short_decides text s small =
     let short : nat_lt longest_text (length text) ≡ false = grind (arith, nat_tests, small) in
     cond-false (nat_lt longest_text (length text)) (status.Script 0 why.TooLong) s short
 
--- a text whose first fault is this is refused so
-pub no_play : (berths : ℕ) (before after : Option (List ℕ)) (text : List ℕ) (line : ℕ) (w : Why) → ReadsAll before after text → length text ≤ longest_text → script_of text ≡ Err (line, w)
-    → IsRefused (play_verdict berths) before after line w
-no_play berths before after text line w r small e = by w e (short_decides text (status_played berths (script_of text)) small ∙ ap (status_played berths) e)
-  where
-    by : (w : Why) → script_of text ≡ Err (line, w) → play_verdict berths text ≡ status.Script line w → IsRefused (play_verdict berths) before after line w
-    by why.TooLong e is = absurd (own_fault text line why.TooLong e)
-    by _ e is = (text, r, is)
-
-pub no_more_taken : (before after : Option (List ℕ)) (text : List ℕ) (line : ℕ) (w : Why) → script_of text ≡ Err (line, w) → TakesAtMost before after longest_text → TakesText (status.Script line w) before after
-no_more_taken before after text line why.TooLong e t = absurd (own_fault text line why.TooLong e)
-no_more_taken before after text line _ e t = t
-
--- ---- of a fault that was found
-
+-- the text's first fault is this
 abbrev pub Found : List ℕ → ScriptFault → Type 0
 Found text fault = IfAt fault (λ line w. script_of text ≡ Err (line, w))
 
 pub no_play_fault : (berths : ℕ) (before after : Option (List ℕ)) (text : List ℕ) (fault : ScriptFault) → ReadsAll before after text → length text ≤ longest_text → Found text fault
     → IfScript (status_of_fault fault) (IsRefused (play_verdict berths) before after)
-no_play_fault berths before after text (At line w) r small e = no_play berths before after text line w r small e
+no_play_fault berths before after text (At line why.TooLong) r small e = absurd (own_fault text line why.TooLong e)
+no_play_fault berths before after text (At line _) r small e = (text, r, short_decides text (status_played berths (script_of text)) small ∙ ap (status_played berths) e)
 no_play_fault berths before after text NoMemory r small e = tt
 
 pub no_more_fault : (before after : Option (List ℕ)) (text : List ℕ) (fault : ScriptFault) → Found text fault → TakesAtMost before after longest_text → TakesText (status_of_fault fault) before after
-no_more_fault before after text (At line w) e t = no_more_taken before after text line w e t
+no_more_fault before after text (At line why.TooLong) e t = absurd (own_fault text line why.TooLong e)
+no_more_fault before after text (At line _) e t = t
 no_more_fault before after text NoMemory e t = t

@@ -12,6 +12,7 @@ use Rattle.standing_feed.specs.Following.{new_follower, table_place_of}
 use Rattle.transcript.specs.Pieces.{place_among}
 use Rattle.transcript_standing.specs.Followed.{IsFollower}
 use Rattle.transcript_leaf.proofs.Lists.{length_mapped}
+use Rattle.transcript_fleet.proofs.Lists.{All-append}
 use Rattle.bursts.proofs.Needed.{place_below}
 use Rattle.play.specs.Standing.{MayRunAlone}
 
@@ -28,11 +29,7 @@ pub declared_follower : (fleet : FleetShape) (leaf table : ℕ) (q : Query) (fs 
     → AllByRecursion (IsFollower fleet) fs → AllByRecursion (IsFollower fleet) gs
 declared_follower fleet leaf table q fs gs may at is all =
     let below : table < length fleet.names = subst (λ n. n < length fleet.names) (sym at) (place_below q.table fleet.names may.1) in
-    subst (AllByRecursion (IsFollower fleet)) (sym is) (more fs all (may.0, below))
-  where
-    more : (fs : List Follower) → AllByRecursion (IsFollower fleet) fs → IsFollower fleet (new_follower leaf table q) → AllByRecursion (IsFollower fleet) (fs ++ new_follower leaf table q ∷ [])
-    more [] all one = (one, tt)
-    more (f ∷ fs) all one = (all.0, more fs all.1 one)
+    subst (AllByRecursion (IsFollower fleet)) (sym is) (All-append (IsFollower fleet) fs (new_follower leaf table q ∷ []) all ((may.0, below), tt))
 
 -- the same tables
 pub followers_stay : (fleet : FleetShape) (fs gs : List Follower) → map table_place_of gs ≡ map table_place_of fs → AllByRecursion (IsFollower fleet) fs → AllByRecursion (IsFollower fleet) gs

@@ -1,5 +1,5 @@
 -- Items that the run itself plays: what they did.
-use Rattle.std.proofs.Common.{◌≡◌, inl, inr, ℕ, ◌+◌, true, false, true≢false, List, [], ◌∷◌, ◌++◌, length, refl, sym, ap, subst, ◌∙◌, arith, Option, Some, None, Result, Ok, Err, Vec, Global}
+use Rattle.std.proofs.Common.{◌≡◌, inl, inr, ℕ, ◌+◌, true, false, List, [], ◌∷◌, ◌++◌, length, refl, sym, ap, subst, ◌∙◌, arith, Option, Some, None, Result, Ok, Err, Vec, Global}
 use Rattle.std.specs.Prelude.{IfOk, IfSome, IsErr, OnOk, slice_get, slice_set, map, ⊤}
 use Rattle.std.specs.List.{AllByRecursion}
 use Rattle.std.proofs.lemmas.List.{append-nil}
@@ -22,16 +22,17 @@ use Rattle.script_text.specs.declared.item.Item.TheVariants as item
 use Rattle.script_text.specs.declared.fleet.FleetShape.{FleetShape}
 use Rattle.script_text.specs.Commands.{leaf_count}
 use Rattle.script_text.specs.declared.order.Order.{Order}
+use Rattle.script_text.specs.declared.order.Part.{Part}
 use Rattle.script_text.specs.declared.order.Part.TheVariants as part
 use Rattle.script_text.specs.declared.order.RunOrder.{RunOrder}
 use Rattle.script_text.specs.declared.order.RunOrder.TheVariants as run_order
 use Rattle.script_text.specs.Fits.{declared_by}
-use Rattle.script_text.specs.Orders.{IsOrder, IsPart, part_of, run_command}
+use Rattle.script_text.proofs.Ordered.{run_is}
+use Rattle.script_text.specs.Orders.{IsOfLeaves, IsOrder, IsPart, part_of, run_command}
 use Rattle.printed_lines.specs.declared.line.Said.TheVariants.{Asked}
 use Rattle.printed_lines.specs.declared.line.Line.{Line}
 use Rattle.printed_lines.specs.declared.line.Line.TheVariants as line
 use Rattle.printed_lines.specs.declared.line.WhyUntold.{WhyUntold}
-use Rattle.printed_lines.specs.declared.line.WhyUntold.TheVariants as untold
 use Rattle.printed_lines.specs.Lines.{IsOf}
 use Rattle.standing_feed.specs.declared.follower.Follower.{Follower}
 use Rattle.standing_feed.specs.declared.meant.Meant.{Meant}
@@ -46,6 +47,7 @@ use Rattle.leaf_moves.specs.Lanes.{PlaysItem}
 use Rattle.leaf_moves.specs.Plays as going
 use Rattle.player.specs.Asked.{AsksLeaf}
 use Rattle.player.specs.Crew.{AllCounted, CountedIf}
+use Rattle.player.specs.Lines.{reply_line}
 use Rattle.player.proofs.Chains.{counted_calm, goes_more}
 use Rattle.player.proofs.Ordered.{part_may}
 use Rattle.lane_play.specs.Shortened.{BeginsItem}
@@ -53,29 +55,24 @@ use Rattle.lane_play.specs.Went.{ItemWent, OrNothing, told_lines}
 use Rattle.lane_play.proofs.Heard.{watched_one}
 use Rattle.lane_play.proofs.Held.{all_counted_on}
 use Rattle.bursts.proofs.Needed.{place_below}
-use Rattle.play.specs.Standing.{DoesSo, FollowsLines, IsBefore, ItemDid, MayRunAlone, PlaysOwn, TellsBy, TellsLine, TellsSo, is_of_run}
-use Rattle.play.proofs.AskedLines.{piece_of, piece_is, held_times, held_above, in_any, right, same_ok, not_ok}
+use Rattle.play.specs.Standing.{DoesSo, FollowsLines, IsBefore, ItemDid, MayRunAlone, PlaysOwn, TellsBy, TellsLine, TellsSo}
+use Rattle.play.proofs.AskedLines.{piece_told, piece_is, held_times, held_above, in_any, none_ok}
 
 -- ---- which commands are the run's own
 
-quiet : (fleet : FleetShape) (c : Command) (pieces : List Piece) (ws : List Held) → is_of_run c ≡ true → Hears fleet (record { command = c; pieces = pieces }) ws ws
-quiet fleet (command.Rollover percent) pieces ws own = absurd (true≢false (sym own))
-quiet fleet _ pieces ws own = refl
+quiet : (fleet : FleetShape) (r : RunOrder) (pieces : List Piece) (ws : List Held) → Hears fleet (record { command = run_command r; pieces = pieces }) ws ws
+quiet fleet (run_order.Declare leaf q) pieces ws = refl
+quiet fleet (run_order.Tell number) pieces ws = refl
 
--- another declares no standing query
-declares_none : (c : Command) → is_of_run c ≡ false → declared_by (item.One c) ≡ 0
-declares_none (command.Standing leaf q) other = absurd (true≢false other)
-declares_none _ other = refl
-
-pub run_own : (r : RunOrder) → is_of_run (run_command r) ≡ true
-run_own (run_order.Declare leaf q) = refl
-run_own (run_order.Tell number) = refl
+-- an item whose command tells the run this
+pub own_item : {x : Item} {c : Command} {given : Part} {r : RunOrder} → x ≡ item.One c → given ≡ part_of c → given ≡ part.Run r → x ≡ item.One (run_command r)
+own_item {x} {c} {given} {r} is split run = is ∙ ap (λ (k : Command). item.One k) (run_is c r (sym split ∙ run))
 
 -- a tell declares none
-pub none_told : (r : RunOrder) (standing now was : ℕ) → r ≡ run_order.Tell standing → now ≡ was → now ≡ was + declared_by (item.One (run_command r))
-none_told r standing now was is same =
-    let none : declared_by (item.One (run_command r)) ≡ 0 = ap (λ (o : RunOrder). declared_by (item.One (run_command o))) is in
-    omega (arith, none, same)
+pub none_told : (x : Item) (standing now was : ℕ) → x ≡ item.One (command.Tell standing) → now ≡ was → now ≡ was + declared_by x
+none_told x standing now was is same =
+    let none : was ≡ was + 0 = omega arith in
+    rw is (same ∙ none)
 
 -- the leaves may play the order of a command that a run may play
 pub run_may : (fleet : FleetShape) (c : Command) (o : Order) → part_of c ≡ part.Leaves o → MayRunAlone fleet c → IsOrder (leaf_count fleet) fleet.names o
@@ -86,33 +83,32 @@ run_may fleet c o is may = subst (IsPart (leaf_count fleet) fleet.names) is (by 
     by (command.Tell number) h = tt
     by k h = part_may fleet k h
 
--- and at one the standing queries do nothing by themselves
-idle_one : (fleet : FleetShape) (base_states : ℕ → ℕ → BaseState) (histories : ℕ → ℕ → List Entry) (c d : Command) (pieces : List Piece) (fs : List Follower) → is_of_run c ≡ false → d ≡ c
-    → DoesItself fleet base_states histories (One (record { command = d; pieces = pieces })) fs fs
-idle_one fleet base_states histories c d pieces fs other same = by d (ap is_of_run same ∙ other)
-  where
-    by : (e : Command) → is_of_run e ≡ false → DoesItself fleet base_states histories (One (record { command = e; pieces = pieces })) fs fs
-    by (command.Standing leaf q) is = absurd (true≢false is)
-    by (command.Tell standing) is = absurd (true≢false is)
-    by _ is = refl
-
 -- an item of the leaves
-abbrev pub IsOfLeaves : Item → Type 0
-IsOfLeaves (item.One c) = is_of_run c ≡ false
-IsOfLeaves (item.Burst lanes) = ⊤
+abbrev pub IsOfCrew : Item → Type 0
+IsOfCrew (item.One c) = IsOfLeaves (part_of c)
+IsOfCrew (item.Burst lanes) = ⊤
 
 -- it declares none
-pub none_declared : (x y : Item) (count : ℕ) → x ≡ y → IsOfLeaves y → count ≡ count + declared_by x
-none_declared x y count is other =
-    let none : declared_by x ≡ 0 = ap declared_by is ∙ by y other in
-    omega (arith, none)
+pub none_declared : (x y : Item) (count : ℕ) → x ≡ y → IsOfCrew y → count ≡ count + declared_by x
+none_declared x y count is other = rw is (by y other)
   where
-    by : (z : Item) → IsOfLeaves z → declared_by z ≡ 0
-    by (item.One c) leaves = declares_none c leaves
-    by (item.Burst lanes) leaves = refl
+    none : count ≡ count + 0
+    none = omega arith
 
-idle : (fleet : FleetShape) (base_states : ℕ → ℕ → BaseState) (histories : ℕ → ℕ → List Entry) (x : Item) (p : PlayedItem) (fs : List Follower) → IsOfLeaves x → BeginsItem (item_of p) x → DoesItself fleet base_states histories p fs fs
-idle fleet base_states histories (item.One c) (One p) fs other begun = idle_one fleet base_states histories c p.command p.pieces fs other begun
+    by : (z : Item) → IsOfCrew z → count ≡ count + declared_by z
+    by (item.One (command.Standing leaf q)) leaves = absurd leaves
+    by (item.One _) leaves = none
+    by (item.Burst lanes) leaves = none
+
+-- and at it the standing queries do nothing by themselves
+idle_one : (fleet : FleetShape) (base_states : ℕ → ℕ → BaseState) (histories : ℕ → ℕ → List Entry) (c : Command) (pieces : List Piece) (fs : List Follower) → IsOfLeaves (part_of c)
+    → DoesItself fleet base_states histories (One (record { command = c; pieces = pieces })) fs fs
+idle_one fleet base_states histories (command.Standing leaf q) pieces fs other = absurd other
+idle_one fleet base_states histories (command.Tell standing) pieces fs other = absurd other
+idle_one fleet base_states histories _ pieces fs other = refl
+
+idle : (fleet : FleetShape) (base_states : ℕ → ℕ → BaseState) (histories : ℕ → ℕ → List Entry) (x : Item) (p : PlayedItem) (fs : List Follower) → IsOfCrew x → BeginsItem (item_of p) x → DoesItself fleet base_states histories p fs fs
+idle fleet base_states histories (item.One c) (One p) fs other begun = idle_one fleet base_states histories p.command p.pieces fs (subst (λ (k : Command). IsOfLeaves (part_of k)) (sym begun) other)
 idle fleet base_states histories (item.One c) (Burst lanes) fs other begun = absurd begun
 idle fleet base_states histories (item.Burst lanes) (One p) fs other begun = absurd begun
 idle fleet base_states histories (item.Burst lanes) (Burst others) fs other begun = refl
@@ -125,7 +121,7 @@ module _ {B : Type 0} (meaning : B → Meaning) (fleet : FleetShape) where
   Did x T olds xs us lines ys vs = OrNothing (ItemDid meaning fleet x T olds xs us lines ys vs) xs us lines ys vs
 
   -- what the leaves did at an item that is theirs
-  leaves_did : (x : Item) (fs : List Follower) (xs ys : List (Hold B)) (us vs : List Held) (lines : Option (List Line)) → IsOfLeaves x
+  leaves_did : (x : Item) (fs : List Follower) (xs ys : List (Hold B)) (us vs : List Held) (lines : Option (List Line)) → IsOfCrew x
       → OrNothing (ItemWent meaning fleet x xs us lines ys vs) xs us lines ys vs → Did x (IsBefore fs) fs xs us lines ys vs
   leaves_did x fs xs ys us vs lines other (inl went) = inl (record {
     went = went;
@@ -137,16 +133,15 @@ module _ {B : Type 0} (meaning : B → Meaning) (fleet : FleetShape) where
       still (Some ls) = refl
   leaves_did x fs xs ys us vs lines other (inr none) = inr none
 
-  -- the same where the standing queries are as they were
-  pub leaves_did_as : (x y : Item) (olds news : List Follower) (xs ys : List (Hold B)) (us vs : List Held) (lines : Option (List Line)) → x ≡ y → IsOfLeaves y → news ≡ olds
-      → OrNothing (ItemWent meaning fleet y xs us lines ys vs) xs us lines ys vs → Did x (IsBefore news) olds xs us lines ys vs
-  leaves_did_as x y olds news xs ys us vs lines is other still went =
-      subst (λ (z : Item). Did z (IsBefore news) olds xs us lines ys vs) (sym is)
-      (subst (λ (fs : List Follower). Did y (IsBefore fs) olds xs us lines ys vs) (sym still) (leaves_did y olds xs ys us vs lines other went))
+  pub leaves_did_as : (x y : Item) (fs : List Follower) (xs ys : List (Hold B)) (us vs : List Held) (lines : Option (List Line)) → x ≡ y → IsOfCrew y
+      → OrNothing (ItemWent meaning fleet y xs us lines ys vs) xs us lines ys vs → Did x (IsBefore fs) fs xs us lines ys vs
+  leaves_did_as x y fs xs ys us vs lines is other went = rw is (leaves_did y fs xs ys us vs lines other went)
 
-  -- the same where its lines were let go
-  lost_lines : (x : Item) (T U : List Follower → List Line → Type 0) (olds : List Follower) (xs ys : List (Hold B)) (us vs : List Held) (lines : Option (List Line)) → Did x T olds xs us lines ys vs → Did x U olds xs us None ys vs
-  lost_lines x T U olds xs ys us vs lines (inl d) = inl (record {
+  -- the same where its lines were let go for want of memory
+  pub lost_as : {E : Type 0} (x : Item) (T U : List Follower → List Line → Type 0) (olds : List Follower) (xs ys : List (Hold B)) (us vs : List Held) (lines : Option (List Line)) (result : Result (Vec Line Global) E) → IsErr result
+      → Did x T olds xs us lines ys vs → Did x U olds xs us (told_lines result) ys vs
+  lost_as x T U olds xs ys us vs lines (Ok ls) wrong did = absurd cc
+  lost_as x T U olds xs ys us vs lines (Err e) wrong (inl d) = inl (record {
     went = record {
       played = d.went.played;
       begun = d.went.begun;
@@ -158,13 +153,7 @@ module _ {B : Type 0} (meaning : B → Meaning) (fleet : FleetShape) where
     };
     did = λ histories on. let e = d.did histories on in (e.0, e.1, tt);
   })
-  lost_lines x T U olds xs ys us vs lines (inr none) = inr (record { refused = refl; holds = none.holds; watches = none.watches })
-
-  -- where they were let go for want of memory
-  pub lost_as : {E : Type 0} (x : Item) (T U : List Follower → List Line → Type 0) (olds : List Follower) (xs ys : List (Hold B)) (us vs : List Held) (lines : Option (List Line)) (result : Result (Vec Line Global) E) → IsErr result
-      → Did x T olds xs us lines ys vs → Did x U olds xs us (told_lines result) ys vs
-  lost_as x T U olds xs ys us vs lines (Ok ls) wrong did = absurd cc
-  lost_as x T U olds xs ys us vs lines (Err e) wrong did = lost_lines x T U olds xs ys us vs lines did
+  lost_as x T U olds xs ys us vs lines (Err e) wrong (inr none) = inr (record { refused = refl; holds = none.holds; watches = none.watches })
 
   -- and where the standing queries followed them
   pub followed_lines : (x : Item) (olds mids news : List Follower) (xs ys : List (Hold B)) (us vs : List Held) (lines : List Line) (notes : List (List Meant)) → notes ≡ map (meant_for x) olds → FollowAll notes lines mids news
@@ -181,10 +170,10 @@ module _ {B : Type 0} (meaning : B → Meaning) (fleet : FleetShape) where
   followed_lines x olds mids news xs ys us vs lines notes are follow (inr none) = inr none
 
   -- what the run did by itself
-  own_did : {E : Type 0} (c : Command) (olds news : List Follower) (xs ys : List (Hold B)) (us : List Held) (result : Result (Vec Line Global) E) → is_of_run c ≡ true
-      → PlaysOwn meaning fleet c (DoesSo fleet c olds result news) xs result ys → Did (item.One c) (IsBefore news) olds xs us (told_lines result) ys us
-  own_did {E = E} c olds news xs ys us result own (inl p) =
-      let q : Played = record { command = c; pieces = p.pieces } in
+  own_did : {E : Type 0} (r : RunOrder) (olds news : List Follower) (xs ys : List (Hold B)) (us : List Held) (result : Result (Vec Line Global) E)
+      → PlaysOwn meaning fleet (run_command r) (DoesSo fleet (run_command r) olds result news) xs result ys → Did (item.One (run_command r)) (IsBefore news) olds xs us (told_lines result) ys us
+  own_did {E = E} r olds news xs ys us result (inl p) =
+      let q : Played = record { command = run_command r; pieces = p.pieces } in
       let pieces : pieces_in (q ∷ []) ≡ p.pieces = append-nil p.pieces in
       inl (record {
         went = record {
@@ -193,27 +182,26 @@ module _ {B : Type 0} (meaning : B → Meaning) (fleet : FleetShape) where
           plays = PlaysItem.one q refl p.plays;
           counted = subst (λ (ps : List Piece). AllCounted meaning ps xs ys) (sym pieces) p.counted;
           fit = p.fit;
-          heard = watched_one fleet q us us (quiet fleet c p.pieces us own);
+          heard = watched_one fleet q us us (quiet fleet r p.pieces us);
           lines_are = by result p.lines_are;
         };
         did = λ histories on. let e = p.did histories on in (e.0, e.1, told result e.0 e.2);
       })
     where
-      by : (r : Result (Vec Line Global) E) → IfOk r (λ lines. lines.items ≡ lines_in p.pieces) → IfSome (told_lines r) (λ ls. (item.One c ≡ item.One c) × (ls ≡ lines_in p.pieces))
+      by : (o : Result (Vec Line Global) E) → IfOk o (λ lines. lines.items ≡ lines_in p.pieces) → IfSome (told_lines o) (λ ls. (item.One (run_command r) ≡ item.One (run_command r)) × (ls ≡ lines_in p.pieces))
       by (Ok ls) are = (refl, are)
       by (Err e) are = tt
 
-      told : (r : Result (Vec Line Global) E) (between : List Follower) → OnOk r (between ≡ news) → IfSome (told_lines r) (IsBefore news between)
+      told : (o : Result (Vec Line Global) E) (between : List Follower) → OnOk o (between ≡ news) → IfSome (told_lines o) (IsBefore news between)
       told (Ok ls) between is = is
       told (Err e) between is = tt
-  own_did c olds news xs ys us (Ok lines) own (inr none) = let wrong = none.0 in absurd cc
-  own_did c olds news xs ys us (Err e) own (inr none) = inr (record { refused = refl; holds = none.1; watches = refl })
+  own_did r olds news xs ys us (Ok lines) (inr none) = let wrong = none.0 in absurd cc
+  own_did r olds news xs ys us (Err e) (inr none) = inr (record { refused = refl; holds = none.1; watches = refl })
 
   -- the same of an item that is the command
-  pub own_did_as : {E : Type 0} (x : Item) (c : Command) (olds news : List Follower) (xs ys : List (Hold B)) (us : List Held) (result : Result (Vec Line Global) E) → x ≡ item.One c → is_of_run c ≡ true
-      → PlaysOwn meaning fleet c (DoesSo fleet c olds result news) xs result ys → Did x (IsBefore news) olds xs us (told_lines result) ys us
-  own_did_as x c olds news xs ys us result is own plays =
-      subst (λ (y : Item). Did y (IsBefore news) olds xs us (told_lines result) ys us) (sym is) (own_did c olds news xs ys us result own plays)
+  pub own_did_as : {E : Type 0} (x : Item) (r : RunOrder) (olds news : List Follower) (xs ys : List (Hold B)) (us : List Held) (result : Result (Vec Line Global) E) → x ≡ item.One (run_command r)
+      → PlaysOwn meaning fleet (run_command r) (DoesSo fleet (run_command r) olds result news) xs result ys → Did x (IsBefore news) olds xs us (told_lines result) ys us
+  own_did_as x r olds news xs ys us result is plays = rw is (own_did r olds news xs ys us result plays)
 
   -- a line tells of no deed
   says_counted : (l : Line) (xs : List (Hold B)) → AllCounted meaning (Says l ∷ []) xs xs
@@ -226,7 +214,7 @@ module _ {B : Type 0} (meaning : B → Meaning) (fleet : FleetShape) where
   says_goes l xs = going.say xs (Says l ∷ []) xs l [] (going.none xs [] xs refl refl) refl
 
   -- a standing query was declared
-  declares : {E : Type 0} (leaf : ℕ) (q : Query) (olds news : List Follower) (xs : List (Hold B)) (result : Result (Vec Line Global) E) → MayRunAlone fleet (command.Standing leaf q)
+  pub declares : {E : Type 0} (leaf : ℕ) (q : Query) (olds news : List Follower) (xs : List (Hold B)) (result : Result (Vec Line Global) E) → MayRunAlone fleet (command.Standing leaf q)
       → IfOk result (λ lines. lines.items ≡ line.Declared (length olds) ∷ []) → OnOk result (news ≡ olds ++ new_follower leaf (place_among q.table fleet.names) q ∷ [])
       → PlaysOwn meaning fleet (command.Standing leaf q) (DoesSo fleet (command.Standing leaf q) olds result news) xs result xs
   declares leaf q olds news xs (Err e) may told more = inr (refl, refl)
@@ -243,13 +231,12 @@ module _ {B : Type 0} (meaning : B → Meaning) (fleet : FleetShape) where
     );
   })
 
-  pub declares_as : {E : Type 0} (c : Command) (leaf : ℕ) (q : Query) (olds news : List Follower) (xs : List (Hold B)) (result : Result (Vec Line Global) E) → c ≡ command.Standing leaf q → MayRunAlone fleet (command.Standing leaf q)
-      → IfOk result (λ lines. lines.items ≡ line.Declared (length olds) ∷ []) → OnOk result (news ≡ olds ++ new_follower leaf (place_among q.table fleet.names) q ∷ [])
-      → PlaysOwn meaning fleet c (DoesSo fleet c olds result news) xs result xs
-  declares_as c leaf q olds news xs result is may told more =
-      subst (λ (k : Command). PlaysOwn meaning fleet k (DoesSo fleet k olds result news) xs result xs) (sym is) (declares leaf q olds news xs result may told more)
-
   -- ---- what one tells
+
+  -- the first line, and then what the query said, if there was memory for that
+  abbrev pub ArePrinted : {E F : Type 0} → Line → Result Line F → Result (Vec Line Global) E → Type 0
+  ArePrinted first (Ok told) result = IfOk result (λ lines. lines.items ≡ first ∷ told ∷ [])
+  ArePrinted first (Err e) result = IsErr result
 
   -- it is a line that fits, whatever the rows are
   told_fits : (standing : ℕ) (f : Follower) (told : Line) → TellsState standing f told → IsOf fleet.names told
@@ -308,7 +295,7 @@ module _ {B : Type 0} (meaning : B → Meaning) (fleet : FleetShape) where
       → IfOk result (λ lines. lines.items ≡ first ∷ told ∷ []) → PlaysOwn meaning fleet (command.Tell standing) (TellsSo fleet standing f result g) xs result ys
   groups_tell standing f g xs ys first number gs told result stale asked same tells lines =
       let q : Query = spread f.standing.query in
-      let piece : asked.piece ≡ Called f.leaf f.table (call.Ask q) number Asked = piece_is f.leaf f.table q asked.piece (reply.Groups number gs) asked.prints (asked.line_is ∙ ap (λ (l : Line). l ∷ []) asked.tells) in
+      let piece : asked.piece ≡ Called f.leaf f.table (call.Ask q) number Asked = piece_is f.leaf f.table q asked.piece first asked.prints asked.line_is ∙ ap (piece_told q) asked.tells in
       stale_with standing f.leaf f.table q (TellsSo fleet standing f result g) xs ys first (reply.Groups number gs) told result asked (told_fits standing (settled number gs f) told tells) lines
       (λ histories on. (
         settled number gs f,
@@ -323,46 +310,34 @@ module _ {B : Type 0} (meaning : B → Meaning) (fleet : FleetShape) where
       ))
 
   -- a refusal leaves it stale, and it tells why
-  refusal_tells : {E : Type 0} (standing : ℕ) (f g : Follower) (xs ys : List (Hold B)) (first : Line) (answer : Reply) (why : WhyUntold) (told : Line) (result : Result (Vec Line Global) E) → f.standing.stale ≡ true
-      → AsksLeaf meaning fleet.names f.leaf f.table (spread f.standing.query) xs first answer ys → telling.why_untold (piece_of f.leaf f.table (spread f.standing.query) answer) ≡ Some why
-      → g ≡ f → told ≡ line.Untold standing why → IfOk result (λ lines. lines.items ≡ first ∷ told ∷ []) → PlaysOwn meaning fleet (command.Tell standing) (TellsSo fleet standing f result g) xs result ys
-  refusal_tells standing f g xs ys first answer why told result stale asked untold same is lines =
+  refusal_tells : {E F : Type 0} {standing : ℕ} {f g : Follower} {xs ys : List (Hold B)} {first : Line} {answer : Reply} {why : WhyUntold} {said : Result Line F} {result : Result (Vec Line Global) E} → f.standing.stale ≡ true
+      → AsksLeaf meaning fleet.names f.leaf f.table (spread f.standing.query) xs first answer ys → telling.why_untold (piece_told (spread f.standing.query) (reply_line f.leaf f.table answer)) ≡ Some why
+      → (g ≡ f) × (said ≡ Ok (line.Untold standing why)) → ArePrinted first said result → PlaysOwn meaning fleet (command.Tell standing) (TellsSo fleet standing f result g) xs result ys
+  refusal_tells {E} {F} {standing} {f} {g} {xs} {ys} {first} {answer} {why} {said} {result} stale asked untold tells lines =
       let q : Query = spread f.standing.query in
-      let piece : asked.piece ≡ piece_of f.leaf f.table q answer = piece_is f.leaf f.table q asked.piece answer asked.prints (asked.line_is ∙ ap (λ (l : Line). l ∷ []) asked.tells) in
-      stale_with standing f.leaf f.table q (TellsSo fleet standing f result g) xs ys first answer told result asked (subst (IsOf fleet.names) (sym is) tt) lines
+      let piece : asked.piece ≡ piece_told q (reply_line f.leaf f.table answer) = piece_is f.leaf f.table q asked.piece first asked.prints asked.line_is ∙ ap (piece_told q) asked.tells in
+      stale_with standing f.leaf f.table q (TellsSo fleet standing f result g) xs ys first answer (line.Untold standing why) result asked tt (subst (λ (s : Result Line F). ArePrinted first s result) tells.1 lines)
       (λ histories on. (
         f,
-        TellsItself.stays_stale asked.piece why stale asked.prints (ap telling.why_untold piece ∙ untold) (ap (λ (l : Line). asked.piece ∷ Says l ∷ []) is) refl,
-        in_any result (sym same),
+        TellsItself.stays_stale asked.piece why stale asked.prints (ap telling.why_untold piece ∙ untold) refl refl,
+        in_any result (sym tells.0),
       ))
 
-  -- whatever it was answered
-  pub tells_stale : {E : Type 0} (F : Type 0) (standing : ℕ) (f g : Follower) (xs ys : List (Hold B)) (first : Line) (answer : Reply) (told : Line) (result : Result (Vec Line Global) E) → f.standing.stale ≡ true
-      → AsksLeaf meaning fleet.names f.leaf f.table (spread f.standing.query) xs first answer ys → TellsBy standing f answer (right F told) g
-      → IfOk result (λ lines. lines.items ≡ first ∷ told ∷ []) → PlaysOwn meaning fleet (command.Tell standing) (TellsSo fleet standing f result g) xs result ys
-  tells_stale F standing f g xs ys first (reply.Groups number gs) told result stale asked tells lines =
-      groups_tell standing f g xs ys first number gs told result stale asked tells.0 (subst (λ (h : Follower). TellsState standing h told) tells.0 tells.1) lines
-  tells_stale F standing f g xs ys first (reply.Shut number) told result stale asked tells lines = refusal_tells standing f g xs ys first (reply.Shut number) untold.Shut told result stale asked refl tells.0 (same_ok F told _ tells.1) lines
-  tells_stale F standing f g xs ys first reply.Worn told result stale asked tells lines = refusal_tells standing f g xs ys first reply.Worn untold.Worn told result stale asked refl tells.0 (same_ok F told _ tells.1) lines
-  tells_stale F standing f g xs ys first (reply.NoMemory number) told result stale asked tells lines = refusal_tells standing f g xs ys first (reply.NoMemory number) untold.Memory told result stale asked refl tells.0 (same_ok F told _ tells.1) lines
-  tells_stale F standing f g xs ys first (reply.Full number) told result stale asked tells lines = refusal_tells standing f g xs ys first (reply.Full number) untold.Memory told result stale asked refl tells.0 (same_ok F told _ tells.1) lines
-  tells_stale F standing f g xs ys first (reply.Added number kept late) told result stale asked tells lines = refusal_tells standing f g xs ys first (reply.Added number kept late) untold.Memory told result stale asked refl tells.0 (same_ok F told _ tells.1) lines
-  tells_stale F standing f g xs ys first (reply.Removed number rows) told result stale asked tells lines = refusal_tells standing f g xs ys first (reply.Removed number rows) untold.Memory told result stale asked refl tells.0 (same_ok F told _ tells.1) lines
-
-  -- also where there was no memory for what it tells
-  pub tells_lost : {E F : Type 0} (standing : ℕ) (f g : Follower) (xs ys : List (Hold B)) (first : Line) (answer : Reply) (why : F) (result : Result (Vec Line Global) E) → f.standing.stale ≡ true
-      → AsksLeaf meaning fleet.names f.leaf f.table (spread f.standing.query) xs first answer ys → TellsBy standing f answer (Err why) g → IsErr result
+  -- whatever it was answered, also where there was no memory for what it tells
+  pub tells_stale : {E F : Type 0} {standing : ℕ} {f : Follower} {xs ys : List (Hold B)} {first : Line} {answer : Reply} {result : Result (Vec Line Global) E} (g : Follower) (said : Result Line F) → f.standing.stale ≡ true
+      → AsksLeaf meaning fleet.names f.leaf f.table (spread f.standing.query) xs first answer ys → TellsBy standing f answer said g → ArePrinted first said result
       → PlaysOwn meaning fleet (command.Tell standing) (TellsSo fleet standing f result g) xs result ys
-  tells_lost standing f g xs ys first answer why (Ok lines) stale asked tells wrong = absurd cc
-  tells_lost standing f g xs ys first (reply.Groups number gs) why (Err e) stale asked tells wrong =
+  tells_stale {standing = standing} {f = f} {xs = xs} {ys = ys} {first = first} {answer = reply.Groups number gs} {result = result} g (Ok told) stale asked tells lines =
+      groups_tell standing f g xs ys first number gs told result stale asked tells.0 (subst (λ (h : Follower). TellsState standing h told) tells.0 tells.1) lines
+  tells_stale {standing = standing} {f = f} {xs = xs} {ys = ys} {first = first} {answer = reply.Groups number gs} {result = result} g (Err e) stale asked tells lines =
       let told = told_right standing (settled number gs f) in
-      groups_tell standing f g xs ys first number gs told.0 (Err e) stale asked tells.0 told.1 tt
-  tells_lost standing f g xs ys first (reply.Shut number) why (Err e) stale asked tells wrong = absurd (not_ok why _ tells.1)
-  tells_lost standing f g xs ys first reply.Worn why (Err e) stale asked tells wrong = absurd (not_ok why _ tells.1)
-  tells_lost standing f g xs ys first (reply.NoMemory number) why (Err e) stale asked tells wrong = absurd (not_ok why _ tells.1)
-  tells_lost standing f g xs ys first (reply.Full number) why (Err e) stale asked tells wrong = absurd (not_ok why _ tells.1)
-  tells_lost standing f g xs ys first (reply.Added number kept late) why (Err e) stale asked tells wrong = absurd (not_ok why _ tells.1)
-  tells_lost standing f g xs ys first (reply.Removed number rows) why (Err e) stale asked tells wrong = absurd (not_ok why _ tells.1)
+      groups_tell standing f g xs ys first number gs told.0 result stale asked tells.0 told.1 (none_ok (λ (ls : Vec Line Global). ls.items ≡ first ∷ told.0 ∷ []) result lines)
+  tells_stale {answer = reply.Shut number} g said stale asked tells lines = refusal_tells stale asked refl tells lines
+  tells_stale {answer = reply.Worn} g said stale asked tells lines = refusal_tells stale asked refl tells lines
+  tells_stale {answer = reply.NoMemory number} g said stale asked tells lines = refusal_tells stale asked refl tells lines
+  tells_stale {answer = reply.Full number} g said stale asked tells lines = refusal_tells stale asked refl tells lines
+  tells_stale {answer = reply.Added number kept late} g said stale asked tells lines = refusal_tells stale asked refl tells lines
+  tells_stale {answer = reply.Removed number rows} g said stale asked tells lines = refusal_tells stale asked refl tells lines
 
   -- what the one of a number told is what they did at that command
   pub one_told : {E : Type 0} (standing : ℕ) (olds news : List Follower) (f g : Follower) (xs ys : List (Hold B)) (result : Result (Vec Line Global) E) → slice_get olds standing ≡ Some f → news ≡ slice_set olds standing g

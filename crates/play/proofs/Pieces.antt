@@ -1,21 +1,22 @@
 -- Lines that are written piece by piece.
-use Rattle.std.proofs.Common.{◌≡◌, ℕ, List, [], ◌∷◌, ◌++◌, Option, length, sym, ap, ◌∙◌, append_assoc, append-nil, subst}
+use Rattle.std.proofs.Common.{◌≡◌, ℕ, List, [], ◌++◌, Option, length, sym, ap, ◌∙◌, append_assoc, append-nil, subst}
 use Rattle.std.specs.List.{AllByRecursion}
 use Rattle.std.specs.Io.KnownBytes.{Appends}
 use Rattle.std.proofs.lemmas.List.{nil_from_length}
 use Rattle.std.proofs.lemmas.List.Concat.{flat_map-append}
 use Rattle.berth_face.proofs.Streams.{appends_none, appends_more}
-use Rattle.berth_face.specs.Streams.{WritesFront}
+use Rattle.berth_face.specs.Streams.{Written, WritesFront}
 use Rattle.printed_lines.specs.declared.line.Line.{Line}
 use Rattle.printed_lines.specs.Lines.{IsOf, line_text, lines_text}
+use Rattle.transcript_standing.proofs.Lists.{All-back, All-front}
 
-all_front : {X : Type 0} (P : X → Type 0) (xs ys : List X) → AllByRecursion P (xs ++ ys) → AllByRecursion P xs
-all_front P [] ys all = tt
-all_front P (x ∷ xs) ys all = (all.0, all_front P xs ys all.1)
-
-all_behind : {X : Type 0} (P : X → Type 0) (xs ys : List X) → AllByRecursion P (xs ++ ys) → AllByRecursion P ys
-all_behind P [] ys all = all
-all_behind P (x ∷ xs) ys all = all_behind P xs ys all.1
+-- some of a text, behind all of what was before
+pub front_behind : (a b c : Option (List ℕ)) (xs ys rest : List ℕ) → Appends a b xs → Written b c ys rest → Written a c (xs ++ ys) rest
+front_behind a b c xs ys rest g w = record {
+  front = xs ++ w.front;
+  is = ap (λ (l : List ℕ). xs ++ l) w.is ∙ sym (append_assoc xs w.front rest);
+  bytes = appends_more a b c xs w.front g w.bytes;
+}
 
 -- of these lines all but those that are left were written
 pub record AreWritten (names : List (List ℕ)) (lines left : List Line) (before now : Option (List ℕ)) : Type 0 where
@@ -33,7 +34,7 @@ pieces_begin names lines left o all same =
 pub piece_fits : {names : List (List ℕ)} {lines left : List Line} {before now : Option (List ℕ)} (piece rest : List Line) → AreWritten names lines left before now
     → left ≡ piece ++ rest → AllByRecursion (IsOf names) piece
 piece_fits {names} {lines} {left} {before} {now} piece rest written is =
-    all_front (IsOf names) piece rest (subst (AllByRecursion (IsOf names)) is written.all)
+    All-front (IsOf names) piece rest (subst (AllByRecursion (IsOf names)) is written.all)
 
 -- a piece more
 pub pieces_go_on : {names : List (List ℕ)} {lines left : List Line} {before now : Option (List ℕ)} (later : Option (List ℕ)) (piece rest : List Line)
@@ -43,7 +44,7 @@ pieces_go_on {names} {lines} {left} {before} {now} later piece rest written is m
     record {
       front = written.front ++ piece;
       is = written.is ∙ ap (λ (ls : List Line). written.front ++ ls) is ∙ sym (append_assoc written.front piece rest);
-      all = all_behind (IsOf names) piece rest (subst (AllByRecursion (IsOf names)) is written.all);
+      all = All-back (IsOf names) piece rest (subst (AllByRecursion (IsOf names)) is written.all);
       bytes = subst (Appends before later) text (appends_more before now later (lines_text names written.front) (lines_text names piece) written.bytes more);
     }
 
@@ -58,16 +59,18 @@ pieces_end {names} {lines} {left} {before} {now} written none =
 pub pieces_cut : {names : List (List ℕ)} {lines left : List Line} {before now : Option (List ℕ)} (later : Option (List ℕ)) (piece rest : List Line)
     → AreWritten names lines left before now → left ≡ piece ++ rest → WritesFront now later (lines_text names piece) → WritesFront before later (lines_text names lines)
 pieces_cut {names} {lines} {left} {before} {now} later piece rest written is front =
-    let text : lines_text names lines ≡ lines_text names written.front ++ (lines_text names piece ++ lines_text names rest) =
+    let more : List ℕ = lines_text names rest in
+    let text : lines_text names lines ≡ lines_text names written.front ++ (lines_text names piece ++ more) =
     ap (λ (ls : List Line). lines_text names ls) (written.is ∙ ap (λ (ls : List Line). written.front ++ ls) is)
-    ∙ (flat_map-append (line_text names) written.front (piece ++ rest) ∙ ap (λ (l : List ℕ). lines_text names written.front ++ l) (flat_map-append (line_text names) piece rest)) in (
-      front.0 ++ lines_text names rest,
-      record {
-        front = lines_text names written.front ++ front.1.front;
-        is = text ∙ (ap (λ (l : List ℕ). lines_text names written.front ++ (l ++ lines_text names rest)) front.1.is
-            ∙ (ap (λ (l : List ℕ). lines_text names written.front ++ l) (append_assoc front.1.front front.0 (lines_text names rest)) ∙ sym (append_assoc (lines_text names written.front) front.1.front (front.0 ++ lines_text names rest))));
-        bytes = appends_more before now later (lines_text names written.front) front.1.front written.bytes front.1.bytes;
-      },
+    ∙ (flat_map-append (line_text names) written.front (piece ++ rest) ∙ ap (λ (l : List ℕ). lines_text names written.front ++ l) (flat_map-append (line_text names) piece rest)) in
+    let some : Written now later (lines_text names piece ++ more) (front.0 ++ more) = record {
+      front = front.1.front;
+      is = ap (λ (l : List ℕ). l ++ more) front.1.is ∙ append_assoc front.1.front front.0 more;
+      bytes = front.1.bytes;
+    } in (
+      front.0 ++ more,
+      subst (λ (t : List ℕ). Written before later t (front.0 ++ more)) (sym text)
+          (front_behind before now later (lines_text names written.front) (lines_text names piece ++ more) (front.0 ++ more) written.bytes some),
     )
 
 -- all of a text is a front of it

@@ -9,7 +9,7 @@ use Rattle.script_text.specs.declared.item.Item.{Item}
 use Rattle.printed_lines.specs.Lines.{lines_text}
 use Rattle.script_text.specs.declared.fleet.FleetShape.{FleetShape}
 use Rattle.run_ends.specs.declared.status.Status.{Status}
-use Rattle.transcript.specs.Pieces.{PlayedItem, all_lines, all_pieces, item_lines, item_of, plays_in, plays_of}
+use Rattle.transcript.specs.Pieces.{PlayedItem, all_lines, all_pieces, item_lines, item_of, plays_of}
 use Rattle.transcript.specs.Transcript.{Known, base_states_of}
 use Rattle.standing_feed.specs.declared.follower.Follower.{Follower}
 use Rattle.transcript_standing.specs.Followed.{DoesItself, FollowedSome}
@@ -20,26 +20,22 @@ use Rattle.transcript.specs.Watching.{HearsAll}
 use Rattle.lane_play.specs.Shortened.{Begins, BeginsItem}
 use Rattle.play.specs.Cut.{IsShortened, PlaysSome, last_lines}
 use Rattle.player.specs.Crew.{AllCounted}
-use Rattle.transcript_fleet.specs.Session.{Session}
-use Rattle.play.specs.Runs.{AreCounted, HoldsKeep, berths_in}
+use Rattle.play.specs.Runs.{HasPlayed, berths_in}
 
 -- ---- in the middle
 
 -- What holds if a play stops after some of these items, of whose text a prefix was written. Before the first item the
 -- leaves are as they were.
-pub record RunShort {B : Type 0} (base : ℕ → Option NamedStates) (meaning : B → Meaning) (fleet : FleetShape) (olds : List B) (was written : Option (List ℕ)) (watching watched : List Held) (items : List Item) (xs : List (Hold B)) : Type 0 where
+pub record RunShort {B : Type 0} (base : ℕ → Option NamedStates) (meaning : B → Meaning) (fleet : FleetShape) (firsts : List (Hold B)) (was written : Option (List ℕ)) (watching watched : List Held) (items : List Item) (xs : List (Hold B)) : Type 0 where
   pub played : List PlayedItem
   pub some : PlaysSome items (map item_of played)
   pub rest : List ℕ
   pub text : Written was written (lines_text fleet.names (all_lines played)) rest
   pub last : length rest ≤ length (lines_text fleet.names (last_lines played))
   pub cut : Begins (map item_of played) items ⊎ (rest ≡ lines_text fleet.names (last_lines played))
-  pub heard : HearsAll fleet (plays_in played) watching watched
-  pub counted : AreCounted meaning olds xs (all_pieces played)
-  pub keeps : HoldsKeep meaning olds xs
-  pub untouched : played ≡ [] → berths_in xs ≡ olds
-  pub session : (known : ℕ → Option Known) → AreKnown meaning olds olds base known → Session meaning fleet known olds played xs
-  pub followed : (known : ℕ → Option Known) → AreKnown meaning olds olds base known → (histories : ℕ → ℕ → List Entry) → GoOn xs histories
+  pub has : HasPlayed base meaning fleet firsts watching watched played xs
+  pub untouched : played ≡ [] → xs ≡ firsts
+  pub followed : (known : ℕ → Option Known) → AreKnown meaning (berths_in firsts) (berths_in firsts) base known → (histories : ℕ → ℕ → List Entry) → GoOn xs histories
       → FollowedSome fleet (base_states_of fleet known) histories played []
 
 -- ---- at the end

@@ -14,7 +14,7 @@ ghost use Rattle.play.specs.Played.{AreBases, LeavesBerths, leaves_in};
 ghost use Rattle.berth_face.specs.Streams.{WritesFront};
 ghost use Rattle.lane_play.specs.Went.{told_lines};
 ghost use Rattle.play.specs.Shortened.{IfShort, RunShort, StopsAt, StopsShort};
-ghost use Rattle.play.specs.Runs.{Advances, HoldsKeep, IsEnd, IsFleetOf, RunSoFar, berths_in};
+ghost use Rattle.play.specs.Runs.{Advances, IsEnd, IsFleetOf, RunSoFar};
 
 use crate::bases::Bases;
 use crate::standing::play_followed;
@@ -65,8 +65,7 @@ pub fn leaf_count(items: &Items) -> usize
 fn plan_of(items: &Items) -> Result<Option<FleetShape>, AllocError>
     requires { AreItems items.now }
     ensures none { IfOk result (λ found. found ≡ None → items.now ≡ []) }
-    ensures plan { IfOk result (λ found. IfSome found
-        (λ plan. IsFleetOf items.now plan.machines plan.per_machine plan.names)) }
+    ensures plan { IfOk result (λ found. IfSome found (λ plan. IsFleetOf items.now plan)) }
 {
     match items.as_slice() {
         [
@@ -132,7 +131,7 @@ fn play_over<N: Bases, R: Wait + Threads + Sync, K: Sink, B: Berth, G: Gate>(
     gate: &G,
     watches: &mut Vec<Box<dyn Watch>>,
 ) -> Status
-    requires plan { IsFleetOf items plan.now.machines plan.now.per_machine plan.now.names }
+    requires plan { IsFleetOf items plan.now }
     requires told { TellAbove 0 items }
     requires few { declared_in items ≤ 16 }
     requires enough { leaves_in items ≤ length berths.old.items }
@@ -202,21 +201,21 @@ fn play_all<'t, N: Bases, R: Wait + Threads + Sync, K: Sink, B: Berth, G: Gate>(
     requires told { TellAbove 0 items.items }
     requires few { declared_in items.items ≤ 16 }
     requires all { HasAll crew.old.fleet crew.old.holds }
-    requires begun { RunSoFar N.base B.meaning crew.old.fleet (berths_in crew.old.holds) (K.written sink.old)
+    requires begun { RunSoFar N.base B.meaning crew.old.fleet crew.old.holds (K.written sink.old)
         (K.written sink.old)
         (map (λ watch. held watch) watches.old.items) (map (λ watch. held watch) watches.old.items) [] []
         crew.old.holds }
     ensures done { result ≡ Status.Done → (followers : List Follower)
-        × RunSoFar N.base B.meaning crew.old.fleet (berths_in crew.old.holds) (K.written sink.old) (K.written sink.new)
+        × RunSoFar N.base B.meaning crew.old.fleet crew.old.holds (K.written sink.old) (K.written sink.new)
         (map (λ watch. held watch) watches.old.items) (map (λ watch. held watch) watches.new.items) items.items
         followers crew.new.holds }
-    ensures short { IfShort result (RunShort N.base B.meaning crew.old.fleet (berths_in crew.old.holds)
+    ensures short { IfShort result (RunShort N.base B.meaning crew.old.fleet crew.old.holds
         (K.written sink.old) (K.written sink.new)
         (map (λ watch. held watch) watches.old.items) (map (λ watch. held watch) watches.new.items) items.items
         crew.new.holds) }
     ensures ends { IsEnd result }
     ensures write_fault { result ≡ Status.WriteFault → Rose (K.faults sink.old) (K.faults sink.new) }
-    ensures keeps { HoldsKeep B.meaning (berths_in crew.old.holds) crew.new.holds }
+    ensures time { AllPass B.meaning crew.old.holds crew.new.holds }
     ensures all { HasAll crew.new.fleet crew.new.holds }
 {
     let mut step: u32 = 0;

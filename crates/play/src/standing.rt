@@ -4,9 +4,7 @@ ghost use Rattle.std.specs.List.{AllByRecursion};
 ghost use Rattle.printed_lines.specs.Lines.{IsOf};
 ghost use Rattle.printed_lines.specs.declared.line.Line.TheVariants.{Declared};
 ghost use Rattle.script_text.specs.declared.command.Command.TheVariants.{Standing, Tell};
-ghost use Rattle.script_text.specs.declared.item.Item.TheVariants.{One};
 ghost use Rattle.script_text.specs.Fits.{TellsDeclared, declared_by};
-ghost use Rattle.script_text.specs.Orders.{run_command};
 ghost use Rattle.standing_query.specs.Spread.{spread};
 ghost use Rattle.standing_feed.specs.Following.{new_follower, table_place_of};
 ghost use Rattle.transcript.specs.Pieces.{place_among};
@@ -94,40 +92,12 @@ fn play_any<'t, R: Wait + Threads + Sync, B: Berth, G: Gate>(
     match item {
         Item::One(command) => match command.split() {
             Part::Leaves(order) => play_one(rt, alloc, gate, crew, watches, order),
-            Part::Run(order) => play_own(rt, alloc, gate, crew, followers, order),
+            Part::Run(RunOrder::Declare { leaf, query }) => declare(
+                alloc, crew, followers, leaf, query,
+            ),
+            Part::Run(RunOrder::Tell(standing)) => tell(rt, alloc, gate, crew, followers, standing),
         },
         Item::Burst(lanes) => play_burst(rt, alloc, gate, crew, watches, lanes.into_inner()),
-    }
-}
-
-// Declares a standing query, or lets one tell.
-fn play_own<'t, R: Wait + Threads + Sync, B: Berth, G: Gate>(
-    rt: &R,
-    alloc: Global,
-    gate: &G,
-    crew: &mut Crew<'t, B>,
-    followers: &mut Followers,
-    order: RunOrder,
-) -> Result<Vec<Line>, AllocError>
-    requires may { MayRunAlone crew.old.fleet (run_command order) }
-    requires told { TellsDeclared (length followers.old.list.items) (One (run_command order)) }
-    requires followers { AreFollowers crew.old.fleet followers.old.list.items }
-    requires few { length followers.old.list.items + declared_by (One (run_command order)) ≤ 16 }
-    requires all { HasAll crew.old.fleet crew.old.holds }
-    ensures plays { PlaysOwn B.meaning crew.old.fleet (run_command order)
-        (DoesSo crew.old.fleet (run_command order) followers.old.list.items result followers.new.list.items)
-        crew.old.holds result crew.new.holds }
-    ensures fleet { (crew.new.fleet ≡ crew.old.fleet) × (crew.new.tables ≡ crew.old.tables) }
-    ensures all { HasAll crew.new.fleet crew.new.holds }
-    ensures time { AllPass B.meaning crew.old.holds crew.new.holds }
-    ensures followers { AreFollowers crew.old.fleet followers.new.list.items }
-    ensures count { OnOk result (length followers.new.list.items ≡ length followers.old.list.items
-        + declared_by (One (run_command order))) }
-    ensures refused { OnErr result (length followers.new.list.items ≡ length followers.old.list.items) }
-{
-    match order {
-        RunOrder::Declare { leaf, query } => declare(alloc, crew, followers, leaf, query),
-        RunOrder::Tell(standing) => tell(rt, alloc, gate, crew, followers, standing),
     }
 }
 

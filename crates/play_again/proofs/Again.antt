@@ -1,7 +1,7 @@
 -- After a run a leaf may begin again over each berth whose base was named, and over what a crash left of it.
-use Rattle.std.proofs.Common.{◌≡◌, ◌⊎◌, inl, inr, ◌∙◌, ℕ, zero, suc, ◌<◌, ◌≤◌, Bool, true, false, List, [], ◌∷◌, length, Option, Some, None, refl, sym, ap, subst, arith}
-use Rattle.std.specs.Prelude.{IfSome, drop, map, nat_lt, slice_get}
-use Rattle.std.proofs.lemmas.Bool.{ltb-false}
+use Rattle.std.proofs.Common.{◌≡◌, inl, inr, ◌∙◌, ℕ, zero, suc, ◌<◌, ◌≤◌, List, [], ◌∷◌, length, Option, Some, None, refl, sym, ap, subst, arith}
+use Rattle.std.specs.Prelude.{IfSome, drop, map, slice_get}
+use Rattle.std.proofs.lemmas.Bool.{cases_lt}
 use Rattle.berth_face.specs.Berth.{Meaning}
 use Rattle.leaf_history.specs.History.{Entry}
 use Rattle.crash_moments.specs.Left.{NamedStates}
@@ -22,15 +22,15 @@ use Rattle.run_words.specs.declared.words.Request.{Request}
 use Rattle.run_words.specs.declared.words.Request.TheVariants.{Count, Inspect, Play, Soak}
 use Rattle.run_words.specs.Words.{IfCount}
 use Rattle.soak.specs.Soak.{soak_script}
-use Rattle.play.specs.Inspected.{InspectEndsShort}
+use Rattle.play.specs.Inspected.{InspectEndsShort, IsLookedAt}
 use Rattle.play.specs.Outcome.{IsDone, IsShort, UnlessPlayed}
 use Rattle.play.specs.Played.{AreBases, IsBase, leaves_asked}
 use Rattle.play.specs.Ran.{HasRun, Outside, Sight}
-use Rattle.play.specs.Shortened.{IfShort}
 use Rattle.play_again.specs.Keeping.{KeptName, bases_of}
 use Rattle.play_again.specs.Over.{HasBaseSince, HaveBasesAgain, IsBaseKept, KeepsBases, NamedHaveBases}
-use Rattle.play_again.proofs.BaseStays.{base_stays, looked_have}
-use Rattle.play_again.proofs.KeepsBase.{all_known, base_known, below_there, same_dropped, unless_then}
+use Rattle.play_again.proofs.BaseStays.{looked_have, same_stays}
+use Rattle.play.proofs.Lists.{same_dropped}
+use Rattle.play_again.proofs.KeepsBase.{all_known, base_known}
 
 -- ---- all berths of a run that is told
 
@@ -50,15 +50,13 @@ module _ {B : Type 0} (base : ℕ → Option NamedStates) (meaning : B → Meani
   unused_has : (leaf : ℕ) (old new : B) (k : Known) → slice_get olds leaf ≡ Some old → slice_get news leaf ≡ Some new → known leaf ≡ Some k → leaf_count fleet ≤ leaf → HasBaseSince (meaning old).clock (meaning new)
   unused_has leaf old new k at now is past =
       let was : IsBase k.base (meaning old) = base_known (base leaf) (meaning old) (known leaf) k is (are_known leaf old at) (are leaf old at) in
-      subst (λ (b : B). HasBaseSince (meaning old).clock (meaning b)) (same_dropped (leaf_count fleet) olds news leaf old new past told.others at now) (base_stays (meaning old) (k.base, was))
+      same_stays meaning old new (same_dropped (leaf_count fleet) olds news leaf old new past told.others at now) (k.base, was)
 
   known_has : (leaf : ℕ) (old new : B) (k : Known) → slice_get olds leaf ≡ Some old → slice_get news leaf ≡ Some new → known leaf ≡ Some k → HasBaseSince (meaning old).clock (meaning new)
-  known_has leaf old new k at now is = by (nat_lt leaf (leaf_count fleet)) refl
-    where
-      by : (b : Bool) → nat_lt leaf (leaf_count fleet) ≡ b → HasBaseSince (meaning old).clock (meaning new)
-      by true e =
-          base_left fleet.names k.base (told.transcript.lives leaf) (told.transcript.histories leaf) (meaning old) (meaning new) (told.leaves leaf k (below_there leaf (leaf_count fleet) e) is old new at now)
-      by false e = unused_has leaf old new k at now is (ltb-false leaf (leaf_count fleet) e)
+  known_has leaf old new k at now is = elim (cases_lt leaf (leaf_count fleet)) [
+    | inl below ↦ base_left fleet.names k.base (told.transcript.lives leaf) (told.transcript.histories leaf) (meaning old) (meaning new) (told.leaves leaf k below is old new at now)
+    | inr past ↦ unused_has leaf old new k at now is past
+  ]
 
   -- where a base is named, something is known
   base_has : (leaf : ℕ) (old new : B) (o : Option NamedStates) (k : Option Known) → slice_get olds leaf ≡ Some old → slice_get news leaf ≡ Some new → known leaf ≡ k → IsKnown o (meaning old) k
@@ -81,62 +79,57 @@ module _ {B : Type 0} (base : ℕ → Option NamedStates) (meaning : B → Meani
 
   same_has : (o : Option NamedStates) (old new : B) → old ≡ new → IfSome o (λ states. IsBase states (meaning old)) → IfSome o (λ states. HasBaseSince (meaning old).clock (meaning new))
   same_has None old new same is = tt
-  same_has (Some states) old new same is = subst (λ (b : B). HasBaseSince (meaning old).clock (meaning b)) same (base_stays (meaning old) (states, is))
+  same_has (Some states) old new same is = same_stays meaning old new same (states, is)
 
   -- where nothing was played
   same_have : news ≡ olds → NamedHaveBases base meaning olds news
   same_have same leaf old new at there = same_has (base leaf) old new (same_some old new (sym at ∙ (ap (λ bs. slice_get bs leaf) (sym same) ∙ there))) (are leaf old at)
 
-  module _ (before after was now : Option (List ℕ)) (watching watched : List Held) where
-    play_short_have : IsShort base meaning before after was now olds news watching watched (Some Play) → NamedHaveBases base meaning olds news
-    play_short_have (inl (unwritten, unplayed, unwatched)) = same_have unplayed
-    play_short_have (inr (text, script, read, is_script, enough, shortened)) = all_have (map item_of shortened.played) (all_lines shortened.played) watching watched shortened.told
+module _ {S K B W : Type 0} (base : ℕ → Option NamedStates) (meaning : B → Meaning) (of : Sight S K) (old new : Outside S K B W) (are : AreBases base meaning old.berths.items) where
+  abbrev HaveSince : Type 0
+  HaveSince = NamedHaveBases base meaning old.berths.items new.berths.items
 
-    soak_short_have : (seed rows : ℕ) → IsShort base meaning before after was now olds news watching watched (Some (Soak seed rows)) → NamedHaveBases base meaning olds news
-    soak_short_have seed rows (inl (unwritten, unplayed, unwatched)) = same_have unplayed
-    soak_short_have seed rows (inr (enough, shortened)) = all_have (map item_of shortened.played) (all_lines shortened.played) watching watched shortened.told
+  untouched_have : new.berths ≡ old.berths → HaveSince
+  untouched_have same = same_have base meaning old.berths.items new.berths.items are (ap (λ v. v.items) same)
 
-    look_short_have : (leaf : ℕ) → InspectEndsShort meaning leaf olds news was now → NamedHaveBases base meaning olds news
-    look_short_have leaf (InspectEndsShort.nothing unwritten looked) = looked_have base meaning leaf olds news are looked
-    look_short_have leaf (InspectEndsShort.some seen is front) = looked_have base meaning leaf olds news are is.looked
+  played_have : (items : List Item) (lines : List Line) → ((known : ℕ → Option Known) → AreKnown meaning old.berths.items new.berths.items base known → IsToldRun meaning old.berths.items new.berths.items items known lines old.held new.held) → HaveSince
+  played_have items lines told = all_have base meaning old.berths.items new.berths.items are items lines old.held new.held told
 
-    -- of a request, where what it asks for was done, or some of it
-    done_have : (request : Request) → IsDone base meaning before after was now olds news watching watched (Some request) → IfCount (Some request) (λ range. news ≡ olds) → NamedHaveBases base meaning olds news
-    done_have (Count range) done counted = same_have counted
-    done_have Play (text, script, read, is_script, enough, written) counted = all_have script.items written.lines watching watched written.told
-    done_have (Soak seed rows) (enough, written) counted = all_have (soak_script seed rows).items written.lines watching watched written.told
-    done_have (Inspect leaf) done counted = looked_have base meaning leaf olds news are done.is.looked
+  looked_again : {leaf : ℕ} → IsLookedAt meaning leaf old.berths.items new.berths.items → HaveSince
+  looked_again {leaf} looked = looked_have base meaning leaf old.berths.items new.berths.items are looked
 
-    some_have : (request : Request) → IsShort base meaning before after was now olds news watching watched (Some request) → IfCount (Some request) (λ range. news ≡ olds) → NamedHaveBases base meaning olds news
-    some_have (Count range) ends counted = same_have counted
-    some_have Play ends counted = play_short_have ends
-    some_have (Soak seed rows) ends counted = soak_short_have seed rows ends
-    some_have (Inspect leaf) ends counted = look_short_have leaf ends
+  -- of a request, where what it asks for was done, or some of it; a count plays nothing
+  done_have : (request : Request) → IfCount (Some request) (λ range. new.berths ≡ old.berths)
+      → IsDone base meaning (of.left old.source) (of.left new.source) (of.written old.sink) (of.written new.sink) old.berths.items new.berths.items old.held new.held (Some request) → HaveSince
+  done_have (Count range) counted done = untouched_have counted
+  done_have Play counted (text, script, read, is_script, enough, written) = played_have script.items written.lines written.told
+  done_have (Soak seed rows) counted (enough, written) = played_have (soak_script seed rows).items written.lines written.told
+  done_have (Inspect leaf) counted done = looked_again done.is.looked
 
-    ended_have : (request : Request) (status : Status) → (status ≡ Status.Done → IsDone base meaning before after was now olds news watching watched (Some request))
-        → IfShort status (IsShort base meaning before after was now olds news watching watched (Some request)) → UnlessPlayed status (news ≡ olds) → IfCount (Some request) (λ range. news ≡ olds) → NamedHaveBases base meaning olds news
-    ended_have request Status.Done done ends unplayed counted = done_have request (done refl) counted
-    ended_have request Status.Words done ends unplayed counted = same_have unplayed
-    ended_have request (Status.Script line why) done ends unplayed counted = same_have unplayed
-    ended_have request Status.ReadFault done ends unplayed counted = same_have unplayed
-    ended_have request Status.WriteFault done ends unplayed counted = some_have request ends counted
-    ended_have request Status.NoMemory done ends unplayed counted = some_have request ends counted
+  some_have : (request : Request) → IfCount (Some request) (λ range. new.berths ≡ old.berths)
+      → IsShort base meaning (of.left old.source) (of.left new.source) (of.written old.sink) (of.written new.sink) old.berths.items new.berths.items old.held new.held (Some request) → HaveSince
+  some_have (Count range) counted ends = untouched_have counted
+  some_have Play counted (inl (unwritten, unplayed, unwatched)) = same_have base meaning old.berths.items new.berths.items are unplayed
+  some_have Play counted (inr (text, script, read, is_script, enough, shortened)) = played_have (map item_of shortened.played) (all_lines shortened.played) shortened.told
+  some_have (Soak seed rows) counted (inl (unwritten, unplayed, unwatched)) = same_have base meaning old.berths.items new.berths.items are unplayed
+  some_have (Soak seed rows) counted (inr (enough, shortened)) = played_have (map item_of shortened.played) (all_lines shortened.played) shortened.told
+  some_have (Inspect leaf) counted (InspectEndsShort.nothing unwritten looked) = looked_again looked
+  some_have (Inspect leaf) counted (InspectEndsShort.some seen is front) = looked_again is.looked
+
+  ended_have : (request : Request) (status : Status) → HasRun base meaning of (Some request) status old new → HaveSince
+  ended_have request Status.Done ran = done_have request ran.count_unplayed (ran.done refl)
+  ended_have request Status.Words ran = untouched_have ran.unplayed
+  ended_have request (Status.Script line why) ran = untouched_have ran.unplayed
+  ended_have request Status.ReadFault ran = untouched_have ran.unplayed
+  ended_have request Status.WriteFault ran = some_have request ran.count_unplayed ran.short
+  ended_have request Status.NoMemory ran = some_have request ran.count_unplayed ran.short
 
 -- of what every run ensures
-pub named_bases : {S K B W : Type 0} (base : ℕ → Option NamedStates) (meaning : B → Meaning) (of : Sight S K) (request : Option Request) (status : Status) (old new : Outside S K B W)
+pub named_bases : {S K B W : Type 0} {base : ℕ → Option NamedStates} {meaning : B → Meaning} {of : Sight S K} {request : Option Request} {status : Status} {old new : Outside S K B W}
     → HasRun base meaning of request status old new → AreBases base meaning old.berths.items → NamedHaveBases base meaning old.berths.items new.berths.items
-named_bases base meaning of None status old new ran are =
-    same_have base meaning old.berths.items new.berths.items are (ap (λ v. v.items) (subst (λ (s : Status). UnlessPlayed s (new.berths ≡ old.berths)) (ran.words.1 refl) ran.unplayed))
-named_bases base meaning of (Some request) status old new ran are =
-    ended_have base meaning old.berths.items new.berths.items are (of.left old.source) (of.left new.source) (of.written old.sink) (of.written new.sink) old.held new.held request status ran.done ran.short
-    (unless_then status (new.berths ≡ old.berths) (new.berths.items ≡ old.berths.items) (λ same. ap (λ v. v.items) same) ran.unplayed)
-    (counted_same request (new.berths ≡ old.berths) (new.berths.items ≡ old.berths.items) (λ same. ap (λ v. v.items) same) ran.count_unplayed)
-  where
-    counted_same : (r : Request) (P Q : Type 0) → (P → Q) → IfCount (Some r) (λ range. P) → IfCount (Some r) (λ range. Q)
-    counted_same (Count range) P Q follows holds = follows holds
-    counted_same Play P Q follows holds = tt
-    counted_same (Soak seed rows) P Q follows holds = tt
-    counted_same (Inspect leaf) P Q follows holds = tt
+named_bases {base = base} {meaning = meaning} {of = of} {request = None} {old = old} {new = new} ran are =
+    untouched_have base meaning of old new are (subst (λ (s : Status). UnlessPlayed s (new.berths ≡ old.berths)) (ran.words.1 refl) ran.unplayed)
+named_bases {base = base} {meaning = meaning} {of = of} {request = Some request} {status = status} {old = old} {new = new} ran are = ended_have base meaning of old new are request status ran
 
 -- ---- over bases that were kept
 
@@ -150,17 +143,12 @@ is_named P m (k ∷ more) (suc leaf) each below named = is_named P m more leaf e
 module _ {B : Type 0} (leaves : ℕ) (meaning : B → Meaning) (olds news : List B) (kept : List (Option (List KeptName))) (keeps : KeepsBases leaves meaning olds kept) (others : drop leaves news ≡ drop leaves olds)
     (named : NamedHaveBases (bases_of kept) meaning olds news) where
   have_again : HaveBasesAgain meaning olds news
-  have_again leaf old new at now has = by (nat_lt leaf leaves) refl
-    where
-      by : (b : Bool) → nat_lt leaf leaves ≡ b → HasBaseSince (meaning old).clock (meaning new)
-      by true e =
-          let used : leaf < leaves = below_there leaf leaves e in
-          let below : leaf < length kept = omega (arith, within olds leaf old at, keeps.as_many) in
-          is_named (HasBaseSince (meaning old).clock (meaning new)) (meaning old) kept leaf (λ k is. keeps.each leaf old k used at is) below (named leaf old new at now)
-      by false e = subst (λ (b : B). HasBaseSince (meaning old).clock (meaning b)) (same_dropped leaves olds news leaf old new (ltb-false leaf leaves e) others at now) (base_stays (meaning old) has)
+  have_again leaf old new at now has = elim (cases_lt leaf leaves) [
+    | inl below ↦ is_named (HasBaseSince (meaning old).clock (meaning new)) (meaning old) kept leaf (λ k is. keeps.each leaf old k below at is) (omega (arith, within olds leaf old at, keeps.as_many)) (named leaf old new at now)
+    | inr past ↦ same_stays meaning old new (same_dropped leaves olds news leaf old new past others at now) has
+  ]
 
-pub bases_again : {S K B W : Type 0} (meaning : B → Meaning) (kept : List (Option (List KeptName))) (of : Sight S K) (request : Option Request) (status : Status) (old new : Outside S K B W)
+pub bases_again : {S K B W : Type 0} {meaning : B → Meaning} {kept : List (Option (List KeptName))} {of : Sight S K} {request : Option Request} {status : Status} {old new : Outside S K B W}
     → HasRun (bases_of kept) meaning of request status old new → KeepsBases (leaves_asked request (of.left old.source)) meaning old.berths.items kept → HaveBasesAgain meaning old.berths.items new.berths.items
-bases_again meaning kept of request status old new ran keeps =
-    have_again (leaves_asked request (of.left old.source)) meaning old.berths.items new.berths.items kept keeps ran.left.others
-    (named_bases (bases_of kept) meaning of request status old new ran keeps.bases)
+bases_again {S} {K} {B} {W} {meaning} {kept} {of} {request} {status} {old} {new} ran keeps =
+    have_again (leaves_asked request (of.left old.source)) meaning old.berths.items new.berths.items kept keeps ran.left.others (named_bases ran keeps.bases)

@@ -1,6 +1,6 @@
 -- Where nothing is done to a berth, or it is only looked at, a leaf may begin over it again, and over what a crash left
 -- of it.
-use Rattle.std.proofs.Common.{◌≡◌, ◌∙◌, ◌⊎◌, inl, inr, ℕ, zero, suc, ◌≤◌, List, [], ◌∷◌, Option, Some, None, refl, sym, subst, arith}
+use Rattle.std.proofs.Common.{◌≡◌, ◌∙◌, ◌⊎◌, inl, inr, ℕ, zero, suc, ◌≤◌, List, [], ◌∷◌, Option, Some, None, sym, subst, arith}
 use Rattle.std.specs.Prelude.{IfSome, IsTrue, slice_get, slice_set}
 use Rattle.leaf_model.specs.declared.writes.Write.{Write}
 use Rattle.row_records.specs.Records.{LogRecord}
@@ -27,13 +27,16 @@ pairs_left base m is p left =
     (tables_then base m.clock [], rests_left [] base least next m rests p left)
 
 -- where nothing was done
-pub base_stays : (m : Meaning) → HasBase m → HasBaseSince m.clock m
+base_stays : (m : Meaning) → HasBase m → HasBaseSince m.clock m
 base_stays m has = record {
   base = has;
   crashed = λ t p from to left.
       let here : t ≡ m.clock = omega (arith, from, to) in
       pairs_left has.0 m has.1 p (subst (λ (u : ℕ). m.leaves u p) here left);
 }
+
+pub same_stays : {B : Type 0} (meaning : B → Meaning) (old new : B) → old ≡ new → HasBase (meaning old) → HasBaseSince (meaning old).clock (meaning new)
+same_stays {B} meaning old new same has = subst (λ (b : B). HasBaseSince (meaning old).clock (meaning b)) same (base_stays (meaning old) has)
 
 -- ---- where the berth was looked at
 
@@ -97,7 +100,7 @@ module _ {B : Type 0} (base : ℕ → Option NamedStates) (meaning : B → Meani
   -- the berth is another, or the one that was looked at
   one_has : (o : Option NamedStates) (old new : B) → (old ≡ new) ⊎ ((slice_get olds looked ≡ Some old) × (is.berth_now ≡ new)) → IfSome o (λ states. IsBase states (meaning old)) → IfSome o (λ states. HasBaseSince (meaning old).clock (meaning new))
   one_has None old new place has = tt
-  one_has (Some states) old new (inl same) has = subst (λ (b : B). HasBaseSince (meaning old).clock (meaning b)) same (base_stays (meaning old) (states, has))
+  one_has (Some states) old new (inl same) has = same_stays meaning old new same (states, has)
   one_has (Some states) old new (inr here) has =
       let itself : is.berth ≡ old = same_some is.berth old (sym is.at ∙ here.0) in
       subst (λ (b : B). HasBaseSince (meaning old).clock (meaning b)) here.1

@@ -1,14 +1,12 @@
 -- Where a leaf may begin over each berth, a base of each can be kept.
-use Rattle.std.proofs.Common.{◌≡◌, ◌<◌, ◌≤◌, ◌^◌, ◌∙◌, inl, ℕ, Bool, true, false, List, [], length, take, Option, Some, None, refl, sym, subst, arith, lit<, lit≤}
+use Rattle.std.proofs.Common.{◌≡◌, ◌<◌, ◌≤◌, ◌∙◌, inl, ℕ, Bool, true, false, List, [], length, Option, Some, None, refl, sym, lit<, lit≤}
 use Rattle.std.specs.Prelude.{IfSome, nat_lt, slice_get}
 use Rattle.std.proofs.lemmas.Bool.{false≢true, lt-ltb, ltb-true}
-use Rattle.std.proofs.lemmas.List.{length-take, nil_from_length}
-use Rattle.leaf_model.specs.declared.writes.Write.{Write}
-use Rattle.leaf_model.specs.Content.{content}
 use Rattle.berth_face.specs.Berth.{Meaning, OpenedOn, Pair}
 use Rattle.region_layout.specs.Region.{reads}
 use Rattle.leaf_history.specs.History.{base_of}
 use Rattle.disk_backup.specs.Logs.{is_short}
+use Rattle.disk_backup.proofs.SoundLogs.{none_short}
 use Rattle.crash_moments.specs.Left.{Left, NamedStates, closed}
 use Rattle.crash_states.proofs.Opened.{begins_on}
 use Rattle.play.specs.Empty.{nothing_kept}
@@ -39,16 +37,11 @@ empty = record { region = []; disk = [] }
 -- an empty region and an empty disk belong to tables that have no writes
 empty_left : Left reads nothing_kept empty
 empty_left = record {
-  sound = ([], 0, is_short (lit≤ tt) refl refl, λ name k. none k);
+  sound = ([], 0, is_short (lit≤ tt) refl refl, λ name. none_short);
   front = λ name. (0, lit≤ tt, lit≤ tt, refl);
   region = closed (inl (lit< tt));
   serving = λ name serves. inl (lit< tt);
 }
-  where
-    none : (k : ℕ) → length (content (take k [])).rows ≤ 2 ^ 40
-    none k =
-        let nil : take k [] ≡ [] = nil_from_length (take k []) (length-take k [] ∙ omega arith) in
-        subst (λ (ws : List Write). length (content ws).rows ≤ 2 ^ 40) (sym nil) (lit≤ tt)
 
 pub base_empty : (m : Meaning) → OpenedOn [] [] m → m.leaves m.clock m.held → HasBase m
 base_empty m opened there = base_opened nothing_kept empty m empty_left opened there

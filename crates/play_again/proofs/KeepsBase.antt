@@ -1,8 +1,7 @@
 -- A run leaves a base that can be kept of each berth whose base was known.
-use Rattle.std.proofs.Common.{◌≡◌, ◌≢◌, ◌⊎◌, inl, inr, ◌∙◌, ℕ, zero, suc, ◌<◌, ◌≤◌, Bool, true, false, List, [], ◌∷◌, length, Option, Some, None, refl, sym, ap, subst, arith}
-use Rattle.std.specs.Prelude.{IfSome, drop, map, nat_lt, slice_get, if◌then◌else◌}
-use Rattle.std.proofs.lemmas.Bool.{ltb-false}
-use Rattle.std.proofs.lemmas.Bool.Decides.{nat_tests}
+use Rattle.std.proofs.Common.{◌≡◌, ◌≢◌, ◌⊎◌, inl, inr, ℕ, zero, suc, ◌<◌, ◌≤◌, Bool, true, false, List, [], ◌∷◌, length, Option, Some, None, refl, sym, ap, subst, arith}
+use Rattle.std.specs.Prelude.{IfSome, map, nat_lt, slice_get, if◌then◌else◌}
+use Rattle.std.proofs.lemmas.Bool.{le-ltb, ltb-false, ltb-true}
 use Rattle.leaf_model.specs.declared.writes.Write.{Write}
 use Rattle.berth_face.specs.Berth.{Pair, Meaning, IsClosed}
 use Rattle.leaf_history.specs.History.{Entry}
@@ -32,12 +31,12 @@ use Rattle.transcript.specs.Pieces.{all_lines, item_of, no_fleet, script_fleet}
 use Rattle.transcript.specs.Leaving.{AreKnown, IsKnown, IsToldRun}
 use Rattle.transcript.specs.Transcript.{Known}
 use Rattle.transcript_leaf.proofs.Lists.{element_at, same_some, within}
-use Rattle.play.proofs.Lists.{choose_each}
+use Rattle.play.proofs.Lists.{choose_each, same_dropped}
 use Rattle.play_again.proofs.Listing.{front_same, list_kept}
 use Rattle.play.specs.Played.{AreBases, IsBase}
 use Rattle.play_again.specs.Keeping.{IsKeptOf, KeepsBy, KeepsEach, KeepsOne, KeepsSame, KeptName, LeavesKnown, base_kept, bases_of, tables_left}
-use Rattle.play.specs.Outcome.{IsDone, IsShort, UnlessPlayed}
-use Rattle.play.specs.Shortened.{IfShort}
+use Rattle.play.specs.Outcome.{IsDone, IsShort}
+use Rattle.play.specs.Ran.{HasRun, Outside, Sight}
 use Rattle.run_ends.specs.declared.status.Status.{Status}
 use Rattle.run_words.specs.declared.words.Request.{Request}
 use Rattle.run_words.specs.declared.words.Request.TheVariants.{Play}
@@ -60,31 +59,25 @@ log_of : (least most : List ℕ → List Write) (disk : List ℕ) → HasSoundLo
 log_of least most disk (inl log) = (log.sound.0, log.sound.1, log.sound.2)
 log_of least most disk (inr log) = (log.sound.0, log.sound.1, log.sound.2)
 
--- the records and the way that are read are these
-known_by : (base : NamedStates) (m : Meaning) → ((way : Way) × IsWayOf m.held.region way) → ((records : List LogRecord) × (log_end : ℕ) × IsLog m.held.disk records log_end)
-    → (k : Known) × IsKnown (Some base) m (Some k)
-known_by base m way log = (
-  record { base = base; held = m.held; way = way.0; read = λ name. length (writes_of name log.0) },
-  (refl, refl, way.1, λ name. (log.0, log.1, log.2, refl)),
-)
-
-pub known_of : (base : NamedStates) (m : Meaning) → IsBase base m → (k : Known) × IsKnown (Some base) m (Some k)
+-- what is known is what region and log read as
+known_of : (base : NamedStates) (m : Meaning) → IsBase base m → (k : Known) × IsKnown (Some base) m (Some k)
 known_of base m is =
     let least : List ℕ → List Write = is.begins.1.0 in
     let next : Option LogRecord = is.begins.1.1 in
     let rests : Rests [] base least next m = is.begins.1.2 in
-    known_by base m (way_of (states_of_tables base [] m) m.held (rests.region m.held rests.stands.reads)) (log_of least (with_writes next least) m.held.disk (rests.logs m.held rests.stands.reads))
-
-known_where : (base : Option NamedStates) (m : Meaning) → IfSome base (λ states. IsBase states m) → (known : Option Known) × IsKnown base m known
-known_where None m is = (None, tt)
-known_where (Some states) m is = let k = known_of states m is in (Some k.0, k.1)
+    let way = way_of (states_of_tables base [] m) m.held (rests.region m.held rests.stands.reads) in
+    let log = log_of least (with_writes next least) m.held.disk (rests.logs m.held rests.stands.reads) in (
+      record { base = base; held = m.held; way = way.0; read = λ name. length (writes_of name log.0) },
+      (refl, refl, way.1, λ name. (log.0, log.1, log.2, refl)),
+    )
 
 known_at : {B : Type 0} (meaning : B → Meaning) (base : Option NamedStates) (found : Option B) → ((b : B) → found ≡ Some b → IfSome base (λ states. IsBase states (meaning b)))
     → (known : Option Known) × ((b : B) → found ≡ Some b → IsKnown base (meaning b) known)
-known_at meaning base None is = (None, λ b at. absurd cc)
-known_at meaning base (Some x) is =
-    let k = known_where base (meaning x) (is x refl) in
-    (k.0, λ b at. subst (λ y. IsKnown base (meaning y) k.0) (same_some x b at) k.1)
+known_at meaning None found is = (None, λ b at. tt)
+known_at meaning (Some states) None is = (None, λ b at. absurd cc)
+known_at meaning (Some states) (Some x) is =
+    let k = known_of states (meaning x) (is x refl) in
+    (Some k.0, λ b at. subst (λ y. IsKnown (Some states) (meaning y) (Some k.0)) (same_some x b at) k.1)
 
 pub all_known : {B : Type 0} (base : ℕ → Option NamedStates) (meaning : B → Meaning) (old new : List B) → AreBases base meaning old → (known : ℕ → Option Known) × AreKnown meaning old new base known
 all_known base meaning old new are = (
@@ -109,18 +102,19 @@ base_known base m known k e is has = by base (subst (IsKnown base m) e is) has
     by None is has = absurd is
     by (Some states) is has = subst (λ (b : NamedStates). IsBase b m) (sym is.0) has
 
--- ---- of one berth
+-- ---- what is kept of each berth
 
-pub below_there : (a b : ℕ) → nat_lt a b ≡ true → a < b
-below_there a b e = grind (arith, nat_tests)
-
--- a berth behind those of the leaves
-pub same_dropped : {B : Type 0} (n : ℕ) (olds news : List B) (leaf : ℕ) (old new : B) → n ≤ leaf → drop n news ≡ drop n olds → slice_get olds leaf ≡ Some old → slice_get news leaf ≡ Some new → old ≡ new
-same_dropped zero olds news leaf old new past same at now = same_some old new (sym at ∙ (ap (λ bs. slice_get bs leaf) (sym same) ∙ now))
-same_dropped (suc n) [] news leaf old new past same at now = absurd cc
-same_dropped (suc n) (o ∷ os) [] leaf old new past same at now = absurd cc
-same_dropped (suc n) (o ∷ os) (w ∷ ws) zero old new past same at now = absurd (omega (arith, past))
-same_dropped (suc n) (o ∷ os) (w ∷ ws) (suc leaf) old new past same at now = same_dropped n os ws leaf old new (omega (arith, past)) same at now
+-- where a base can be kept of each berth of which something is known
+keeps_all : {B : Type 0} (meaning : B → Meaning) (berths : List B) (fleet : FleetShape) (known : ℕ → Option Known) (histories : ℕ → ℕ → List Entry)
+    → ((leaf : ℕ) (b : B) (k : Known) → slice_get berths leaf ≡ Some b → known leaf ≡ Some k → (kept : List KeptName) × IsKeptOf (tables_left fleet leaf k.base (histories leaf) (meaning b)) (meaning b) kept)
+    → (next : List (Option (List KeptName))) × KeepsEach meaning berths fleet known histories next
+keeps_all {B} meaning berths fleet known histories kept =
+    let all = choose_each (λ leaf (b : B) next. KeepsOne fleet leaf (known leaf) (histories leaf) (meaning b) next) berths (λ leaf b at. by leaf b at (known leaf) refl) in
+    (all.0, record { as_many = all.1; each = all.2 })
+  where
+    by : (leaf : ℕ) (b : B) → slice_get berths leaf ≡ Some b → (k : Option Known) → known leaf ≡ k → (next : Option (List KeptName)) × KeepsOne fleet leaf k (histories leaf) (meaning b) next
+    by leaf b at None e = (None, refl)
+    by leaf b at (Some k) e = let one = kept leaf b k at e in (Some one.0, one.1)
 
 module _ {B : Type 0} (base : ℕ → Option NamedStates) (meaning : B → Meaning) (olds news : List B) (items : List Item) (known : ℕ → Option Known) (lines : List Line) (watching watched : List Held)
     (are : AreBases base meaning olds) (are_known : AreKnown meaning olds news base known) (places : (leaf : ℕ) (new : B) → slice_get news leaf ≡ Some new → (old : B) × (slice_get olds leaf ≡ Some old))
@@ -150,22 +144,11 @@ module _ {B : Type 0} (base : ℕ → Option NamedStates) (meaning : B → Meani
     where
       by : (b : Bool) → nat_lt leaf (leaf_count fleet) ≡ b
           → (kept : List KeptName) × IsKeptOf (if b then states_of_tables k.base (watched_from 0 fleet.names k.base (histories leaf)) (meaning new) else k.base) (meaning new) kept
-      by true e = kept_of_some leaf new k now is (below_there leaf (leaf_count fleet) e)
+      by true e = kept_of_some leaf new k now is (ltb-true leaf (leaf_count fleet) e)
       by false e = kept_of_none leaf new k now is (ltb-false leaf (leaf_count fleet) e)
 
-  kept_one : (leaf : ℕ) (new : B) → slice_get news leaf ≡ Some new → (next : Option (List KeptName)) × KeepsOne fleet leaf (known leaf) (histories leaf) (meaning new) next
-  kept_one leaf new now = by (known leaf) refl
-    where
-      by : (k : Option Known) → known leaf ≡ k → (next : Option (List KeptName)) × KeepsOne fleet leaf k (histories leaf) (meaning new) next
-      by None e = (None, refl)
-      by (Some k) e =
-          let kept = kept_of_known leaf new k now e in
-          (Some kept.0, kept.1)
-
   pub keeps_each : (next : List (Option (List KeptName))) × KeepsEach meaning news fleet known histories next
-  keeps_each =
-      let all = choose_each (λ leaf (new : B) next. KeepsOne fleet leaf (known leaf) (histories leaf) (meaning new) next) news kept_one in
-      (all.0, record { as_many = all.1; each = all.2 })
+  keeps_each = keeps_all meaning news fleet known histories kept_of_known
 
 -- so a run leaves this known of its berths, whatever items were played
 keeps_by : {B : Type 0} (base : ℕ → Option NamedStates) (meaning : B → Meaning) (old new : List B) (items : List Item) (lines : List Line) (watching watched : List Held)
@@ -177,69 +160,64 @@ keeps_by base meaning old new items lines watching watched told are as_many =
     (next.0, record { known = known.0; are_known = known.1; keeps = next.1 })
 
 -- where the berths are as they were, what was known of them
-module _ {B : Type 0} (base : ℕ → Option NamedStates) (meaning : B → Meaning) (olds : List B) (known : ℕ → Option Known) (are : AreBases base meaning olds) (are_known : AreKnown meaning olds olds base known) where
-  none_below : (leaf : ℕ) → nat_lt leaf (leaf_count no_fleet) ≡ false
-  none_below leaf = by (nat_lt leaf (leaf_count no_fleet)) refl
-    where
-      by : (b : Bool) → nat_lt leaf (leaf_count no_fleet) ≡ b → b ≡ false
-      by true e =
-          let below : leaf < 0 = below_there leaf (leaf_count no_fleet) e in
-          absurd (omega (arith, below))
-      by false e = refl
-
-  same_one : (leaf : ℕ) (b : B) → slice_get olds leaf ≡ Some b → (next : Option (List KeptName)) × KeepsOne no_fleet leaf (known leaf) (λ table. []) (meaning b) next
-  same_one leaf b at = by (known leaf) refl
-    where
-      by : (k : Option Known) → known leaf ≡ k → (next : Option (List KeptName)) × KeepsOne no_fleet leaf k (λ table. []) (meaning b) next
-      by None e = (None, refl)
-      by (Some k) e =
-          let kept = kept_same k.base (meaning b) (base_known (base leaf) (meaning b) (known leaf) k e (are_known leaf b at) (are leaf b at)) in
-          (Some kept.0, subst (λ (x : Bool). IsKeptOf (if x then states_of_tables k.base (watched_from 0 (no_fleet).names k.base (λ table. [])) (meaning b) else k.base) (meaning b) kept.0) (sym (none_below leaf)) kept.1)
-
-  same_each : (next : List (Option (List KeptName))) × KeepsEach meaning olds no_fleet known (λ leaf table. []) next
-  same_each =
-      let all = choose_each (λ leaf (b : B) next. KeepsOne no_fleet leaf (known leaf) (λ table. []) (meaning b) next) olds same_one in
-      (all.0, record { as_many = all.1; each = all.2 })
-
 keeps_same : {B : Type 0} (base : ℕ → Option NamedStates) (meaning : B → Meaning) (old new : List B) → AreBases base meaning old → new ≡ old
     → (next : List (Option (List KeptName))) × KeepsSame meaning old new base next
-keeps_same base meaning old new are same =
-    subst (λ bs. (next : List (Option (List KeptName))) × KeepsSame meaning old bs base next) (sym same)
-    (let known = all_known base meaning old old are in
-    let next = same_each base meaning old known.0 are known.1 in
-    (next.0, record { known = known.0; are_known = known.1; keeps = next.1 }))
+keeps_same {B} base meaning old new are same =
+    let known = all_known base meaning old old are in
+    let next = keeps_all meaning old no_fleet known.0 (λ leaf table. []) (one known.0 known.1) in
+    subst (λ bs. (next : List (Option (List KeptName))) × KeepsSame meaning old bs base next) (sym same) (next.0, record { known = known.0; are_known = known.1; keeps = next.1 })
+  where
+    one : (known : ℕ → Option Known) → AreKnown meaning old old base known → (leaf : ℕ) (b : B) (k : Known) → slice_get old leaf ≡ Some b → known leaf ≡ Some k
+        → (kept : List KeptName) × IsKeptOf (tables_left no_fleet leaf k.base (λ table. []) (meaning b)) (meaning b) kept
+    one known are_known leaf b k at e =
+        let kept = kept_same k.base (meaning b) (base_known (base leaf) (meaning b) (known leaf) k e (are_known leaf b at) (are leaf b at)) in (
+          kept.0,
+          subst (λ (x : Bool). IsKeptOf (if x then states_of_tables k.base (watched_from 0 (no_fleet).names k.base (λ table. [])) (meaning b) else k.base) (meaning b) kept.0)
+              (sym (le-ltb leaf 0 (omega arith))) kept.1,
+        )
 
--- ---- however a run ended
+-- ---- however a play ended
 
-module _ {B : Type 0} (base : ℕ → Option NamedStates) (meaning : B → Meaning) (before after was now : Option (List ℕ)) (old new : List B) (watching watched : List Held) (are : AreBases base meaning old) (as_many : length new ≡ length old) where
+module _ {S K B W : Type 0} (base : ℕ → Option NamedStates) (meaning : B → Meaning) (of : Sight S K) (old new : Outside S K B W) (are : AreBases base meaning old.berths.items) where
+  -- what is left known
   abbrev Left : Status → Type 0
-  Left status = (next : List (Option (List KeptName))) × LeavesKnown status base meaning before after was now old new next
+  Left status = (next : List (Option (List KeptName))) × LeavesKnown status base meaning (of.left old.source) (of.left new.source) (of.written old.sink) (of.written new.sink) old.berths.items new.berths.items next
 
-  left_done : IsDone base meaning before after was now old new watching watched (Some Play) → Left Status.Done
-  left_done (text, script, read, is_script, enough, written) =
-      let next = keeps_by base meaning old new script.items written.lines watching watched written.told are as_many in
-      (next.0, LeavesKnown.done watching watched text script written refl read is_script enough next.1)
+  left_done : length new.berths.items ≡ length old.berths.items
+      → IsDone base meaning (of.left old.source) (of.left new.source) (of.written old.sink) (of.written new.sink) old.berths.items new.berths.items old.held new.held (Some Play) → Left Status.Done
+  left_done as_many (text, script, read, is_script, enough, written) =
+      let next = keeps_by base meaning old.berths.items new.berths.items script.items written.lines old.held new.held written.told are as_many in
+      (next.0, LeavesKnown.done old.held new.held text script written refl read is_script enough next.1)
 
-  left_same : (status : Status) → status ≢ Status.Done → now ≡ was → new ≡ old → Left status
+  left_same : (status : Status) → status ≢ Status.Done → of.written new.sink ≡ of.written old.sink → new.berths.items ≡ old.berths.items → Left status
   left_same status not_done unwritten unplayed =
-      let next = keeps_same base meaning old new are unplayed in
+      let next = keeps_same base meaning old.berths.items new.berths.items are unplayed in
       (next.0, LeavesKnown.nothing not_done unwritten unplayed next.1)
 
-  left_short : (status : Status) → status ≢ Status.Done → IsShort base meaning before after was now old new watching watched (Some Play) → Left status
-  left_short status not_done (inl (unwritten, unplayed, unwatched)) = left_same status not_done unwritten unplayed
-  left_short status not_done (inr (text, script, read, is_script, enough, shortened)) =
-      let next = keeps_by base meaning old new (map item_of shortened.played) (all_lines shortened.played) watching watched shortened.told are as_many in
-      (next.0, LeavesKnown.short watching watched text script shortened not_done read is_script next.1)
+  left_short : (status : Status) → status ≢ Status.Done → length new.berths.items ≡ length old.berths.items
+      → IsShort base meaning (of.left old.source) (of.left new.source) (of.written old.sink) (of.written new.sink) old.berths.items new.berths.items old.held new.held (Some Play) → Left status
+  left_short status not_done as_many (inl (unwritten, unplayed, unwatched)) = left_same status not_done unwritten unplayed
+  left_short status not_done as_many (inr (text, script, read, is_script, enough, shortened)) =
+      let next = keeps_by base meaning old.berths.items new.berths.items (map item_of shortened.played) (all_lines shortened.played) old.held new.held shortened.told are as_many in
+      (next.0, LeavesKnown.short old.held new.held text script shortened not_done read is_script next.1)
 
-  -- what the contract of a run says of a play, at each status
-  pub left_by : (status : Status) → (status ≡ Status.Done → IsDone base meaning before after was now old new watching watched (Some Play)) → IfShort status (IsShort base meaning before after was now old new watching watched (Some Play))
-      → UnlessPlayed status (now ≡ was) → UnlessPlayed status (new ≡ old) → Left status
-  left_by Status.Done played ends unwritten unplayed = left_done (played refl)
-  left_by Status.Words played ends unwritten unplayed = left_same Status.Words (λ e. absurd cc) unwritten unplayed
-  left_by (Status.Script line why) played ends unwritten unplayed = left_same (Status.Script line why) (λ e. absurd cc) unwritten unplayed
-  left_by Status.ReadFault played ends unwritten unplayed = left_same Status.ReadFault (λ e. absurd cc) unwritten unplayed
-  left_by Status.WriteFault played ends unwritten unplayed = left_short Status.WriteFault (λ e. absurd cc) ends
-  left_by Status.NoMemory played ends unwritten unplayed = left_short Status.NoMemory (λ e. absurd cc) ends
+  -- nothing was written or played
+  left_untouched : (status : Status) → status ≢ Status.Done → new.sink ≡ old.sink → new.berths ≡ old.berths → Left status
+  left_untouched status not_done unwritten unplayed = left_same status not_done (ap of.written unwritten) (ap (λ v. v.items) unplayed)
+
+  left_by : (status : Status) → HasRun base meaning of (Some Play) status old new → Left status
+  left_by Status.Done ran = left_done ran.left.as_many (ran.done refl)
+  left_by Status.Words ran = left_untouched Status.Words (λ e. absurd cc) ran.unwritten ran.unplayed
+  left_by (Status.Script line why) ran = left_untouched (Status.Script line why) (λ e. absurd cc) ran.unwritten ran.unplayed
+  left_by Status.ReadFault ran = left_untouched Status.ReadFault (λ e. absurd cc) ran.unwritten ran.unplayed
+  left_by Status.WriteFault ran = left_short Status.WriteFault (λ e. absurd cc) ran.left.as_many ran.short
+  left_by Status.NoMemory ran = left_short Status.NoMemory (λ e. absurd cc) ran.left.as_many ran.short
+
+pub left_known : {S K B W : Type 0} {base : ℕ → Option NamedStates} {meaning : B → Meaning} {of : Sight S K} {request : Option Request} {status : Status} {old new : Outside S K B W}
+    → HasRun base meaning of request status old new → request ≡ Some Play → AreBases base meaning old.berths.items
+    → (next : List (Option (List KeptName))) × LeavesKnown status base meaning (of.left old.source) (of.left new.source) (of.written old.sink) (of.written new.sink) old.berths.items new.berths.items next
+left_known {S} {K} {B} {W} {base} {meaning} {of} {request} {status} {old} {new} ran is are =
+    left_by base meaning of old new are status (subst (λ (r : Option Request). HasRun base meaning of r status old new) is ran)
 
 -- the same, where what the source, the sink and the berths were is told by other values
 pub leaves_kept : {B S K : Type 0} (base : ℕ → Option NamedStates) (meaning : B → Meaning) (left : S → Option (List ℕ)) (written : K → Option (List ℕ)) (source said_source next_source : S) (sink said_sink next_sink : K) (old said_old new : List B) (status : Status)
@@ -276,23 +254,3 @@ bases_left status base meaning before after was now old new next (LeavesKnown.do
 bases_left status base meaning before after was now old new next (LeavesKnown.short watching watched text script shortened ended read is_script keeps) =
     keeps_bases meaning new (script_fleet (map item_of shortened.played)) keeps.known (shortened.told keeps.known keeps.are_known).transcript.histories next keeps.keeps
 bases_left status base meaning before after was now old new next (LeavesKnown.nothing ended unwritten unplayed keeps) = keeps_bases meaning new no_fleet keeps.known (λ leaf table. []) next keeps.keeps
-
--- ---- a play
-
-pub is_played : {B : Type 0} (base : ℕ → Option NamedStates) (meaning : B → Meaning) (request : Option Request) (before after was now : Option (List ℕ)) (old new : List B) (watching watched : List Held)
-    → request ≡ Some Play → IsDone base meaning before after was now old new watching watched request → IsDone base meaning before after was now old new watching watched (Some Play)
-is_played base meaning request before after was now old new watching watched e done = subst (λ (r : Option Request). IsDone base meaning before after was now old new watching watched r) e done
-
--- what follows of what holds where nothing is played
-pub unless_then : (status : Status) (P Q : Type 0) → (P → Q) → UnlessPlayed status P → UnlessPlayed status Q
-unless_then Status.Words P Q follows holds = follows holds
-unless_then (Status.Script line why) P Q follows holds = follows holds
-unless_then Status.ReadFault P Q follows holds = follows holds
-unless_then Status.Done P Q follows holds = tt
-unless_then Status.WriteFault P Q follows holds = tt
-unless_then Status.NoMemory P Q follows holds = tt
-
--- what is short of a play
-pub is_short : {B : Type 0} (base : ℕ → Option NamedStates) (meaning : B → Meaning) (request : Option Request) (status : Status) (before after was now : Option (List ℕ)) (old new : List B) (watching watched : List Held)
-    → request ≡ Some Play → IfShort status (IsShort base meaning before after was now old new watching watched request) → IfShort status (IsShort base meaning before after was now old new watching watched (Some Play))
-is_short base meaning request status before after was now old new watching watched e ends = subst (λ (r : Option Request). IfShort status (IsShort base meaning before after was now old new watching watched r)) e ends

@@ -1,11 +1,11 @@
-use Rattle.std.proofs.Common.{◌≡◌, ◌+◌, ◌++◌, ◌≤◌, ◌∷◌, [], length, refl, sym, ap, subst, ◌∙◌, arith, append_assoc, rules}
+use Rattle.std.proofs.Common.{◌≡◌, ◌+◌, ◌++◌, ◌≤◌, ◌∷◌, [], length, refl, sym, ap, subst, ◌∙◌, arith, append_assoc, append-nil, rules}
 use Rattle.std.specs.List.{AllByRecursion}
 use Rattle.script_text.specs.Fits.{TellAbove, declared_by, declared_in}
 use Rattle.script_text.specs.declared.fleet.FleetShape.{FleetShape}
 use Rattle.transcript_standing.specs.Followed.{AreFollowers}
 use Rattle.play.specs.Standing.{MayRun}
-use Rattle.play.specs.Runs.{berths_in}
-use Rattle.play.proofs.Plays.{followers_as, holds_keep, run_goes_on, run_short, run_whole, some_done}
+use Rattle.lane_play.proofs.Held.{pass_on}
+use Rattle.play.proofs.Plays.{not_nil, run_as, run_goes_on, run_stops}
 use Rattle.play.proofs.berths.play_all.Goals as goal
 
 pub loop-item-init : goal.loop-item-init
@@ -16,8 +16,7 @@ loop-item-init g c =
     let few : declared_in c.from_vec-rest.result.items ≤ 16 = subst (λ is. declared_in is ≤ 16) (sym all) c.requires.few in (
       [],
       all,
-      followers_as g.N.Bases.base g.B.Berth.meaning fleet (berths_in c.args.crew.now.holds) (g.K.Sink.written c.args.sink.now) (g.K.Sink.written c.args.sink.now) _ _ [] [] c.new-followers.result.list.items
-          c.args.crew.now.holds none c.requires.begun,
+      run_as refl none c.requires.begun,
       refl,
       subst (AllByRecursion (MayRun fleet)) (sym all) c.requires.may_play,
       omega arith,
@@ -33,10 +32,6 @@ loop-item-preserved g c =
     let inv = c.loop-item.invariant in
     let rest = c.pop_front.new.self.items in
     let fleet = c.args.crew.now.fleet in
-    let xs = c.loop-item.crew.holds in
-    let ys = c.play_next.new.crew.holds in
-    let written = g.K.Sink.written c.loop-item.sink in
-    let after = g.K.Sink.written c.play_next.new.sink in
     let items : c.loop-item.rest.items ≡ c.in-Some.item ∷ rest = c.in-Some.ensures.items in
     let told : TellAbove (length c.loop-item.followers.list.items) (c.in-Some.item ∷ rest) = subst (TellAbove (length c.loop-item.followers.list.items)) items inv.9 in
     let few : length c.loop-item.followers.list.items + (declared_by c.in-Some.item + declared_in rest) ≤ 16 = subst (λ is. length c.loop-item.followers.list.items + declared_in is ≤ 16) items inv.10 in
@@ -44,45 +39,38 @@ loop-item-preserved g c =
     let may : AllByRecursion (MayRun fleet) (c.in-Some.item ∷ rest) = subst (AllByRecursion (MayRun fleet)) items inv.4 in (
       inv.0 ++ c.in-Some.item ∷ [],
       append_assoc inv.0 (c.in-Some.item ∷ []) rest ∙ (ap (λ r. inv.0 ++ r) (sym items) ∙ inv.1),
-      run_goes_on g.N.Bases.base g.B.Berth.meaning fleet c.loop-item.crew.fleet (berths_in c.args.crew.now.holds) (g.K.Sink.written c.args.sink.now) written after _ _ _ inv.0 c.in-Some.item c.loop-item.followers.list.items c.play_next.new.followers.list.items xs ys
-          inv.2 inv.3 c.in-Ok.ensures.played c.play_next.ensures.time inv.8,
+      run_goes_on inv.2 inv.3 c.in-Ok.ensures.played c.play_next.ensures.time inv.8,
       c.play_next.ensures.fleet ∙ inv.3,
       may.1,
       omega (arith, inv.5, c.play_next.ensures.later),
       c.play_next.ensures.all,
-      (λ none. absurd (some_done inv.0 c.in-Some.item none)),
+      (λ none. absurd (not_nil inv.0 c.in-Some.item none)),
       subst (λ (f : FleetShape). AreFollowers f c.play_next.new.followers.list.items) inv.3 c.play_next.ensures.followers,
       subst (λ n. TellAbove n rest) (sym count) told.1,
       omega (arith, count, few),
     )
 
-pub returns-in-Err-Failed-clause-keeps : goal.returns-in-Err-Failed-clause-keeps
-returns-in-Err-Failed-clause-keeps g c =
-    holds_keep g.B.Berth.meaning (berths_in c.args.crew.now.holds) c.loop-item.crew.holds c.play_next.new.crew.holds c.loop-item.invariant.2.keeps c.play_next.ensures.time
+pub returns-in-Err-Failed-clause-time : goal.returns-in-Err-Failed-clause-time
+returns-in-Err-Failed-clause-time g c = pass_on g.B.Berth.meaning c.args.crew.now.holds c.loop-item.crew.holds c.play_next.new.crew.holds c.loop-item.invariant.2.has.time c.play_next.ensures.time
 
-pub returns-in-Err-NoMemory-clause-keeps : goal.returns-in-Err-NoMemory-clause-keeps
-returns-in-Err-NoMemory-clause-keeps g c =
-    holds_keep g.B.Berth.meaning (berths_in c.args.crew.now.holds) c.loop-item.crew.holds c.play_next.new.crew.holds c.loop-item.invariant.2.keeps c.play_next.ensures.time
+pub returns-in-Err-NoMemory-clause-time : goal.returns-in-Err-NoMemory-clause-time
+returns-in-Err-NoMemory-clause-time g c = pass_on g.B.Berth.meaning c.args.crew.now.holds c.loop-item.crew.holds c.play_next.new.crew.holds c.loop-item.invariant.2.has.time c.play_next.ensures.time
 
 pub returns-in-Err-Failed-clause-short : goal.returns-in-Err-Failed-clause-short
 returns-in-Err-Failed-clause-short g c =
     let inv = c.loop-item.invariant in
-    run_short g.N.Bases.base g.B.Berth.meaning c.args.crew.now.fleet c.loop-item.crew.fleet (berths_in c.args.crew.now.holds) (g.K.Sink.written c.args.sink.now) (g.K.Sink.written c.loop-item.sink) (g.K.Sink.written c.play_next.new.sink)
-    _ _ _ inv.0 c.loop-item.rest.items c.pop_front.new.self.items c.args.items.items c.in-Some.item c.loop-item.followers.list.items c.loop-item.crew.holds c.play_next.new.crew.holds
-    inv.2 inv.7 inv.1 c.in-Some.ensures.items c.play_next.ensures.time inv.3 inv.8 c.in-Err-Failed.ensures.stops
+    run_stops inv.2 inv.7 inv.1 c.in-Some.ensures.items c.play_next.ensures.time inv.3 inv.8 c.in-Err-Failed.ensures.stops
 
 pub returns-in-Err-NoMemory-clause-short : goal.returns-in-Err-NoMemory-clause-short
 returns-in-Err-NoMemory-clause-short g c =
     let inv = c.loop-item.invariant in
-    run_short g.N.Bases.base g.B.Berth.meaning c.args.crew.now.fleet c.loop-item.crew.fleet (berths_in c.args.crew.now.holds) (g.K.Sink.written c.args.sink.now) (g.K.Sink.written c.loop-item.sink) (g.K.Sink.written c.play_next.new.sink)
-    _ _ _ inv.0 c.loop-item.rest.items c.pop_front.new.self.items c.args.items.items c.in-Some.item c.loop-item.followers.list.items c.loop-item.crew.holds c.play_next.new.crew.holds
-    inv.2 inv.7 inv.1 c.in-Some.ensures.items c.play_next.ensures.time inv.3 inv.8 c.in-Err-NoMemory.ensures.stops
+    run_stops inv.2 inv.7 inv.1 c.in-Some.ensures.items c.play_next.ensures.time inv.3 inv.8 c.in-Err-NoMemory.ensures.stops
 
 pub returns-clause-done : goal.returns-clause-done
 returns-clause-done g c = λ e.
     let inv = c.loop-item.invariant in
-    let none : c.loop-item.rest.items ≡ [] = search rules in (
-      c.loop-item.followers.list.items,
-      run_whole g.N.Bases.base g.B.Berth.meaning c.args.crew.now.fleet (berths_in c.args.crew.now.holds) (g.K.Sink.written c.args.sink.now) (g.K.Sink.written c.loop-item.sink) _ _ inv.0 c.loop-item.rest.items
-          c.args.items.items c.loop-item.followers.list.items c.loop-item.crew.holds inv.2 inv.1 none,
-    )
+    let none : c.loop-item.rest.items ≡ [] = search rules in
+    (c.loop-item.followers.list.items, run_as (sym inv.1 ∙ (ap (λ r. inv.0 ++ r) none ∙ append-nil inv.0)) refl inv.2)
+
+pub returns-clause-time : goal.returns-clause-time
+returns-clause-time g c = c.loop-item.invariant.2.has.time

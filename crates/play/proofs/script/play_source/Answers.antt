@@ -6,7 +6,7 @@ use Rattle.play.specs.Outcome.{play_verdict}
 use Rattle.script_text.specs.Fits.{IsScript}
 use Rattle.script_text.specs.Script.{script_of}
 use Rattle.play.proofs.Ends.{leaves_as_told}
-use Rattle.play.proofs.Short.{source_done, source_short}
+use Rattle.play.proofs.Short.{source_short}
 use Rattle.play.specs.Played.{leaves_in}
 use Rattle.play.proofs.Own.{no_play_fault, no_more_fault, Found}
 use Rattle.play.proofs.script.play_source.Goals as goal
@@ -54,4 +54,4 @@ returns-clause-done g c = λ done.
     let read : ReadsAll before after c.in-Ok.text.items = search rules in
     let is : script_of c.in-Ok.text.items ≡ Ok script = search rules in
     let enough : leaves_in script.items ≤ length c.args.berths.now.items = search rules in
-    source_done g.N.Bases.base g.B.Berth.meaning before after _ _ c.args.berths.now.items c.play_items.new.berths.items _ _ script c.in-Ok.text.items read is enough (c.play_items.ensures.done done)
+    (c.in-Ok.text.items, script, read, is, enough, c.play_items.ensures.done done)

@@ -5,4 +5,4 @@ pub returns-clause-ran : goal.returns-clause-ran
 returns-clause-ran g c = (c.in_ok-known.known, c.in_ok-known.ensures, c.run_known-status.ensures)
 
 pub returns-clause-again : goal.returns-clause-again
-returns-clause-again g c = bases_again g.B.Berth.meaning c.in_ok-known.known _ _ c.run_known-status.result _ _ c.run_known-status.ensures c.in_ok-known.ensures
+returns-clause-again g c = bases_again c.run_known-status.ensures c.in_ok-known.ensures
