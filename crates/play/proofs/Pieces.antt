@@ -8,7 +8,7 @@ use Rattle.berth_face.proofs.Streams.{appends_none, appends_more}
 use Rattle.berth_face.specs.Streams.{Written, WritesFront}
 use Rattle.printed_lines.specs.declared.line.Line.{Line}
 use Rattle.printed_lines.specs.Lines.{IsOf, line_text, lines_text}
-use Rattle.transcript_standing.proofs.Lists.{All-back, All-front}
+use Rattle.transcript_standing.proofs.Lists.{All-both}
 
 -- some of a text, behind all of what was before
 pub front_behind : (a b c : Option (List ℕ)) (xs ys rest : List ℕ) → Appends a b xs → Written b c ys rest → Written a c (xs ++ ys) rest
@@ -34,7 +34,7 @@ pieces_begin names lines left o all same =
 pub piece_fits : {names : List (List ℕ)} {lines left : List Line} {before now : Option (List ℕ)} (piece rest : List Line) → AreWritten names lines left before now
     → left ≡ piece ++ rest → AllByRecursion (IsOf names) piece
 piece_fits {names} {lines} {left} {before} {now} piece rest written is =
-    All-front (IsOf names) piece rest (subst (AllByRecursion (IsOf names)) is written.all)
+    (All-both (IsOf names) piece rest (subst (AllByRecursion (IsOf names)) is written.all)).0
 
 -- a piece more
 pub pieces_go_on : {names : List (List ℕ)} {lines left : List Line} {before now : Option (List ℕ)} (later : Option (List ℕ)) (piece rest : List Line)
@@ -44,7 +44,7 @@ pieces_go_on {names} {lines} {left} {before} {now} later piece rest written is m
     record {
       front = written.front ++ piece;
       is = written.is ∙ ap (λ (ls : List Line). written.front ++ ls) is ∙ sym (append_assoc written.front piece rest);
-      all = All-back (IsOf names) piece rest (subst (AllByRecursion (IsOf names)) is written.all);
+      all = (All-both (IsOf names) piece rest (subst (AllByRecursion (IsOf names)) is written.all)).1;
       bytes = subst (Appends before later) text (appends_more before now later (lines_text names written.front) (lines_text names piece) written.bytes more);
     }
 

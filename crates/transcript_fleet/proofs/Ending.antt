@@ -21,8 +21,8 @@ use Rattle.transcript_leaf.proofs.Leaf.{leaf_history, leaf_leaves, leaf_lives, l
 use Rattle.transcript_leaf.proofs.Ended.{moments_all}
 use Rattle.transcript_leaf.proofs.Lists.{element_at, same_some, within}
 use Rattle.transcript_leaf.proofs.Terms.{Grows}
-use Rattle.transcript_fleet.proofs.Whole.{still_whole}
-use Rattle.transcript_fleet.proofs.Items.{one_at}
+use Rattle.transcript_leaf.proofs.Leaf.{whole_still}
+use Rattle.transcript_fleet.proofs.Lists.{one_at}
 use Rattle.transcript_fleet.proofs.Growing.{Longer, goes_on_all}
 use Rattle.transcript_fleet.proofs.Sessions.{berth_held}
 
@@ -67,7 +67,7 @@ record EndsSo {B : Type 0} (meaning : B → Meaning) (fleet : FleetShape) (known
   berth_is : berth_in x ≡ Some berth
   longer : Grows x end.hold
 
-module _ {B : Type 0} (meaning : B → Meaning) (olds : List B) (fleet : FleetShape) (known : ℕ → Option Known) (items : List PlayedItem) (xs : List (Hold B))
+module _ {B : Type 0} {meaning : B → Meaning} {olds : List B} {fleet : FleetShape} {known : ℕ → Option Known} {items : List PlayedItem} {xs : List (Hold B)}
     (s : Session meaning fleet known olds items xs) (met : (leaf : ℕ) (x : Hold B) → slice_get xs leaf ≡ Some x → HasMet meaning x) where
   abbrev pieces : List Piece
   pieces = all_pieces items
@@ -95,7 +95,7 @@ module _ {B : Type 0} (meaning : B → Meaning) (olds : List B) (fleet : FleetSh
           berth = m.1.berth;
           now = now.0;
           met = now.1;
-          whole = still_whole meaning leaf fleet.names (known leaf) (meaning old.0) [] (nothing_yet leaf) items items x.0 y was now.0 grew.1 (s.whole leaf x.0 x.1);
+          whole = whole_still meaning leaf fleet.names (known leaf) (meaning old.0) [] (nothing_yet leaf) items x.0 y was.callers_are now.0 grew.1 (s.whole leaf x.0 x.1);
           held = held;
           life_is = refl {a = (now.0.held m.1.leaf_then m.1.berth held).1.life};
           berth_is = berth_held x.0 m.1.leaf m.1.berth m.1.held;
@@ -173,4 +173,4 @@ module _ {B : Type 0} (meaning : B → Meaning) (olds : List B) (fleet : FleetSh
   }
 
 pub ended : {B : Type 0} (meaning : B → Meaning) (olds : List B) → SessionsEnd meaning olds
-ended meaning olds fleet known items xs s met = told_fleet meaning olds fleet known items xs s met
+ended meaning olds fleet known items xs s met = told_fleet s met

@@ -1,8 +1,8 @@
 -- What is known of the leaves of a fleet, piece by piece of what a command does to them.
-use Rattle.std.proofs.Common.{◌≡◌, ℕ, ◌<◌, ◌==◌, Bool, true, false, List, [], ◌∷◌, ◌++◌, length, inl, inr, ◌⊎◌, refl, sym, ap, subst, ◌∙◌, Option, Some}
+use Rattle.std.proofs.Common.{◌≡◌, ℕ, ◌<◌, ◌==◌, Bool, true, false, List, [], ◌∷◌, ◌++◌, length, inl, inr, refl, sym, ap, subst, ◌∙◌, Option, Some}
 use Rattle.std.specs.Prelude.{is_some, slice_get, slice_set, ⊤}
 use Rattle.std.specs.List.{AllByRecursion}
-use Rattle.std.proofs.lemmas.Bool.{eqb-true, eqb-false}
+use Rattle.std.proofs.lemmas.Bool.{eqb-true, eqb-false, false_from_ne_true}
 use Rattle.std.proofs.lemmas.List.{append-nil, append_assoc}
 use Rattle.berth_face.specs.Berth.{Meaning}
 use Rattle.leaf_history.specs.Calls.{Call}
@@ -15,6 +15,7 @@ use Rattle.script_text.specs.declared.fleet.FleetShape.{FleetShape}
 use Rattle.script_text.specs.Commands.{leaf_count}
 use Rattle.printed_lines.specs.declared.line.Deed.{Deed}
 use Rattle.transcript.specs.Pieces.{Acted, Called, Piece, PlayedItem, Says, Worn}
+use Rattle.transcript.specs.Shapes.{CallPiece}
 use Rattle.transcript.specs.Answers.{WornIsLong}
 use Rattle.transcript.specs.Transcript.{Known}
 use Rattle.leaf_moves.specs.Stage.{Leaf}
@@ -26,8 +27,7 @@ use Rattle.transcript_leaf.specs.Session.{HasNoDeed, IsNoDeed, IsOthers, LeafSes
 use Rattle.transcript_leaf.proofs.Leaf.{call_grows, call_worn, deed_grows, deed_worn, leaf_acts, leaf_calls, leaf_opens, leaf_others, piece_of_call}
 use Rattle.transcript_leaf.proofs.Lists.{get_set_other, get_set_same, length_mapped, length_set, same_some, within}
 use Rattle.transcript_leaf.proofs.Terms.{with_pieces}
-use Rattle.transcript_fleet.proofs.Lists.{All-append}
-use Rattle.transcript_fleet.proofs.Items.{also_at}
+use Rattle.transcript_fleet.proofs.Lists.{All-append, also_at}
 use Rattle.transcript_fleet.proofs.Growing.{Becomes, becomes_self, becomes_still, goes_on_here, touched, went_back}
 
 -- a call's piece is of a table below so many
@@ -60,28 +60,14 @@ pub record Behind {B : Type 0} (meaning : B → Meaning) (fleet : FleetShape) (k
 
 -- two places that differ are told apart
 differs : (a b : ℕ) → (a ≡ b → ⊥) → (a == b) ≡ false
-differs a b other = by (a == b) refl
-  where
-    by : (x : Bool) → (a == b) ≡ x → x ≡ false
-    by true e = absurd (other (eqb-true a b e))
-    by false e = refl
+differs a b other = false_from_ne_true (a == b) (λ e. other (eqb-true a b e))
 
 -- ---- pieces
 
-call_others : (here leaf table : ℕ) (c : Call) (p : Piece) → (here ≡ leaf → ⊥)
-    → ((n : ℕ) × (said : Said) × (p ≡ Called here table c n said)) ⊎ (p ≡ Worn here table) → IsOthers leaf p
-call_others here leaf table c p other (inl k) = subst (λ (q : Piece). IsOthers leaf q) (sym k.2) (differs here leaf other)
-call_others here leaf table c p other (inr is) = subst (λ (q : Piece). IsOthers leaf q) (sym is) (differs here leaf other)
-
-call_within : (here table tables : ℕ) (c : Call) (p : Piece) → table < tables
-    → ((n : ℕ) × (said : Said) × (p ≡ Called here table c n said)) ⊎ (p ≡ Worn here table) → IsWithin tables p
-call_within here table tables c p below (inl k) = subst (λ (q : Piece). IsWithin tables q) (sym k.2) below
-call_within here table tables c p below (inr is) = subst (λ (q : Piece). IsWithin tables q) (sym is) tt
-
-call_no_deed : (here leaf table : ℕ) (c : Call) (p : Piece)
-    → ((n : ℕ) × (said : Said) × (p ≡ Called here table c n said)) ⊎ (p ≡ Worn here table) → IsNoDeed leaf p
-call_no_deed here leaf table c p (inl k) = subst (λ (q : Piece). IsNoDeed leaf q) (sym k.2) tt
-call_no_deed here leaf table c p (inr is) = subst (λ (q : Piece). IsNoDeed leaf q) (sym is) tt
+-- what holds of each piece that a call may print
+pub of_call : (P : Piece → Type 0) (leaf table : ℕ) (c : Call) (p : Piece) → ((n : ℕ) (said : Said) → P (Called leaf table c n said)) → P (Worn leaf table) → CallPiece leaf table c p → P p
+of_call P leaf table c p called worn (inl k) = subst P (sym k.2) (called k.0 k.1)
+of_call P leaf table c p called worn (inr is) = subst P (sym is) worn
 
 -- a leaf that is not held is not the one at that place
 held_elsewhere : {B : Type 0} (xs : List (Hold B)) (here leaf : ℕ) (x y : Hold B) (l : Leaf × B) → slice_get xs here ≡ Some x → x.held ≡ Some l
@@ -91,8 +77,8 @@ held_elsewhere {B} xs here leaf x y l at held at_y none same =
     let there : y.held ≡ Some l = sym (ap (λ (z : Hold B). z.held) is) ∙ held in
     cc
 
-pub alone_on : {B : Type 0} (xs ys : List (Hold B)) (some others : List Piece) → Becomes xs ys → LeavesAlone xs some → LeavesAlone ys others → LeavesAlone xs (some ++ others)
-alone_on xs ys some others becomes first then leaf x at none =
+pub alone_on : {B : Type 0} {xs ys : List (Hold B)} (some others : List Piece) → Becomes xs ys → LeavesAlone xs some → LeavesAlone ys others → LeavesAlone xs (some ++ others)
+alone_on {xs = xs} {ys = ys} some others becomes first then leaf x at none =
     let y = also_at xs ys leaf x becomes.grow.count at in
     All-append (IsNoDeed leaf) some others (first leaf x at none) (then leaf y.0 y.1 (sym (becomes.same leaf x y.0 at y.1).held ∙ none))
 
@@ -151,7 +137,7 @@ module _ {B : Type 0} (meaning : B → Meaning) (fleet : FleetShape) (known : �
       record {
         leaves = touches ps xs leaf x y p now at
             (λ old was. leaf_calls meaning leaf fleet.names (known leaf) (meaning old) before (start leaf) items c0 ps x table c p callers was step)
-            (λ l other. call_others leaf l table c p other is);
+            (λ l other. of_call (IsOthers l) leaf table c p (λ n said. differs leaf l other) (differs leaf l other) is);
         becomes = touched xs leaf x y at
             (call_grows meaning leaf fleet.names (known leaf) (meaning here.0) before (start leaf) (with_pieces items c0 ps) x table c p callers here.1 step);
         worn = λ histories on. (
@@ -159,8 +145,8 @@ module _ {B : Type 0} (meaning : B → Meaning) (fleet : FleetShape) (known : �
               (λ place. goes_on_here (slice_set xs leaf y) leaf y histories (get_set_same xs leaf x y at) on place),
           tt,
         );
-        within_are = (call_within leaf table (length fleet.names) c p below is, tt);
-        alone = λ l z at_z none. (call_no_deed leaf l table c p is, tt);
+        within_are = (of_call (IsWithin (length fleet.names)) leaf table c p (λ n said. below) tt is, tt);
+        alone = λ l z at_z none. (of_call (IsNoDeed l) leaf table c p (λ n said. tt) tt is, tt);
       }
 
   acts : (ps : List Piece) (xs : List (Hold B)) (leaf : ℕ) (deed : Deed) (x : Hold B) (l l' : Leaf) (b b' : B) (callers : List (Option SeatView)) (p : Piece)
@@ -193,7 +179,7 @@ module _ {B : Type 0} (meaning : B → Meaning) (fleet : FleetShape) (known : �
       counts = now.counts;
       each = λ leaf old x at_old at. leaf_others meaning leaf fleet.names (known leaf) (meaning old) before (start leaf) items c0 ps x (Says l) tt (now.each leaf old x at_old at);
     };
-    becomes = becomes_self xs;
+    becomes = becomes_self;
     worn = λ histories on. (tt, tt);
     within_are = (tt, tt);
     alone = λ leaf x at none. (tt, tt);
@@ -204,7 +190,7 @@ module _ {B : Type 0} (meaning : B → Meaning) (fleet : FleetShape) (known : �
   nothing : (ps : List Piece) (xs : List (Hold B)) → All ps xs → Along ps [] xs xs
   nothing ps xs now = record {
     leaves = subst (λ (qs : List Piece). All qs xs) (sym (append-nil ps)) now;
-    becomes = becomes_self xs;
+    becomes = becomes_self;
     worn = λ histories on. tt;
     within_are = tt;
     alone = λ leaf x at none. tt;
@@ -213,10 +199,10 @@ module _ {B : Type 0} (meaning : B → Meaning) (fleet : FleetShape) (known : �
   joined : (ps some others : List Piece) (xs ys zs : List (Hold B)) → Along ps some xs ys → Along (ps ++ some) others ys zs → Along ps (some ++ others) xs zs
   joined ps some others xs ys zs first then = record {
     leaves = subst (λ (qs : List Piece). All qs zs) (append_assoc ps some others) then.leaves;
-    becomes = becomes_still xs ys zs first.becomes then.becomes;
-    worn = λ histories on. All-append (WornIsLong histories) some others (first.worn histories (went_back ys zs histories then.becomes.grow on)) (then.worn histories on);
+    becomes = becomes_still first.becomes then.becomes;
+    worn = λ histories on. All-append (WornIsLong histories) some others (first.worn histories (went_back histories then.becomes.grow on)) (then.worn histories on);
     within_are = All-append (IsWithin (length fleet.names)) some others first.within_are then.within_are;
-    alone = alone_on xs ys some others first.becomes first.alone then.alone;
+    alone = alone_on some others first.becomes first.alone then.alone;
   }
 
   goes_on : (xs : List (Hold B)) (more : List Piece) (ys : List (Hold B)) → Goes meaning xs more ys → (ps : List Piece) → All ps xs → Along ps more xs ys

@@ -9,7 +9,7 @@ use Rattle.leaf_moves.specs.Holds.{GoOn, Hold, base_state_at, base_states_in, hi
 use Rattle.transcript_leaf.specs.Session.{AreSame}
 use Rattle.transcript_leaf.proofs.Lists.{element_at, length_set, same_some}
 use Rattle.transcript_leaf.proofs.Terms.{Grows}
-use Rattle.transcript_fleet.proofs.Items.{also_at, one_at, touched_each}
+use Rattle.transcript_fleet.proofs.Lists.{also_at, one_at, touched_each}
 
 -- entries with more behind them
 abbrev pub Longer : List Entry → List Entry → Type 0
@@ -70,8 +70,8 @@ module _ {B : Type 0} where
       by false e = (histories leaf table, ap (λ (es : List Entry). es ++ histories leaf table) (sym (no_histories xs leaf table (ltb-false leaf (length xs) e))))
 
   -- those that go on from what is behind go on from what was before
-  pub went_back : (xs ys : List (Hold B)) (histories : ℕ → ℕ → List Entry) → AllGrow xs ys → GoOn ys histories → GoOn xs histories
-  went_back xs ys histories grow on = goes_on_all xs histories
+  pub went_back : {xs ys : List (Hold B)} (histories : ℕ → ℕ → List Entry) → AllGrow xs ys → GoOn ys histories → GoOn xs histories
+  went_back {xs} {ys} histories grow on = goes_on_all xs histories
       (λ leaf x at table.
       let y = also_at xs ys leaf x grow.count at in
       longer_still (seen_in x table) (seen_in y.0 table) (histories leaf table) (grow.each leaf x y.0 at y.1 table) (goes_on_here ys leaf y.0 histories y.1 on table))
@@ -93,8 +93,8 @@ module _ {B : Type 0} where
     held = first.held ∙ then.held;
   }
 
-  pub becomes_self : (xs : List (Hold B)) → Becomes xs xs
-  becomes_self xs = record {
+  pub becomes_self : {xs : List (Hold B)} → Becomes xs xs
+  becomes_self {xs} = record {
     grow = record {
       count = refl;
       each = λ leaf x y at_x at_y. subst (λ (z : Hold B). Grows x z) (one_at xs leaf x y at_x at_y) (grows_self x);
@@ -102,17 +102,17 @@ module _ {B : Type 0} where
     same = λ leaf x y at_x at_y. subst (λ (z : Hold B). AreSame x z) (one_at xs leaf x y at_x at_y) (same_self x);
   }
 
-  pub all_grow_still : (xs ys zs : List (Hold B)) → AllGrow xs ys → AllGrow ys zs → AllGrow xs zs
-  all_grow_still xs ys zs first then = record {
+  all_grow_still : {xs ys zs : List (Hold B)} → AllGrow xs ys → AllGrow ys zs → AllGrow xs zs
+  all_grow_still {xs} {ys} {zs} first then = record {
     count = then.count ∙ first.count;
     each = λ leaf x z at_x at_z.
         let y = also_at xs ys leaf x first.count at_x in
         grows_still x y.0 z (first.each leaf x y.0 at_x y.1) (then.each leaf y.0 z y.1 at_z);
   }
 
-  pub becomes_still : (xs ys zs : List (Hold B)) → Becomes xs ys → Becomes ys zs → Becomes xs zs
-  becomes_still xs ys zs first then = record {
-    grow = all_grow_still xs ys zs first.grow then.grow;
+  pub becomes_still : {xs ys zs : List (Hold B)} → Becomes xs ys → Becomes ys zs → Becomes xs zs
+  becomes_still {xs} {ys} {zs} first then = record {
+    grow = all_grow_still first.grow then.grow;
     same = λ leaf x z at_x at_z.
         let y = also_at xs ys leaf x first.grow.count at_x in
         same_still x y.0 z (first.same leaf x y.0 at_x y.1) (then.same leaf y.0 z y.1 at_z);

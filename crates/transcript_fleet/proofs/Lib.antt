@@ -1,5 +1,4 @@
 pub mod Lists
-pub mod Items
 pub mod Growing
 pub mod Going
 pub mod Tailing
@@ -7,6 +6,5 @@ pub mod Asking
 pub mod Playing
 pub mod Holding
 pub mod Fanning
-pub mod Whole
 pub mod Sessions
 pub mod Ending

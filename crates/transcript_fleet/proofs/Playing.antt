@@ -13,9 +13,7 @@ use Rattle.leaf_moves.specs.Holds.{GoOn, Hold}
 use Rattle.leaf_moves.specs.Plays.{Plays}
 use Rattle.leaf_moves.specs.Lanes.{PlaysOn}
 use Rattle.transcript_fleet.specs.Session.{Stretch}
-use Rattle.transcript_leaf.proofs.Terms.{with_pieces}
-use Rattle.transcript_fleet.proofs.Lists.{All-append}
-use Rattle.transcript_fleet.proofs.Items.{pieces-append, plays-snoc}
+use Rattle.transcript_fleet.proofs.Lists.{All-append, pieces-append, plays-snoc}
 use Rattle.transcript_fleet.proofs.Growing.{AllGrow, Becomes, becomes_self, becomes_still, went_back}
 use Rattle.transcript_fleet.proofs.Going.{Leaves, LeavesAlone, alone_on, command_goes}
 use Rattle.transcript_fleet.proofs.Asking.{answers_known}
@@ -36,9 +34,9 @@ pub record WentOn {B : Type 0} (meaning : B → Meaning) (fleet : FleetShape) (k
 
 -- ---- what is known of commands
 
-module _ {B : Type 0} (fleet : FleetShape) (known : ℕ → Option Known) where
-  pub right_joined : (plays others : List Played) (xs : List (Hold B)) → AreRight fleet known plays xs → AreRight fleet known others xs → AreRight fleet known (plays ++ others) xs
-  right_joined plays others xs first then = record {
+module _ {B : Type 0} {fleet : FleetShape} {known : ℕ → Option Known} where
+  pub right_joined : {plays others : List Played} {xs : List (Hold B)} → AreRight fleet known plays xs → AreRight fleet known others xs → AreRight fleet known (plays ++ others) xs
+  right_joined {plays} {others} first then = record {
     prints = All-append (λ (p : Played). Prints fleet p.command p.pieces) plays others first.prints then.prints;
     answered = λ histories on. All-append (Answers fleet (base_states_of fleet known) histories) plays others (first.answered histories on) (then.answered histories on);
     worn = λ histories on. subst (λ (ps : List Piece). AllByRecursion (WornIsLong histories) ps) (sym (pieces-append plays others))
@@ -46,65 +44,59 @@ module _ {B : Type 0} (fleet : FleetShape) (known : ℕ → Option Known) where
   }
 
   -- it is known still where histories have grown
-  pub right_still : (plays : List Played) (xs ys : List (Hold B)) → AllGrow xs ys → AreRight fleet known plays xs → AreRight fleet known plays ys
-  right_still plays xs ys grow right = record {
+  pub right_still : {plays : List Played} {xs ys : List (Hold B)} → AllGrow xs ys → AreRight fleet known plays xs → AreRight fleet known plays ys
+  right_still grow right = record {
     prints = right.prints;
-    answered = λ histories on. right.answered histories (went_back xs ys histories grow on);
-    worn = λ histories on. right.worn histories (went_back xs ys histories grow on);
+    answered = λ histories on. right.answered histories (went_back histories grow on);
+    worn = λ histories on. right.worn histories (went_back histories grow on);
   }
 
-module _ {B : Type 0} (meaning : B → Meaning) (fleet : FleetShape) (known : ℕ → Option Known) (olds : List B) (before : List Piece) (start : ℕ → ℕ → List Entry) where
-  abbrev Here : List PlayedItem → List (Hold B) → Type 0
-  Here items xs = Stretch meaning fleet known olds before start items xs
+module _ {B : Type 0} {meaning : B → Meaning} {fleet : FleetShape} {known : ℕ → Option Known} {olds : List B} {before : List Piece} {start : ℕ → ℕ → List Entry} where
+  pub leaves_of : {items : List PlayedItem} {xs : List (Hold B)} → Stretch meaning fleet known olds before start items xs → Leaves meaning fleet known olds before start items xs
+  leaves_of s = record { counts = s.counts; each = s.each }
 
-  abbrev Went : List PlayedItem → List Piece → List (Hold B) → List (Hold B) → Type 0
-  Went items pieces xs ys = WentOn meaning fleet known olds before start items pieces xs ys
+  pub right_of : {items : List PlayedItem} {xs : List (Hold B)} → Stretch meaning fleet known olds before start items xs → AreRight fleet known (plays_in items) xs
+  right_of s = record { prints = s.prints; answered = s.answered; worn = s.worn }
 
-  pub right_of : (items : List PlayedItem) (xs : List (Hold B)) → Here items xs → AreRight fleet known (plays_in items) xs
-  right_of items xs s = record { prints = s.prints; answered = s.answered; worn = s.worn }
-
-  pub stretch_of : (items : List PlayedItem) (xs : List (Hold B)) → Leaves meaning fleet known olds before start items xs → AreRight fleet known (plays_in items) xs → Here items xs
-  stretch_of items xs leaves right = record { counts = leaves.counts; prints = right.prints; each = leaves.each; answered = right.answered; worn = right.worn }
+  pub stretch_of : {items : List PlayedItem} {xs : List (Hold B)} → Leaves meaning fleet known olds before start items xs → AreRight fleet known (plays_in items) xs → Stretch meaning fleet known olds before start items xs
+  stretch_of leaves right = record { counts = leaves.counts; prints = right.prints; each = leaves.each; answered = right.answered; worn = right.worn }
 
   -- ---- one command
 
-  pub command_on : (items : List PlayedItem) (xs : List (Hold B)) (p : Played) (ys : List (Hold B)) → Here items xs → Plays meaning fleet p.command xs p.pieces ys
-      → Went (items ++ One p ∷ []) p.pieces xs ys
-  command_on items xs p ys s step =
-      let b = command_goes meaning fleet known olds before start items p.command xs p.pieces ys (record { counts = s.counts; each = s.each }) step.goes in
+  pub command_on : {items : List PlayedItem} {xs ys : List (Hold B)} (p : Played) → Stretch meaning fleet known olds before start items xs → Plays meaning fleet p.command xs p.pieces ys
+      → WentOn meaning fleet known olds before start (items ++ One p ∷ []) p.pieces xs ys
+  command_on {items} {xs} {ys} p s step =
+      let b = command_goes meaning fleet known olds before start items p.command xs p.pieces ys (leaves_of s) step.goes in
       let one : AreRight fleet known (p ∷ []) ys = record {
         prints = (step.prints, tt);
-        answered = λ histories on. (
-          answers_known meaning fleet known olds before start (with_pieces items p.command p.pieces) p.pieces ys b.leaves p.command histories step.prints b.within_are (step.answers histories on),
-          tt,
-        );
+        answered = λ histories on. (answers_known b.leaves p.command p.pieces histories step.prints b.within_are (step.answers histories on), tt);
         worn = λ histories on. subst (λ (ps : List Piece). AllByRecursion (WornIsLong histories) ps) (sym (append-nil p.pieces)) (b.worn histories on);
       } in
-      let all = right_joined fleet known (plays_in items) (p ∷ []) ys (right_still fleet known (plays_in items) xs ys b.becomes.grow (right_of items xs s)) one in
+      let all = right_joined (right_still b.becomes.grow (right_of s)) one in
       record {
-        stretch = stretch_of (items ++ One p ∷ []) ys b.leaves (subst (λ (ps : List Played). AreRight fleet known ps ys) (sym (plays-snoc items (One p))) all);
+        stretch = stretch_of b.leaves (subst (λ (ps : List Played). AreRight fleet known ps ys) (sym (plays-snoc items (One p))) all);
         becomes = b.becomes;
         alone = b.alone;
       }
 
   -- ---- those of a lane
 
-  pub lane_on : (xs : List (Hold B)) (lane : List Played) (ys : List (Hold B)) → PlaysOn meaning fleet xs lane ys → (items : List PlayedItem) → Here items xs
-      → Went (items ++ map One lane) (pieces_in lane) xs ys
-  lane_on xs lane ys (PlaysOn.none ws l zs empty same) items s =
-      subst (λ (qs : List Played). Went (items ++ map One qs) (pieces_in qs) xs ys) (sym empty)
-      (subst (λ (zs : List (Hold B)). Went (items ++ []) [] xs zs) (sym same)
+  pub lane_on : {xs : List (Hold B)} {lane : List Played} {ys : List (Hold B)} → PlaysOn meaning fleet xs lane ys → (items : List PlayedItem) → Stretch meaning fleet known olds before start items xs
+      → WentOn meaning fleet known olds before start (items ++ map One lane) (pieces_in lane) xs ys
+  lane_on {xs} {lane} {ys} (PlaysOn.none ws l zs empty same) items s =
+      subst (λ (qs : List Played). WentOn meaning fleet known olds before start (items ++ map One qs) (pieces_in qs) xs ys) (sym empty)
+      (subst (λ (zs : List (Hold B)). WentOn meaning fleet known olds before start (items ++ []) [] xs zs) (sym same)
       (record {
-        stretch = subst (λ (qs : List PlayedItem). Here qs xs) (sym (append-nil items)) s;
-        becomes = becomes_self xs;
+        stretch = subst (λ (qs : List PlayedItem). Stretch meaning fleet known olds before start qs xs) (sym (append-nil items)) s;
+        becomes = becomes_self;
         alone = λ leaf x at none. tt;
       }))
-  lane_on xs lane ys (PlaysOn.more ws l zs p others between step rest is) items s =
-      let first = command_on items xs p between s step in
-      let then = lane_on between others ys rest (items ++ One p ∷ []) first.stretch in
-      subst (λ (qs : List Played). Went (items ++ map One qs) (pieces_in qs) xs ys) (sym is)
+  lane_on {xs} {lane} {ys} (PlaysOn.more ws l zs p others between step rest is) items s =
+      let first = command_on p s step in
+      let then = lane_on rest (items ++ One p ∷ []) first.stretch in
+      subst (λ (qs : List Played). WentOn meaning fleet known olds before start (items ++ map One qs) (pieces_in qs) xs ys) (sym is)
       (record {
-        stretch = subst (λ (qs : List PlayedItem). Here qs ys) (append_assoc items (One p ∷ []) (map One others)) then.stretch;
-        becomes = becomes_still xs between ys first.becomes then.becomes;
-        alone = alone_on xs between p.pieces (pieces_in others) first.becomes first.alone then.alone;
+        stretch = subst (λ (qs : List PlayedItem). Stretch meaning fleet known olds before start qs ys) (append_assoc items (One p ∷ []) (map One others)) then.stretch;
+        becomes = becomes_still first.becomes then.becomes;
+        alone = alone_on p.pieces (pieces_in others) first.becomes first.alone then.alone;
       })

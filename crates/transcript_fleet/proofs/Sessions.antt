@@ -5,7 +5,7 @@ use Rattle.std.specs.List.{flat_map}
 use Rattle.berth_face.specs.Berth.{Meaning}
 use Rattle.leaf_history.specs.History.{Entry}
 use Rattle.script_text.specs.declared.fleet.FleetShape.{FleetShape}
-use Rattle.transcript.specs.Pieces.{Played, PlayedItem, One, Burst, all_pieces, plays_in}
+use Rattle.transcript.specs.Pieces.{Played, PlayedItem, One, Burst, all_pieces}
 use Rattle.transcript.specs.Transcript.{Known}
 use Rattle.leaf_moves.specs.Stage.{Leaf}
 use Rattle.leaf_moves.specs.Holds.{AllMeet, Hold, seen_in, berth_in}
@@ -17,10 +17,10 @@ use Rattle.transcript_fleet.specs.Laws.{SessionsBegin, SessionsGoOn, SessionsKno
 use Rattle.transcript_leaf.proofs.Leaf.{leaf_begins, leaf_in_turn, leaf_joined, leaf_lends, leaf_meets, meet_grows}
 use Rattle.transcript_leaf.proofs.Lists.{get_map, length_mapped, same_some}
 use Rattle.transcript_leaf.proofs.Terms.{Grows}
-use Rattle.transcript_fleet.proofs.Whole.{still_whole}
-use Rattle.transcript_fleet.proofs.Items.{also_at, plays-append, plays_in_turn}
+use Rattle.transcript_leaf.proofs.Leaf.{whole_still}
+use Rattle.transcript_fleet.proofs.Lists.{also_at, plays-append, plays_in_turn}
 use Rattle.transcript_fleet.proofs.Growing.{Becomes, becomes_still, went_back}
-use Rattle.transcript_fleet.proofs.Playing.{AreRight, WentOn, command_on, lane_on, right_joined, right_of, right_still, stretch_of}
+use Rattle.transcript_fleet.proofs.Playing.{AreRight, WentOn, command_on, lane_on, leaves_of, right_joined, right_of, right_still, stretch_of}
 use Rattle.transcript_fleet.proofs.Fanning.{fans_on}
 use Rattle.transcript_fleet.proofs.Asking.{base_state_is}
 
@@ -66,19 +66,19 @@ abbrev seen_at : {B : Type 0} → Option (Hold B) → ℕ → List Entry
 seen_at None place = []
 seen_at (Some x) place = seen_in x place
 
-module _ {B : Type 0} (meaning : B → Meaning) (olds : List B) (fleet : FleetShape) (known : ℕ → Option Known) (items : List PlayedItem) (xs : List (Hold B))
+module _ {B : Type 0} {meaning : B → Meaning} {olds : List B} {fleet : FleetShape} {known : ℕ → Option Known} {items : List PlayedItem} {xs : List (Hold B)}
     (s : Session meaning fleet known olds items xs) where
   abbrev Now : ℕ → B → List PlayedItem → Hold B → Type 0
   Now leaf old is x = LeafSession meaning leaf fleet.names (known leaf) (meaning old) [] (nothing_yet leaf) is x
 
   -- the run holds all leaves and seats still
-  whole_still : (others : List PlayedItem) (ys : List (Hold B)) → Stretch meaning fleet known olds [] nothing_yet others ys → Becomes xs ys
+  all_whole : (others : List PlayedItem) (ys : List (Hold B)) → Stretch meaning fleet known olds [] nothing_yet others ys → Becomes xs ys
       → (leaf : ℕ) (y : Hold B) → slice_get ys leaf ≡ Some y → IsWhole y
-  whole_still others ys now becomes leaf y at =
+  all_whole others ys now becomes leaf y at =
       let x = also_at ys xs leaf y (sym becomes.grow.count) at in
       let old = also_at ys olds leaf y (now.counts.0 ∙ sym now.counts.1) at in
-      still_whole meaning leaf fleet.names (known leaf) (meaning old.0) [] (nothing_yet leaf) items others x.0 y
-      (s.stretch.each leaf old.0 x.0 old.1 x.1) (now.each leaf old.0 y old.1 at) (becomes.same leaf x.0 y x.1 at) (s.whole leaf x.0 x.1)
+      whole_still meaning leaf fleet.names (known leaf) (meaning old.0) [] (nothing_yet leaf) others x.0 y
+      (s.stretch.each leaf old.0 x.0 old.1 x.1).callers_are (now.each leaf old.0 y old.1 at) (becomes.same leaf x.0 y x.1 at) (s.whole leaf x.0 x.1)
 
   -- the run behind an item, and how it came there
   abbrev Later : PlayedItem → List (Hold B) → Type 0
@@ -86,21 +86,20 @@ module _ {B : Type 0} (meaning : B → Meaning) (olds : List B) (fleet : FleetSh
 
   one_on : (p : Played) (ys : List (Hold B)) → Plays meaning fleet p.command xs p.pieces ys → Later (One p) ys
   one_on p ys step =
-      let w = command_on meaning fleet known olds [] nothing_yet items xs p ys s.stretch step in
-      (record { stretch = w.stretch; whole = whole_still (items ++ One p ∷ []) ys w.stretch w.becomes }, w.becomes)
+      let w = command_on p s.stretch step in
+      (record { stretch = w.stretch; whole = all_whole (items ++ One p ∷ []) ys w.stretch w.becomes }, w.becomes)
 
   in_turn_on : (lanes : List (List Played)) (ys : List (Hold B)) → PlaysOn meaning fleet xs (flat_map (λ (lane : List Played). lane) lanes) ys → Later (Burst lanes) ys
   in_turn_on lanes ys plays =
-      let all : List Played = flat_map (λ (lane : List Played). lane) lanes in
-      let w = lane_on meaning fleet known olds [] nothing_yet xs all ys plays items s.stretch in
-      let now = stretch_of meaning fleet known olds [] nothing_yet (items ++ Burst lanes ∷ []) ys
+      let w = lane_on plays items s.stretch in
+      let now : Stretch meaning fleet known olds [] nothing_yet (items ++ Burst lanes ∷ []) ys = stretch_of
       (record {
         counts = w.stretch.counts;
         each = λ leaf old y at_old at. leaf_in_turn meaning leaf fleet.names (known leaf) (meaning old) [] (nothing_yet leaf) items lanes y (w.stretch.each leaf old y at_old at);
       })
       (subst (λ (ps : List Played). AreRight fleet known ps ys) (plays_in_turn items lanes)
-      (right_of meaning fleet known olds [] nothing_yet (items ++ map One all) ys w.stretch)) in
-      (record { stretch = now; whole = whole_still (items ++ Burst lanes ∷ []) ys now w.becomes }, w.becomes)
+      (right_of w.stretch)) in
+      (record { stretch = now; whole = all_whole (items ++ Burst lanes ∷ []) ys now w.becomes }, w.becomes)
 
   -- ---- beside one another
 
@@ -119,7 +118,7 @@ module _ {B : Type 0} (meaning : B → Meaning) (olds : List B) (fleet : FleetSh
           now.1,
           grew.0,
           grew.1,
-          still_whole meaning leaf fleet.names (known leaf) (meaning old) [] (nothing_yet leaf) items items x y was now.0 grew.1 (s.whole leaf x at_x),
+          whole_still meaning leaf fleet.names (known leaf) (meaning old) [] (nothing_yet leaf) items x y was.callers_are now.0 grew.1 (s.whole leaf x at_x),
         )
 
     -- those of the leaf in that place of the leaves that met
@@ -157,18 +156,16 @@ module _ {B : Type 0} (meaning : B → Meaning) (olds : List B) (fleet : FleetSh
 
     beside_on : (lanes : List (List Played)) (ys : List (Hold B)) → Fans meaning fleet met lanes ys → Later (Burst lanes) ys
     beside_on lanes ys fan =
-        let w = fans_on meaning fleet known olds (all_pieces items) start met lanes ys fan lent in
-        let becomes : Becomes xs ys = becomes_still xs met ys became w.becomes in
-        let right = right_joined fleet known (plays_in items) (plays_in (Burst lanes ∷ [])) ys
-        (right_still fleet known (plays_in items) xs ys becomes.grow (right_of meaning fleet known olds [] nothing_yet items xs s.stretch))
-        (right_of meaning fleet known olds (all_pieces items) start (Burst lanes ∷ []) ys w.stretch) in
-        let now = stretch_of meaning fleet known olds [] nothing_yet (items ++ Burst lanes ∷ []) ys
+        let w = fans_on fan lent in
+        let becomes : Becomes xs ys = becomes_still became w.becomes in
+        let right = right_joined (right_still becomes.grow (right_of s.stretch)) (right_of w.stretch) in
+        let now : Stretch meaning fleet known olds [] nothing_yet (items ++ Burst lanes ∷ []) ys = stretch_of
         (record {
           counts = w.stretch.counts;
           each = λ leaf old y at_old at. joined_at lanes ys w leaf old y at_old at;
         })
         (subst (λ (ps : List Played). AreRight fleet known ps ys) (sym (plays-append items (Burst lanes ∷ []))) right) in
-        (record { stretch = now; whole = whole_still (items ++ Burst lanes ∷ []) ys now becomes }, becomes)
+        (record { stretch = now; whole = all_whole (items ++ Burst lanes ∷ []) ys now becomes }, becomes)
       where
         joined_at : (lanes : List (List Played)) (ys : List (Hold B))
             → WentOn meaning fleet known olds (all_pieces items) start (Burst lanes ∷ []) (all_pieces (Burst lanes ∷ [])) met ys
@@ -186,19 +183,19 @@ module _ {B : Type 0} (meaning : B → Meaning) (olds : List B) where
   pub plays_on : SessionsGoOn meaning olds
   plays_on fleet known items xs ys x s step =
       let later = by x step in
-      (later.0, λ histories on. went_back xs ys histories later.1.grow on)
+      (later.0, λ histories on. went_back histories later.1.grow on)
     where
-      by : (x : PlayedItem) → PlaysItem meaning fleet xs x ys → Later meaning olds fleet known items xs s x ys
+      by : (x : PlayedItem) → PlaysItem meaning fleet xs x ys → Later s x ys
       by x (PlaysItem.one p is plays) =
-          subst (λ (z : PlayedItem). Later meaning olds fleet known items xs s z ys) (sym is)
-          (one_on meaning olds fleet known items xs s p ys plays)
+          subst (λ (z : PlayedItem). Later s z ys) (sym is)
+          (one_on s p ys plays)
       by x (PlaysItem.beside lanes met is meet fan) =
-          subst (λ (z : PlayedItem). Later meaning olds fleet known items xs s z ys) (sym is)
-          (beside_on meaning olds fleet known items xs s met meet lanes ys fan)
+          subst (λ (z : PlayedItem). Later s z ys) (sym is)
+          (beside_on s met meet lanes ys fan)
       by x (PlaysItem.in_turn lanes is plays) =
-          subst (λ (z : PlayedItem). Later meaning olds fleet known items xs s z ys) (sym is)
-          (in_turn_on meaning olds fleet known items xs s lanes ys plays)
+          subst (λ (z : PlayedItem). Later s z ys) (sym is)
+          (in_turn_on s lanes ys plays)
 
   pub sessions_know : SessionsKnow meaning olds
   sessions_know fleet known items xs s leaf table below within =
-      base_state_is meaning fleet known olds [] nothing_yet items [] xs (record { counts = s.stretch.counts; each = s.stretch.each }) leaf table below within
+      base_state_is (leaves_of s.stretch) leaf table below within

@@ -1,5 +1,5 @@
 -- Tails: which leaves they pick is said by what is known of the leaves that they ask.
-use Rattle.std.proofs.Common.{◌≡◌, ℕ, ◌<◌, Bool, List, [], ◌∷◌, ◌++◌, inl, inr, refl, sym, ap, ap₂, subst, ◌∙◌, mod-lt, Option, Some, None, IfSome}
+use Rattle.std.proofs.Common.{◌≡◌, ℕ, ◌<◌, Bool, List, [], ◌∷◌, refl, sym, ap, ap₂, subst, ◌∙◌, mod-lt, Option, Some, None, IfSome}
 use Rattle.std.specs.Prelude.{if◌then◌else◌, option_and_then, option_to_list, is_some}
 use Rattle.std.specs.List.{AllByRecursion, flat_map}
 use Rattle.row_model.specs.declared.rows.Row.{Row}
@@ -8,7 +8,7 @@ use Rattle.leaf_history.specs.Calls.{Call}
 use Rattle.leaf_history.specs.Calls as call
 use Rattle.leaf_history.specs.History.{Entry}
 use Rattle.tail_picks.specs.Room.{every_row, free_rows}
-use Rattle.tail_picks.specs.Tails.{TryOf, Tails, IsTry, TryGoesOn, pick_of, picked, sent_by, words_of}
+use Rattle.tail_picks.specs.Tails.{TryOf, Tails, TryGoesOn, pick_of, picked, sent_by, words_of}
 use Rattle.printed_lines.specs.declared.line.Said.{Said}
 use Rattle.printed_lines.specs.declared.line.Said.TheVariants.{Asked}
 use Rattle.printed_lines.specs.declared.line.Line.TheVariants as line
@@ -16,12 +16,8 @@ use Rattle.transcript.specs.Pieces.{Piece, Called, Says}
 use Rattle.transcript.specs.Shapes.{CallPiece}
 use Rattle.transcript.specs.Histories.{BaseState, rows_before}
 use Rattle.transcript.specs.Tails.{TailPieces, TryPieces, free_then, pieces_of_try, tells_added}
-use Rattle.transcript_fleet.proofs.Going.{IsWithin}
-
--- what holds of all holds of the first and of the others
-pub All-parts : {X : Type 0} (P : X → Type 0) (xs ys : List X) → AllByRecursion P (xs ++ ys) → AllByRecursion P xs × AllByRecursion P ys
-All-parts P [] ys h = (tt, h)
-All-parts P (x ∷ xs) ys h = let others = All-parts P xs ys h.1 in ((h.0, others.0), others.1)
+use Rattle.transcript_fleet.proofs.Lists.{All-parts}
+use Rattle.transcript_fleet.proofs.Going.{IsWithin, of_call}
 
 -- by another test that says the same, the tries are the same
 module _ {R : Type 0} (free other : R → Option ℕ) (is_added : R → Bool) where
@@ -58,10 +54,8 @@ module _ (leaves table tables : ℕ) (f g : ℕ → BaseState) (histories : ℕ 
   said_free leaf number c _ below within = refl
 
   free_same : (leaf : ℕ) (c : Call) (p : Piece) → leaf < leaves → CallPiece leaf table c p → IsWithin tables p → free_then f histories p ≡ free_then g histories p
-  free_same leaf c p below (inl k) within =
-      subst (λ (q : Piece). free_then f histories q ≡ free_then g histories q) (sym k.2)
-      (said_free leaf k.0 c k.1 below (subst (λ (q : Piece). IsWithin tables q) k.2 within))
-  free_same leaf c p below (inr worn) within = subst (λ (q : Piece). free_then f histories q ≡ free_then g histories q) (sym worn) refl
+  free_same leaf c p below is =
+      of_call (λ (q : Piece). IsWithin tables q → free_then f histories q ≡ free_then g histories q) leaf table c p (λ n said within. said_free leaf n c said below within) (λ within. refl) is
 
   also_same : (leaf : ℕ) (o : Option Piece) → leaf < leaves → IfSome o (CallPiece leaf table (call.Ask every_row)) → AllByRecursion (IsWithin tables) (option_to_list o)
       → option_and_then (free_then f histories) o ≡ option_and_then (free_then g histories) o

@@ -1,18 +1,20 @@
 -- What one entry of a table's legal history makes of the rows that a state of a standing query knows.
 use Rattle.std.proofs.Common.{◌≡◌, ℕ, zero, suc, ◌+◌, ◌-◌, ◌≤◌, Bool, true, false, true≢false, ◌||◌, cond, Option, Some, ℤ, int_le, int_lt, refl, sym, ap, ap₂, subst, ◌∙◌, arith}
-use Rattle.std.specs.Prelude.{if◌then◌else◌, ⊤, List, [], ◌∷◌, ◌++◌, length, take, drop, filter, slice_get, IsPermutation}
+use Rattle.std.specs.Prelude.{if◌then◌else◌, ⊤, List, [], ◌∷◌, length, take, drop, filter, slice_get}
 use Rattle.std.specs.Int.{int_max}
 use Rattle.std.specs.List.{AllByRecursion, list_any}
 use Rattle.std.proofs.lemmas.Bool.{ltb-false, true_from_ne_false}
 use Rattle.std.proofs.lemmas.Int.{ints}
 use Rattle.std.proofs.lemmas.List.{length-drop}
-use Rattle.std.proofs.lemmas.List.Elements.{All-from_recursion, recursion_from_All}
-use Rattle.std.proofs.lemmas.List.Sorted.{All-permutation}
+use Rattle.std.proofs.lemmas.List.Elements.{All-drop, All-filter, All-from_recursion, filter_passes, recursion_from_All}
+use Rattle.std.proofs.lemmas.List.Sums.{count_by-le-length, fold-append, length-filter}
+use Rattle.std.proofs.lemmas.Option.{same_Some}
+use Rattle.leaf_model.specs.declared.groups.Group.{Group}
 use Rattle.leaf_model.specs.declared.queries.Query.{Query}
 use Rattle.row_model.specs.declared.rows.Row.{Row}
 use Rattle.leaf_model.specs.declared.writes.Write.{Write}
 use Rattle.leaf_model.specs.declared.writes.Write.TheVariants as write
-use Rattle.leaf_model.specs.Content.{Contents, content_after, content_from, last_rows, rows_from}
+use Rattle.leaf_model.specs.Content.{Contents, content_after, last_rows, rows_from}
 use Rattle.row_model.specs.Values.{IsTime}
 use Rattle.leaf_history.specs.Calls.{Call}
 use Rattle.leaf_history.specs.Calls as call
@@ -24,10 +26,15 @@ use Rattle.printed_lines.specs.declared.line.Said.TheVariants as said
 use Rattle.standing_query.specs.declared.fed.Fed.{Fed}
 use Rattle.standing_query.specs.declared.fed.Fed.TheVariants as fed
 use Rattle.standing_query.specs.States.{FedTo, Means, StandingState, is_end}
+use Rattle.standing_feed.specs.declared.heard.Heard.{Heard}
+use Rattle.standing_feed.specs.declared.meant.Meant.{Meant}
+use Rattle.standing_feed.specs.declared.meant.Meant.TheVariants as meant
+use Rattle.standing_feed.specs.Hearing.{fed_by_call}
 use Rattle.transcript.specs.Histories.{BaseState, Shown, ShowsEntry, rows_before}
 use Rattle.transcript.specs.Telling.{ends_state}
 use Rattle.transcript_standing.specs.Followed.{AreTimes}
-use Rattle.transcript_standing.proofs.HeardPieces.{fed_of}
+use Rattle.transcript_standing.proofs.Lists.{All-joined}
+use Rattle.transcript_standing.proofs.HeardPieces.{fed_of, meant_of}
 use Rattle.transcript_standing.proofs.Numbers.{ShowsIn}
 
 -- ---- what a table holds
@@ -46,19 +53,6 @@ rows_behind g entries n = rows_before g entries (n + 1)
 abbrev pub NoneBelow : Contents → Type 0
 NoneBelow c = AllByRecursion (λ (row : Row). int_le c.horizon row.time ≡ true) c.rows
 
--- the rows of an add have times
-abbrev pub CallTimes : Option Call → Type 0
-CallTimes (Some (call.Add rows)) = AreTimes rows
-CallTimes _ = ⊤
-
-abbrev pub AddsTimes : Shown → Type 0
-AddsTimes s = CallTimes s.call
-
--- lines with the numbers from n + 1 on, one after another, up to m
-abbrev pub CountUp : ℕ → List Shown → ℕ → Type 0
-CountUp n [] m = m ≡ n
-CountUp n (s ∷ ss) m = (s.number ≡ n + 1) × CountUp (n + 1) ss m
-
 -- a fresh state means the rows behind the first n entries, these have times, and none of them is below the table's
 -- horizon
 abbrev pub Knows : BaseState → List Entry → ℕ → StandingState → Type 0
@@ -74,43 +68,18 @@ pub record FedBehind (g : BaseState) (entries : List Entry) (ss : List Shown) (m
 -- ---- rows
 
 module _ {X : Type 0} (P : X → Type 0) where
-  each-append : (xs ys : List X) → AllByRecursion P xs → AllByRecursion P ys → AllByRecursion P (xs ++ ys)
-  each-append [] ys a b = b
-  each-append (x ∷ xs) ys a b = (a.0, each-append xs ys a.1 b)
-
   each-drop : (n : ℕ) (xs : List X) → AllByRecursion P xs → AllByRecursion P (drop n xs)
-  each-drop zero xs a = a
-  each-drop (suc n) [] a = tt
-  each-drop (suc n) (x ∷ xs) a = each-drop n xs a.1
-
-  kept_if : (x : X) (rest : List X) (b : Bool) → P x → AllByRecursion P rest → AllByRecursion P (cond b (x ∷ rest) rest)
-  kept_if x rest true p a = (p, a)
-  kept_if x rest false p a = a
+  each-drop n xs a = recursion_from_All P (drop n xs) (All-drop P n xs (All-from_recursion P xs a))
 
   each-filter : (test : X → Bool) (xs : List X) → AllByRecursion P xs → AllByRecursion P (filter test xs)
-  each-filter test [] a = tt
-  each-filter test (x ∷ xs) a = kept_if x (filter test xs) (test x) a.0 (each-filter test xs a.1)
-
-  pub each-permutation : (xs ys : List X) → IsPermutation xs ys → AllByRecursion P xs → AllByRecursion P ys
-  each-permutation xs ys same a = recursion_from_All P ys (All-permutation P xs ys same (All-from_recursion P xs a))
+  each-filter test xs a = recursion_from_All P (filter test xs) (All-filter test P xs (All-from_recursion P xs a))
 
 -- a filter leaves what passes it, and no more than there was
-passes_if : (h : ℤ) (x : Row) (rest : List Row) (b : Bool) → int_le h x.time ≡ b → AllByRecursion (λ (row : Row). int_le h row.time ≡ true) rest
-    → AllByRecursion (λ (row : Row). int_le h row.time ≡ true) (cond b (x ∷ rest) rest)
-passes_if h x rest true is a = (is, a)
-passes_if h x rest false is a = a
-
 none_from : (h : ℤ) (rows : List Row) → AllByRecursion (λ (row : Row). int_le h row.time ≡ true) (rows_from h rows)
-none_from h [] = tt
-none_from h (x ∷ xs) = passes_if h x (rows_from h xs) (int_le h x.time) refl (none_from h xs)
-
-one_more : (x : Row) (rest : List Row) (b : Bool) (n : ℕ) → length rest ≤ n → length (cond b (x ∷ rest) rest) ≤ suc n
-one_more x rest true n h = omega arith
-one_more x rest false n h = omega arith
+none_from h rows = recursion_from_All (λ (row : Row). int_le h row.time ≡ true) (rows_from h rows) (filter_passes (λ (row : Row). int_le h row.time) rows)
 
 few_from : (h : ℤ) (rows : List Row) → length (rows_from h rows) ≤ length rows
-few_from h [] = omega arith
-few_from h (x ∷ xs) = one_more x (rows_from h xs) (int_le h x.time) (length xs) (few_from h xs)
+few_from h rows = subst (λ (n : ℕ). n ≤ length rows) (sym (length-filter (λ (row : Row). int_le h row.time) rows)) (count_by-le-length (λ (row : Row). int_le h row.time) rows)
 
 -- where nothing is below the old horizon, an expiry removes what is below its own
 same_test : (before horizon time : ℤ) → int_le before time ≡ true → int_le (int_max before horizon) time ≡ int_le horizon time
@@ -145,13 +114,19 @@ stays c d before now other same below = record {
   none_below = subst (λ (x : Contents). NoneBelow x) (sym same) below;
 }
 
-last_write : (c : Contents) (writes : List Write) (w : Write) → content_from c (writes ++ w ∷ []) ≡ content_after (content_from c writes) w
-last_write c [] w = refl
-last_write c (v ∷ writes) w = last_write (content_after c v) writes w
-
 -- one more write
 wrote : (s : HistoryState) (w : Write) (c : Option Call) (d : Said) → Step c d (contents_held s) (content_after (contents_held s) w) → Step c d (contents_held s) (contents_held (written s w))
-wrote s w c d step = subst (λ (x : Contents). Step c d (contents_held s) x) (sym (last_write s.before s.writes w)) step
+wrote s w c d step = subst (λ (x : Contents). Step c d (contents_held s) x) (sym (fold-append content_after s.before s.writes (w ∷ []))) step
+
+-- an entry of a steward is answered so, and none of a caller
+pub added_noted : (kept late : ℕ) → reply.Added kept late ≡ reply.Noted → ⊥
+added_noted kept late e = cc
+
+removed_noted : (n : ℕ) → reply.Removed n ≡ reply.Noted → ⊥
+removed_noted n e = cc
+
+groups_noted : (gs : List Group) → reply.Groups gs ≡ reply.Noted → ⊥
+groups_noted gs e = cc
 
 module _ (founded : Bool) (s : HistoryState) (caller : ℕ) where
   added : (c : Call) (kept late : ℕ) → Allowed founded s caller c (reply.Added kept late) → NoneBelow (contents_held s) → Step (Some c) (said.Added kept late) (contents_held s) (contents_held (changed founded s c))
@@ -160,20 +135,12 @@ module _ (founded : Bool) (s : HistoryState) (caller : ℕ) where
       let many : late + length (rows_from (contents_held s).horizon rows) ≡ length rows = omega (arith, few, a.1.3) in
       wrote s (write.Add rows) (Some (call.Add rows)) (said.Added kept late) (record {
         feeds = ((contents_held s).horizon, many, refl);
-        none_below = each-append (λ (row : Row). int_le (contents_held s).horizon row.time ≡ true) (contents_held s).rows (rows_from (contents_held s).horizon rows) below (none_from (contents_held s).horizon rows);
+        none_below = All-joined (λ (row : Row). int_le (contents_held s).horizon row.time ≡ true) (contents_held s).rows (rows_from (contents_held s).horizon rows) below (none_from (contents_held s).horizon rows);
       })
-  added (call.Expire horizon) kept late a below = absurd a.1
-  added (call.Keep n) kept late a below = absurd a.1
-  added (call.Ask q) kept late a below = absurd a.1
-  added call.Take kept late a below = absurd a.2
-  added (call.Flushed n) kept late a below = let wrong = a.2 in absurd cc
-  added call.Shut kept late a below = absurd a.2
-  added call.Done kept late a below = let wrong = a.2 in absurd cc
-  added (call.Open n contents) kept late a below = let wrong = a.3 in absurd cc
+  added _ kept late a below = absurd (search (a, added_noted kept late))
 
   removed : (c : Call) (n : ℕ) → Allowed founded s caller c (reply.Removed n) → is_end (fed_of (Some c) (said.Removed n)) ≡ false → NoneBelow (contents_held s)
       → Step (Some c) (said.Removed n) (contents_held s) (contents_held (changed founded s c))
-  removed (call.Add rows) n a on below = absurd a.1
   removed (call.Expire horizon) n a on below =
       wrote s (write.Expire horizon) (Some (call.Expire horizon)) (said.Removed n) (record {
         feeds = expires (contents_held s).horizon horizon (contents_held s).rows below;
@@ -184,46 +151,24 @@ module _ (founded : Bool) (s : HistoryState) (caller : ℕ) where
         feeds = keeps_all n k (contents_held s).rows a.1.1 (ltb-false 0 n on);
         none_below = each-drop (λ (row : Row). int_le (contents_held s).horizon row.time ≡ true) (length (contents_held s).rows - k) (contents_held s).rows below;
       })
-  removed (call.Ask q) n a on below = absurd a.1
-  removed call.Take n a on below = absurd a.2
-  removed (call.Flushed k) n a on below = let wrong = a.2 in absurd cc
-  removed call.Shut n a on below = absurd a.2
-  removed call.Done n a on below = let wrong = a.2 in absurd cc
-  removed (call.Open k contents) n a on below = let wrong = a.3 in absurd cc
+  removed _ n a on below = absurd (search (a, removed_noted n))
 
-  asked : (c : Call) (gs : _) → Allowed founded s caller c (reply.Groups gs) → NoneBelow (contents_held s) → Step (Some c) said.Asked (contents_held s) (contents_held (changed founded s c))
-  asked (call.Add rows) gs a below = absurd a.1
-  asked (call.Expire horizon) gs a below = absurd a.1
-  asked (call.Keep k) gs a below = absurd a.1
+  asked : (c : Call) (gs : List Group) → Allowed founded s caller c (reply.Groups gs) → NoneBelow (contents_held s) → Step (Some c) said.Asked (contents_held s) (contents_held (changed founded s c))
   asked (call.Ask q) gs a below = stays (Some (call.Ask q)) said.Asked (contents_held s) (contents_held s) refl refl below
-  asked call.Take gs a below = absurd a.2
-  asked (call.Flushed k) gs a below = let wrong = a.2 in absurd cc
-  asked call.Shut gs a below = absurd a.2
-  asked call.Done gs a below = let wrong = a.2 in absurd cc
-  asked (call.Open k contents) gs a below = let wrong = a.3 in absurd cc
+  asked _ gs a below = absurd (search (a, groups_noted gs))
 
 -- refusals tell nothing
-refused_shut : (c : Call) → fed_of (Some c) said.RefusedShut ≡ fed.Other
-refused_shut (call.Add rows) = refl
-refused_shut _ = refl
-
-refused_full : (c : Call) → fed_of (Some c) said.RefusedFull ≡ fed.Other
-refused_full (call.Add rows) = refl
-refused_full _ = refl
-
-refused_memory : (c : Call) → fed_of (Some c) said.RefusedMemory ≡ fed.Other
-refused_memory (call.Add rows) = refl
-refused_memory _ = refl
+refused : (m : Meant) → (fed_by_call m said.RefusedShut ≡ fed.Other) × (fed_by_call m said.RefusedFull ≡ fed.Other) × (fed_by_call m said.RefusedMemory ≡ fed.Other)
+refused (meant.Add rows) = (refl, refl, refl)
+refused _ = (refl, refl, refl)
 
 -- a caller's entry, by its call and its reply
 called : (founded : Bool) (s : HistoryState) (e : Entry) (c : Option Call) (d : Said) (r : EntryReply) → c ≡ Some e.call → e.reply ≡ r
-    → Step (Some e.call) d (contents_held s) (contents_held (if is_refusal r then s else changed founded s e.call)) → Step c d (contents_held s) (contents_held (after_entry founded s e))
+    → (Allowed founded s e.caller e.call r → Step (Some e.call) d (contents_held s) (contents_held (if is_refusal r then s else changed founded s e.call)))
+    → Allowed founded s e.caller e.call e.reply → Step c d (contents_held s) (contents_held (after_entry founded s e))
 called founded s e c d r is replied step =
-    subst (λ (o : Option Call). Step o d (contents_held s) (contents_held (after_entry founded s e))) (sym is)
-    (subst (λ (q : EntryReply). Step (Some e.call) d (contents_held s) (contents_held (if is_refusal q then s else changed founded s e.call))) (sym replied) step)
-
-replied_as : (founded : Bool) (s : HistoryState) (e : Entry) (r : EntryReply) → e.reply ≡ r → Allowed founded s e.caller e.call e.reply → Allowed founded s e.caller e.call r
-replied_as founded s e r is a = subst (λ (q : EntryReply). Allowed founded s e.caller e.call q) is a
+    subst (λ (q : EntryReply). Allowed founded s e.caller e.call q → Step c d (contents_held s) (contents_held (if is_refusal q then s else changed founded s e.call))) (sym replied)
+    (subst (λ (o : Option Call). Allowed founded s e.caller e.call r → Step o d (contents_held s) (contents_held (if is_refusal r then s else changed founded s e.call))) (sym is) step)
 
 called_as : (founded : Bool) (s : HistoryState) (e : Entry) (c : Call) → e.call ≡ c → Allowed founded s e.caller e.call e.reply → Allowed founded s e.caller c e.reply
 called_as founded s e c is a = subst (λ (k : Call). Allowed founded s e.caller k e.reply) is a
@@ -236,18 +181,18 @@ left_by founded s e c r is replied = ap₂ (λ (k : Call) (q : EntryReply). cont
 entry_step : (founded : Bool) (s : HistoryState) (e : Entry) (c : Option Call) (d : Said) → Allowed founded s e.caller e.call e.reply → ShowsEntry c d e
     → is_end (fed_of c d) ≡ false → NoneBelow (contents_held s) → Step c d (contents_held s) (contents_held (after_entry founded s e))
 entry_step founded s e c (said.Added kept late) a shows on below =
-    called founded s e c (said.Added kept late) (reply.Added kept late) shows.0 shows.1 (added founded s e.caller e.call kept late (replied_as founded s e (reply.Added kept late) shows.1 a) below)
+    called founded s e c (said.Added kept late) (reply.Added kept late) shows.0 shows.1 (λ allowed. added founded s e.caller e.call kept late allowed below) a
 entry_step founded s e c (said.Removed n) a shows on below =
     called founded s e c (said.Removed n) (reply.Removed n) shows.0 shows.1
-    (removed founded s e.caller e.call n (replied_as founded s e (reply.Removed n) shows.1 a) (subst (λ (o : Option Call). is_end (fed_of o (said.Removed n)) ≡ false) shows.0 on) below)
+    (λ allowed. removed founded s e.caller e.call n allowed (subst (λ (o : Option Call). is_end (fed_of o (said.Removed n)) ≡ false) shows.0 on) below) a
 entry_step founded s e c said.Asked a shows on below =
-    called founded s e c said.Asked (reply.Groups shows.1.0) shows.0 shows.1.1 (asked founded s e.caller e.call shows.1.0 (replied_as founded s e (reply.Groups shows.1.0) shows.1.1 a) below)
+    called founded s e c said.Asked (reply.Groups shows.1.0) shows.0 shows.1.1 (λ allowed. asked founded s e.caller e.call shows.1.0 allowed below) a
 entry_step founded s e c said.RefusedShut a shows on below =
-    called founded s e c said.RefusedShut reply.Shut shows.0 shows.1 (stays (Some e.call) said.RefusedShut (contents_held s) (contents_held s) (refused_shut e.call) refl below)
+    called founded s e c said.RefusedShut reply.Shut shows.0 shows.1 (λ allowed. stays (Some e.call) said.RefusedShut (contents_held s) (contents_held s) (refused (meant_of e.call)).0 refl below) a
 entry_step founded s e c said.RefusedFull a shows on below =
-    called founded s e c said.RefusedFull reply.Full shows.0 shows.1 (stays (Some e.call) said.RefusedFull (contents_held s) (contents_held s) (refused_full e.call) refl below)
+    called founded s e c said.RefusedFull reply.Full shows.0 shows.1 (λ allowed. stays (Some e.call) said.RefusedFull (contents_held s) (contents_held s) (refused (meant_of e.call)).1 refl below) a
 entry_step founded s e c said.RefusedMemory a shows on below =
-    called founded s e c said.RefusedMemory reply.NoMemory shows.0 shows.1 (stays (Some e.call) said.RefusedMemory (contents_held s) (contents_held s) (refused_memory e.call) refl below)
+    called founded s e c said.RefusedMemory reply.NoMemory shows.0 shows.1 (λ allowed. stays (Some e.call) said.RefusedMemory (contents_held s) (contents_held s) (refused (meant_of e.call)).2 refl below) a
 entry_step founded s e c (said.Opened n) a shows on below = absurd (true≢false on)
 entry_step founded s e c (said.Closed n) a shows on below = absurd (true≢false on)
 entry_step founded s e c (said.Took n) a shows on below =
@@ -259,15 +204,12 @@ entry_step founded s e c said.Handed a shows on below =
 
 -- ---- entries of a history
 
-same_some : {X : Type 0} (x y : X) → Some x ≡ Some y → x ≡ y
-same_some x y e = cc
-
 -- the entry in a place of a legal history, and the state behind it
-entry_at : (founded : Bool) (s : HistoryState) (entries : List Entry) (i : ℕ) (e : Entry) → LegalFrom founded s entries → slice_get entries i ≡ Some e
+pub entry_at : (founded : Bool) (s : HistoryState) (entries : List Entry) (i : ℕ) (e : Entry) → LegalFrom founded s entries → slice_get entries i ≡ Some e
     → Allowed founded (after founded s (take i entries)) e.caller e.call e.reply × (after founded s (take (suc i) entries) ≡ after_entry founded (after founded s (take i entries)) e)
 entry_at founded s [] i e legal at = absurd cc
 entry_at founded s (x ∷ xs) zero e legal at =
-    subst (λ (y : Entry). Allowed founded s y.caller y.call y.reply × (after_entry founded s x ≡ after_entry founded s y)) (same_some x e at) (legal.0, refl)
+    subst (λ (y : Entry). Allowed founded s y.caller y.call y.reply × (after_entry founded s x ≡ after_entry founded s y)) (same_Some x e at) (legal.0, refl)
 entry_at founded s (x ∷ xs) (suc i) e legal at = entry_at founded (after_entry founded s x) xs i e legal.1 at
 
 behind_is : (g : BaseState) (entries : List Entry) (n k : ℕ) → n + 1 - 1 ≡ k → contents_behind g entries n ≡ contents_held (after g.founded g.base (take k entries))
@@ -285,18 +227,6 @@ step_at g entries s k legal shows number on below =
     let step = entry_step g.founded state e s.call s.said at.0 shows.1.2 on (subst (λ (x : Contents). NoneBelow x) first below) in
     subst (λ (x : Contents). Step s.call s.said x (contents_behind g entries (k + 1))) (sym first)
     (subst (λ (x : Contents). Step s.call s.said (contents_held state) x) (sym (next ∙ ap (λ (x : HistoryState). contents_held x) at.1)) step)
-
--- the same with the entry's own number
-step_of : (g : BaseState) (entries : List Entry) (s : Shown) → LegalFrom g.founded g.base entries → ShowsIn entries s → is_end (fed_of s.call s.said) ≡ false
-    → NoneBelow (contents_behind g entries (s.number - 1)) → Step s.call s.said (contents_behind g entries (s.number - 1)) (contents_behind g entries s.number)
-step_of g entries s legal shows on below =
-    let number : s.number ≡ s.number - 1 + 1 = omega (arith, shows.0) in
-    subst (λ (n : ℕ). Step s.call s.said (contents_behind g entries (s.number - 1)) (contents_behind g entries n)) (sym number) (step_at g entries s (s.number - 1) legal shows number on below)
-
--- one entry: its saying tells what it makes of the rows, unless it ends the state
-pub fed_to : (g : BaseState) (entries : List Entry) (s : Shown) → LegalFrom g.founded g.base entries → ShowsIn entries s → is_end (fed_of s.call s.said) ≡ false
-    → NoneBelow (contents_behind g entries (s.number - 1)) → FedTo (fed_of s.call s.said) (rows_behind g entries (s.number - 1)) (rows_behind g entries s.number)
-fed_to g entries s legal shows on below = (step_of g entries s legal shows on below).feeds
 
 -- an ask that was answered leaves what the table holds
 some_call : (c c' : Call) → Some c ≡ Some c' → c' ≡ c
@@ -323,20 +253,18 @@ is_end_of s = end_is s.call s.said
 
 -- ---- times
 
-abbrev FedTimes : Fed → Type 0
+-- the rows of an add have times
+abbrev pub FedTimes : Fed → Type 0
 FedTimes (fed.Added rows late) = AreTimes rows
 FedTimes _ = ⊤
 
-pub fed_times : (c : Option Call) (d : Said) → CallTimes c → FedTimes (fed_of c d)
-fed_times c (said.Opened n) t = tt
-fed_times (Some (call.Add rows)) (said.Added kept late) t = t
-fed_times (Some (call.Add rows)) _ t = tt
-fed_times _ _ t = tt
+abbrev pub HaveTimes : List Heard → Type 0
+HaveTimes hs = AllByRecursion (λ (h : Heard). FedTimes h.fed) hs
 
 pub times_fed : (f : Fed) (before now : List Row) → FedTimes f → FedTo f before now → AreTimes before → AreTimes now
 times_fed (fed.Added rows late) before now new to times =
     subst (λ (rs : List Row). AreTimes rs) (sym to.2)
-    (each-append (λ (row : Row). IsTime row.time) before (rows_from to.0 rows) times (each-filter (λ (row : Row). IsTime row.time) (λ (row : Row). int_le to.0 row.time) rows new))
+    (All-joined (λ (row : Row). IsTime row.time) before (rows_from to.0 rows) times (each-filter (λ (row : Row). IsTime row.time) (λ (row : Row). int_le to.0 row.time) rows new))
 times_fed (fed.Expired horizon) before now new to times =
     subst (λ (rs : List Row). AreTimes rs) (sym to) (each-filter (λ (row : Row). IsTime row.time) (λ (row : Row). int_le horizon row.time) before times)
 times_fed _ before now new to times = subst (λ (rs : List Row). AreTimes rs) (sym to) times

@@ -1,6 +1,6 @@
 -- Standing queries follow the items of a run, one after another.
-use Rattle.std.proofs.Common.{◌≡◌, ℕ, zero, suc, ◌<◌, List, [], ◌∷◌, ◌++◌, refl, sym, ap, subst, ◌∙◌, arith, length, Some}
-use Rattle.std.specs.Prelude.{◌-◌, int_le, slice_get, take, true}
+use Rattle.std.proofs.Common.{◌≡◌, ℕ, ◌<◌, List, [], ◌∷◌, ◌++◌, refl, sym, ap, subst, ◌∙◌, arith, length}
+use Rattle.std.specs.Prelude.{◌-◌, int_le, take, true}
 use Rattle.row_model.specs.declared.rows.Row.{Row}
 use Rattle.leaf_model.specs.Content.{Contents}
 use Rattle.std.specs.List.{AllByRecursion}
@@ -16,16 +16,8 @@ use Rattle.script_text.specs.Commands.{leaf_count}
 use Rattle.transcript.specs.Pieces.{Piece, PlayedItem, One, Burst}
 use Rattle.transcript.specs.Histories.{BaseState}
 use Rattle.transcript_standing.specs.Followed.{AreFollowers, AreTimes, DoesItself, FollowedAll, FollowsItem, IsFollower, TellsItself, held_before}
+use Rattle.transcript_standing.proofs.Lists.{each_at}
 use Rattle.transcript_standing.specs.Laws.{FollowOn, FollowToEnd, FollowToStop}
-
--- the element at a place
-pub each_at : {X : Type 0} (P : X → Type 0) (xs : List X) → AllByRecursion P xs → (i : ℕ) (x : X) → slice_get xs i ≡ Some x → P x
-each_at P [] all i x at = absurd cc
-each_at P (y ∷ ys) all zero x at = subst P (here y x at) all.0
-  where
-    here : {X : Type 0} (a b : X) → Some a ≡ Some b → a ≡ b
-    here a b e = cc
-each_at P (y ∷ ys) all (suc i) x at = each_at P ys all.1 i x at
 
 module _ (fleet : FleetShape) (base_states : ℕ → ℕ → BaseState) (histories : ℕ → ℕ → List Entry) where
   one_more : (items : List PlayedItem) (x : PlayedItem) (olds news behind : List Follower) → FollowedAll fleet base_states histories items olds news

@@ -17,8 +17,9 @@ use Rattle.standing_feed.specs.Following as following
 use Rattle.transcript.specs.Histories.{BaseState, Shown}
 use Rattle.transcript.specs.Telling.{ends_state}
 use Rattle.transcript_standing.proofs.HeardPieces.{fed_of, heard_of}
-use Rattle.transcript_standing.proofs.Numbers.{ShowsIn}
-use Rattle.transcript_standing.proofs.Feeding.{AddsTimes, CountUp, FedBehind, Knows, each-permutation, fed_times, is_end_of, rows_behind, step_at, times_fed}
+use Rattle.transcript_standing.proofs.Lists.{All-reordered, same_first, same_rest}
+use Rattle.transcript_standing.proofs.Numbers.{CountUp, ShowsIn}
+use Rattle.transcript_standing.proofs.Feeding.{FedBehind, FedTimes, HaveTimes, Knows, is_end_of, rows_behind, step_at, times_fed}
 
 -- ---- entries one after another
 
@@ -28,40 +29,22 @@ next_fed s h t at (following.known le same) = absurd (omega (arith, at, le))
 next_fed s h t at (following.next is feeds) = feeds
 next_fed s h t at (following.missed far lost) = absurd (omega (arith, at, far))
 
-no_first : (h : Heard) (others : List Heard) → [] ≡ h ∷ others → ⊥
-no_first h others e = cc
-
-first_same : (h h' : Heard) (others others' : List Heard) → h ∷ others ≡ h' ∷ others' → (h ≡ h') × (others ≡ others')
-first_same h h' others others' e = (cc, cc)
-
-nothing_heeded : (s : StandingState) (hs : List Heard) (t : StandingState) → HeedsAll s hs t → hs ≡ [] → t ≡ s
-nothing_heeded s hs t (following.none a b c empty same) is = same
-nothing_heeded s hs t (following.more a b c h others between one rest are) is = absurd (no_first h others (sym is ∙ are))
-
-first_heeded : (s : StandingState) (hs : List Heard) (t : StandingState) (h : Heard) (others : List Heard) → HeedsAll s hs t → hs ≡ h ∷ others
-    → (between : StandingState) × Heeds s h between × HeedsAll between others t
-first_heeded s hs t h others (following.none a b c empty same) is = absurd (no_first h others (sym empty ∙ is))
-first_heeded s hs t h others (following.more a b c h' others' between one rest are) is =
-    let both = first_same h' h others' others (sym are ∙ is) in
-    (between, subst (λ (x : Heard). Heeds a x between) both.0 one, subst (λ (xs : List Heard). HeedsAll between xs c) both.1 rest)
-
-one_on : (g : BaseState) (entries : List Entry) → LegalFrom g.founded g.base entries → (x : Shown) (k : ℕ) (s t : StandingState) → x.number ≡ k + 1 → ShowsIn entries x → AddsTimes x
+one_on : (g : BaseState) (entries : List Entry) → LegalFrom g.founded g.base entries → (x : Shown) (k : ℕ) (s t : StandingState) → x.number ≡ k + 1 → ShowsIn entries x → FedTimes (fed_of x.call x.said)
     → (s.stale ≡ false → Knows g entries k s) → FeedsTo s (heard_of x) t → t.stale ≡ false → Knows g entries (k + 1) t
 one_on g entries legal x k s t number shows adds now feeds fresh =
     let both = or_parts s.stale (is_end (fed_of x.call x.said)) (sym feeds.stale ∙ fresh) in
     let was = now both.0 in
     let step = step_at g entries x k legal shows number both.1 was.2 in (
       feeds.means (rows_behind g entries k) (rows_behind g entries (k + 1)) was.0 step.feeds fresh,
-      times_fed (fed_of x.call x.said) (rows_behind g entries k) (rows_behind g entries (k + 1)) (fed_times x.call x.said adds) step.feeds was.1,
+      times_fed (fed_of x.call x.said) (rows_behind g entries k) (rows_behind g entries (k + 1)) adds step.feeds was.1,
       step.none_below,
     )
 
 pub heeds_all_on : (g : BaseState) (entries : List Entry) → LegalFrom g.founded g.base entries → (ss : List Shown) (k m : ℕ) (s t : StandingState)
-    → CountUp k ss m → AllByRecursion (ShowsIn entries) ss → AllByRecursion AddsTimes ss
+    → CountUp k ss m → AllByRecursion (ShowsIn entries) ss → HaveTimes (map heard_of ss)
     → s.upto ≡ k → (s.stale ≡ false → Knows g entries k s)
     → HeedsAll s (map heard_of ss) t → FedBehind g entries ss m s t
-heeds_all_on g entries legal [] k m s t count shows adds at now heeds =
-    let same : t ≡ s = nothing_heeded s [] t heeds refl in
+heeds_all_on g entries legal [] k m s t count shows adds at now (following.none a b c empty same) =
     let stale : t.stale ≡ s.stale = ap (λ (x : StandingState). x.stale) same in
     record {
       upto = ap (λ (x : StandingState). x.upto) same ∙ (at ∙ sym count);
@@ -70,17 +53,20 @@ heeds_all_on g entries legal [] k m s t count shows adds at now heeds =
       means = λ fresh.
           subst (λ (x : StandingState). Knows g entries m x) (sym same) (subst (λ (n : ℕ). Knows g entries n s) (sym count) (now (sym stale ∙ fresh)));
     }
-heeds_all_on g entries legal (x ∷ ss) k m s t count shows adds at now heeds =
-    let first = first_heeded s (map heard_of (x ∷ ss)) t (heard_of x) (map heard_of ss) heeds refl in
+heeds_all_on g entries legal [] k m s t count shows adds at now (following.more a b c h others between one rest is) = absurd cc
+heeds_all_on g entries legal (x ∷ ss) k m s t count shows adds at now (following.none a b c empty same) = absurd cc
+heeds_all_on g entries legal (x ∷ ss) k m s t count shows adds at now (following.more a b c h others between one rest is) =
     let number : x.number ≡ s.upto + 1 = omega (arith, count.0, at) in
-    let feeds = next_fed s (heard_of x) first.0 number first.1 in
-    let others = list_any (λ (e : Shown). ends_state e.call e.said) ss in
-    let stale : first.0.stale ≡ (s.stale || ends_state x.call x.said) = feeds.stale ∙ ap (λ (b : Bool). s.stale || b) (is_end_of x) in
-    let behind = heeds_all_on g entries legal ss (k + 1) m first.0 t count.1 shows.1 adds.1 (feeds.upto ∙ count.0) (one_on g entries legal x k s first.0 count.0 shows.0 adds.0 now feeds) first.2 in
+    let first : Heeds s (heard_of x) between = subst (λ (y : Heard). Heeds s y between) (sym (same_first (heard_of x) h (map heard_of ss) others is)) one in
+    let later : HeedsAll between (map heard_of ss) t = subst (λ (hs : List Heard). HeedsAll between hs t) (sym (same_rest (heard_of x) h (map heard_of ss) others is)) rest in
+    let feeds = next_fed s (heard_of x) between number first in
+    let ended = list_any (λ (e : Shown). ends_state e.call e.said) ss in
+    let stale : between.stale ≡ (s.stale || ends_state x.call x.said) = feeds.stale ∙ ap (λ (b : Bool). s.stale || b) (is_end_of x) in
+    let behind = heeds_all_on g entries legal ss (k + 1) m between t count.1 shows.1 adds.1 (feeds.upto ∙ count.0) (one_on g entries legal x k s between count.0 shows.0 adds.0 now feeds) later in
     record {
       upto = behind.upto;
       query = behind.query ∙ feeds.query;
-      stale = behind.stale ∙ (ap (λ (b : Bool). b || others) stale ∙ or_assoc s.stale (ends_state x.call x.said) others);
+      stale = behind.stale ∙ (ap (λ (b : Bool). b || ended) stale ∙ or_assoc s.stale (ends_state x.call x.said) ended);
       means = behind.means;
     }
 
@@ -114,14 +100,15 @@ ascend_on zs up i j d le lt =
     omega (arith, here, there, at)
 
 pub heeds_on : (g : BaseState) (entries : List Entry) → LegalFrom g.founded g.base entries → (ss : List Shown) (k m : ℕ) (s t : StandingState)
-    → ((zs : List Shown) → IsPermutation ss zs → IsNonDecreasingBy (λ (z : Shown). z.number) zs → CountUp k zs m) → AllByRecursion (ShowsIn entries) ss → AllByRecursion AddsTimes ss
+    → ((zs : List Shown) → IsPermutation ss zs → IsNonDecreasingBy (λ (z : Shown). z.number) zs → CountUp k zs m) → AllByRecursion (ShowsIn entries) ss → HaveTimes (map heard_of ss)
     → s.upto ≡ k → (s.stale ≡ false → Knows g entries k s)
     → HeedsInOrder s (map heard_of ss) t → FedBehind g entries ss m s t
 heeds_on g entries legal ss k m s t numbers shows adds at now heeds =
     let placed = mapped_permutation heard_of ss heeds.in_order heeds.same in
     let count = numbers placed.0 placed.1 (ascend_on placed.0 (subst (λ (hs : List Heard). Ascend hs) placed.2 heeds.ascend)) in
     let behind = heeds_all_on g entries legal placed.0 k m s t count
-    (each-permutation (ShowsIn entries) ss placed.0 placed.1 shows) (each-permutation AddsTimes ss placed.0 placed.1 adds) at now
+    (All-reordered (ShowsIn entries) ss placed.0 placed.1 shows)
+    (subst HaveTimes placed.2 (All-reordered (λ (h : Heard). FedTimes h.fed) (map heard_of ss) heeds.in_order heeds.same adds)) at now
     (subst (λ (hs : List Heard). HeedsAll s hs t) placed.2 heeds.heeds) in
     record {
       upto = behind.upto;

@@ -1,6 +1,5 @@
 pub mod Lists
 pub mod Following
-pub mod Counting
 pub mod Numbers
 pub mod HeardPieces
 pub mod HeardQueries

@@ -1,30 +1,35 @@
 -- Elements of lists at their places, and what holds of each.
-use Rattle.std.proofs.Common.{◌≡◌, ℕ, zero, suc, ◌<◌, List, [], ◌∷◌, ◌++◌, length, map, refl, sym, ap, subst, arith, Bool, true, false, Some}
-use Rattle.std.specs.Prelude.{slice_get, slice_set, bytes_eq, cond}
+use Rattle.std.proofs.Common.{◌≡◌, ℕ, zero, suc, ◌<◌, List, [], ◌∷◌, ◌++◌, length, map, refl, sym, ap, subst, ◌∙◌, arith, Bool, true, false, Some}
+use Rattle.std.specs.Prelude.{IsPermutation, option_map, slice_get, slice_set, bytes_eq, cond}
 use Rattle.std.specs.List.{AllByRecursion}
+use Rattle.std.proofs.lemmas.List.Elements.{All-from_recursion, recursion_from_All}
+use Rattle.std.proofs.lemmas.List.Sorted.{All-permutation}
+use Rattle.std.proofs.lemmas.Option.{same_Some, slice_get-map}
 use Rattle.std.proofs.lemmas.Slice.Eq.{bytes_eq-Decides}
 use Rattle.transcript.specs.Pieces.{place_among}
 
-pub same_some : {X : Type 0} (a b : X) → Some a ≡ Some b → a ≡ b
-same_some a b e = cc
+pub same_first : {X : Type 0} (a b : X) (us vs : List X) → a ∷ us ≡ b ∷ vs → a ≡ b
+same_first a b us vs e = cc
+
+pub same_rest : {X : Type 0} (a b : X) (us vs : List X) → a ∷ us ≡ b ∷ vs → us ≡ vs
+same_rest a b us vs e = cc
 
 module _ {X : Type 0} (P : X → Type 0) where
   pub All-joined : (xs ys : List X) → AllByRecursion P xs → AllByRecursion P ys → AllByRecursion P (xs ++ ys)
   All-joined [] ys a b = b
   All-joined (x ∷ xs) ys a b = (a.0, All-joined xs ys a.1 b)
 
-  pub All-front : (xs ys : List X) → AllByRecursion P (xs ++ ys) → AllByRecursion P xs
-  All-front [] ys a = tt
-  All-front (x ∷ xs) ys a = (a.0, All-front xs ys a.1)
+  pub All-both : (xs ys : List X) → AllByRecursion P (xs ++ ys) → AllByRecursion P xs × AllByRecursion P ys
+  All-both [] ys a = (tt, a)
+  All-both (x ∷ xs) ys a = let others = All-both xs ys a.1 in ((a.0, others.0), others.1)
 
-  pub All-back : (xs ys : List X) → AllByRecursion P (xs ++ ys) → AllByRecursion P ys
-  All-back [] ys a = a
-  All-back (x ∷ xs) ys a = All-back xs ys a.1
+  pub All-reordered : (xs ys : List X) → IsPermutation xs ys → AllByRecursion P xs → AllByRecursion P ys
+  All-reordered xs ys same a = recursion_from_All P ys (All-permutation P xs ys same (All-from_recursion P xs a))
 
   -- the element at a place
   pub each_at : (xs : List X) → AllByRecursion P xs → (i : ℕ) (x : X) → slice_get xs i ≡ Some x → P x
   each_at [] all i x at = absurd cc
-  each_at (y ∷ ys) all zero x at = subst P (same_some y x at) all.0
+  each_at (y ∷ ys) all zero x at = subst P (same_Some y x at) all.0
   each_at (y ∷ ys) all (suc i) x at = each_at ys all.1 i x at
 
 -- what follows for each
@@ -45,14 +50,9 @@ module _ {X : Type 0} where
   get_beside_set (z ∷ zs) (suc i) zero y apart = refl
   get_beside_set (z ∷ zs) (suc i) (suc j) y apart = get_beside_set zs i j y (λ e. apart (ap suc e))
 
-  pub length_of_set : (xs : List X) (i : ℕ) (y : X) → length (slice_set xs i y) ≡ length xs
-  length_of_set [] i y = refl
-  length_of_set (z ∷ zs) zero y = refl
-  length_of_set (z ∷ zs) (suc i) y = ap suc (length_of_set zs i y)
-
   -- in a list with one more behind
   pub get_behind : (xs : List X) (y : X) (i : ℕ) (x : X) → slice_get (xs ++ y ∷ []) i ≡ Some x → (i < length xs → ⊥) → (i ≡ length xs) × (y ≡ x)
-  get_behind [] y zero x at past = (refl, same_some y x at)
+  get_behind [] y zero x at past = (refl, same_Some y x at)
   get_behind [] y (suc i) x at past = absurd cc
   get_behind (z ∷ zs) y zero x at past = absurd (past (omega arith))
   get_behind (z ∷ zs) y (suc i) x at past =
@@ -64,23 +64,13 @@ module _ {X : Type 0} where
   get_before (z ∷ zs) ys zero l = refl
   get_before (z ∷ zs) ys (suc i) l = get_before zs ys i (omega (arith, l))
 
-  -- a place with an element is within
-  pub place_within : (xs : List X) (i : ℕ) (x : X) → slice_get xs i ≡ Some x → i < length xs
-  place_within [] i x at = absurd cc
-  place_within (z ∷ zs) zero x at = omega arith
-  place_within (z ∷ zs) (suc i) x at =
-      let l = place_within zs i x at in
-      omega (arith, l)
-
 pub get_mapped : {X Y : Type 0} (f : X → Y) (xs : List X) (i : ℕ) (x : X) → slice_get xs i ≡ Some x → slice_get (map f xs) i ≡ Some (f x)
-get_mapped f [] i x at = absurd cc
-get_mapped f (z ∷ zs) zero x at = ap (λ y. Some (f y)) (same_some z x at)
-get_mapped f (z ∷ zs) (suc i) x at = get_mapped f zs i x at
+get_mapped f xs i x at = slice_get-map f xs i ∙ ap (option_map f) at
 
 -- an element of a mapped list comes from one
 pub get_unmapped : {X Y : Type 0} (f : X → Y) (xs : List X) (i : ℕ) (y : Y) → slice_get (map f xs) i ≡ Some y → (x : X) × (slice_get xs i ≡ Some x) × (f x ≡ y)
 get_unmapped f [] i y at = absurd cc
-get_unmapped f (z ∷ zs) zero y at = (z, refl, same_some (f z) y at)
+get_unmapped f (z ∷ zs) zero y at = (z, refl, same_Some (f z) y at)
 get_unmapped f (z ∷ zs) (suc i) y at = get_unmapped f zs i y at
 
 -- the name at the place of a name that there is

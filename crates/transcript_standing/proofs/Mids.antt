@@ -1,12 +1,13 @@
 -- What each standing query is behind a command that declares or tells one, before it follows the lines.
-use Rattle.std.proofs.Common.{◌≡◌, ◌⊎◌, inl, inr, ℕ, zero, suc, ◌+◌, ◌≤◌, ◌||◌, Bool, true, false, List, [], ◌∷◌, ◌++◌, length, map, refl, sym, ap, ap₂, subst, ◌∙◌, arith, eq-eqb, eqb-true, Option, Some}
+use Rattle.std.proofs.Common.{◌≡◌, inl, inr, ℕ, zero, suc, ◌+◌, ◌≤◌, ◌||◌, Bool, true, false, true≢false, List, [], ◌∷◌, ◌++◌, length, map, refl, sym, ap, ap₂, subst, ◌∙◌, arith, eq-eqb, eqb-true, Option, Some}
 use Rattle.std.specs.Prelude.{if◌then◌else◌, nat_lt, option_to_list, not, slice_get, slice_set, ◌&&◌, ◌==◌}
 use Rattle.std.specs.List.{AllByRecursion, flat_map, list_any}
-use Rattle.std.specs.List.Sorted.{IsNonDecreasingBy}
-use Rattle.std.proofs.lemmas.Bool.{ltb-false, ltb-true}
+use Rattle.std.proofs.Math.Bool.{and-false}
+use Rattle.std.proofs.lemmas.Bool.{eqb-false, ltb-false, ltb-true}
 use Rattle.std.proofs.lemmas.Grind.{flat_map-append}
 use Rattle.std.proofs.lemmas.List.{append-nil}
-use Rattle.std.proofs.lemmas.List.Sorted.{IsPermutation-refl}
+use Rattle.std.proofs.lemmas.List.Sorted.{IsNonDecreasingBy-short, IsPermutation-refl}
+use Rattle.std.proofs.lemmas.Option.{same_Some}
 use Rattle.leaf_model.specs.declared.groups.Group.{Group}
 use Rattle.leaf_model.specs.declared.queries.Query.{Query}
 use Rattle.leaf_model.specs.Content.{Contents}
@@ -33,63 +34,39 @@ use Rattle.transcript.specs.Shapes.{CallPiece}
 use Rattle.transcript.specs.Histories.{BaseState, Shown, shown, shown_if}
 use Rattle.transcript.specs.Transcript.{Known, Transcript, base_states_of}
 use Rattle.transcript.specs.Telling.{StandingQuery, declared, declared_of, ends_state, has_told, is_ended, last_number, tells_rows}
-use Rattle.transcript_standing.specs.Followed.{AreAsked, AreTimes, DeclaresOne, DoesItself, IsOfLane, IsPlayable, TellsItself, TellsOne, TellsState}
-use Rattle.transcript_standing.proofs.Lists.{get_before, get_behind, get_beside_set, get_of_set, name_there, same_some}
-use Rattle.transcript_standing.proofs.Numbers.{IsStretch}
-use Rattle.transcript_standing.proofs.HeardPieces.{AsksOnce, PrintsOwn, PrintsOwnOf, TellsOnce}
+use Rattle.transcript_standing.specs.Followed.{AreAsked, AreTimes, DeclaresOne, DoesItself, IsOfLane, IsPlayable, TellsItself, TellsOne}
+use Rattle.transcript_standing.proofs.Lists.{get_before, get_behind, get_beside_set, get_of_set, name_there}
+use Rattle.transcript_standing.proofs.Numbers.{IsStretch, counts_up}
+use Rattle.transcript_standing.proofs.HeardPieces.{Hears, HearsOwn, ItemOwn, call_unmeant, hears_more, says_hears}
 use Rattle.transcript_standing.proofs.Feeding.{Knows, NoneBelow, asked_leaves, contents_behind, contents_before}
-use Rattle.transcript_standing.proofs.Times.{lanes_own}
-use Rattle.transcript_standing.proofs.Standing.{AllStand, StandsAt, counts_up, fresh_more, legal, standing_of, stretch}
+use Rattle.transcript_standing.proofs.Standing.{AllStand, Does, StandsAt, alone, fresh_more, legal, standing_of, stretch}
 
--- ---- what the commands of standing queries print
+-- ---- what is heard of the commands of standing queries
 
-quiet_told : (standing : ℕ) (f : Follower) (told : Line) → TellsState standing f told → TellsOnce (Says told ∷ [])
-quiet_told standing f told tells = (line.Told standing f.standing.upto tells.0, tt, ap (λ (l : Line). Says l ∷ []) tells.1)
+module _ (p : TablePlace) (fleet : FleetShape) (base_states : ℕ → ℕ → BaseState) (histories : ℕ → ℕ → List Entry) where
+  abbrev Own : List Piece → Type 0
+  Own pieces = Hears p (no_call_yet []) pieces (no_call_yet [])
 
-module _ (fleet : FleetShape) (base_states : ℕ → ℕ → BaseState) (histories : ℕ → ℕ → List Entry) where
-  tells_own : (standing : ℕ) (f : Follower) (pieces : List Piece) (g : Follower) → TellsItself fleet base_states histories standing f pieces g → TellsOnce pieces ⊎ AsksOnce pieces
+  tells_own : (standing : ℕ) (f : Follower) (pieces : List Piece) (g : Follower) → TellsItself fleet base_states histories standing f pieces g → Own pieces
   tells_own standing f pieces g (TellsItself.fresh told fresh are tells same) =
-      let once = quiet_told standing f told tells in
-      inl (once.0, once.1, are ∙ once.2)
-  tells_own standing f pieces g (TellsItself.made_fresh number gs told stale are asked tells same) = inr (record {
-    leaf = f.leaf;
-    table = f.table;
-    query = spread f.standing.query;
-    asked = Called f.leaf f.table (call.Ask (spread f.standing.query)) number Asked;
-    told = line.Told standing number tells.0;
-    ask = inl (number, Asked, refl);
-    quiet = tt;
-    are = are ∙ ap (λ (l : Line). Called f.leaf f.table (call.Ask (spread f.standing.query)) number Asked ∷ Says l ∷ []) tells.1;
-  })
-  tells_own standing f pieces g (TellsItself.stays_stale asked why stale ask untold are same) = inr (record {
-    leaf = f.leaf;
-    table = f.table;
-    query = spread f.standing.query;
-    asked = asked;
-    told = line.Untold standing why;
-    ask = ask;
-    quiet = tt;
-    are = are;
-  })
+      subst Own (sym (are ∙ ap (λ (l : Line). Says l ∷ []) tells.1)) (says_hears (line.Told standing f.standing.upto tells.0) tt)
+  tells_own standing f pieces g (TellsItself.made_fresh number gs told stale are asked tells same) =
+      let piece : Piece = Called f.leaf f.table (call.Ask (spread f.standing.query)) number Asked in
+      let ask : CallPiece f.leaf f.table (call.Ask (spread f.standing.query)) piece = inl (number, Asked, refl) in
+      subst Own (sym (are ∙ ap (λ (l : Line). piece ∷ Says l ∷ []) tells.1)) (hears_more (call_unmeant ask) (says_hears (line.Told standing number tells.0) tt))
+  tells_own standing f pieces g (TellsItself.stays_stale asked why stale ask untold are same) =
+      subst Own (sym are) (hears_more (call_unmeant ask) (says_hears (line.Untold standing why) tt))
 
-  one_own : (c : Command) (pieces : List Piece) (fs mids : List Follower) → DoesItself fleet base_states histories (One (record { command = c; pieces = pieces })) fs mids → PrintsOwnOf c pieces
-  one_own (command.Standing leaf q) pieces fs mids does = (line.Declared (length fs), tt, does.pieces_are)
+  one_own : (c : Command) (pieces : List Piece) (fs mids : List Follower) → DoesItself fleet base_states histories (One (record { command = c; pieces = pieces })) fs mids → HearsOwn p c pieces
+  one_own (command.Standing leaf q) pieces fs mids does = subst Own (sym does.pieces_are) (says_hears (line.Declared (length fs)) tt)
   one_own (command.Tell standing) pieces fs mids does = tells_own standing does.old pieces does.new does.tells
   one_own _ pieces fs mids does = tt
 
-  pub item_own : (x : PlayedItem) (fs mids : List Follower) → IsPlayable x → DoesItself fleet base_states histories x fs mids → AllByRecursion PrintsOwn (plays_of x)
-  item_own (One p) fs mids may does = (one_own p.command p.pieces fs mids does, tt)
-  item_own (Burst lanes) fs mids may does = lanes_own lanes may
+  pub item_own : (x : PlayedItem) (fs mids : List Follower) → DoesItself fleet base_states histories x fs mids → ItemOwn p x
+  item_own (One q) fs mids does = one_own q.command q.pieces fs mids does
+  item_own (Burst lanes) fs mids does = tt
 
 -- ---- small things
-
--- the place of another is told apart
-pub apart_places : (a b : ℕ) → (a ≡ b → ⊥) → (a == b) ≡ false
-apart_places a b other = by (a == b) refl
-  where
-    by : (x : Bool) → (a == b) ≡ x → x ≡ false
-    by true e = absurd (other (eqb-true a b e))
-    by false e = refl
 
 abbrev made : ℕ → ℕ → StandingState → Follower
 made leaf table standing = record { leaf = leaf; table = table; standing = standing }
@@ -112,15 +89,9 @@ pub asked_shown : (leaf table number : ℕ) (q : Query) (told : Line) (pieces : 
 asked_shown leaf table number q told pieces are =
     ap (λ (ps : List Piece). shown leaf table ps) are ∙ ap₂ (λ (x y : Bool). shown_if (x && y) (asked_line number q) ++ []) (eq-eqb leaf leaf refl) (eq-eqb table table refl)
 
-one_ascends : (s : Shown) → IsNonDecreasingBy (λ (z : Shown). z.number) (s ∷ [])
-one_ascends s zero zero d le l = omega arith
-one_ascends s zero (suc j) d le l = absurd (omega (arith, l))
-one_ascends s (suc i) zero d le l = absurd (omega (arith, le))
-one_ascends s (suc i) (suc j) d le l = absurd (omega (arith, l))
-
 -- a stretch of one line has the next number
 one_number : (es : List Entry) (low high : ℕ) (s : Shown) → IsStretch es low high (s ∷ []) → (s.number ≡ low + 1) × (high ≡ low + 1)
-one_number es low high s st = counts_up st (s ∷ []) (IsPermutation-refl (s ∷ [])) (one_ascends s)
+one_number es low high s st = counts_up st (s ∷ []) (IsPermutation-refl (s ∷ [])) (IsNonDecreasingBy-short (λ (z : Shown). z.number) (s ∷ []) (omega arith))
 
 -- what is heard from the lines of such an ask has its number
 asked_heard : (p : TablePlace) (leaf table number : ℕ) (told : Line) (rows : List (List ℕ)) (standing upto : ℕ) → told ≡ line.Told standing upto rows
@@ -135,7 +106,7 @@ asked_heard p leaf table number told rows standing upto is =
 -- the standing queries of commands
 pub map_set : (fs : List Follower) (i : ℕ) (f g : Follower) → slice_get fs i ≡ Some f → standing_of g ≡ standing_of f → map standing_of (slice_set fs i g) ≡ map standing_of fs
 map_set [] i f g at same = refl
-map_set (h ∷ fs) zero f g at same = ap (λ (s : StandingQuery). s ∷ map standing_of fs) (same ∙ ap standing_of (sym (same_some h f at)))
+map_set (h ∷ fs) zero f g at same = ap (λ (s : StandingQuery). s ∷ map standing_of fs) (same ∙ ap standing_of (sym (same_Some h f at)))
 map_set (h ∷ fs) (suc i) f g at same = ap (λ (ss : List StandingQuery). standing_of h ∷ ss) (map_set fs i f g at same)
 
 module _ (fleet : FleetShape) where
@@ -158,22 +129,16 @@ module _ (fleet : FleetShape) where
 
 -- ---- one item
 
-module _ (fleet : FleetShape) (known : ℕ → Option Known) (items : List Item) (out : List ℕ) (t : Transcript fleet known items out) (names : AreNames fleet.names) where
+module _ {fleet : FleetShape} {known : ℕ → Option Known} {items : List Item} {out : List ℕ} (t : Transcript fleet known items out) (names : AreNames fleet.names) where
   abbrev pub base_states : ℕ → ℕ → BaseState
   base_states = base_states_of fleet known
-
-  abbrev pub Stands : List PlayedItem → ℕ → Follower → Type 0
-  Stands before i f = StandsAt fleet known items out t before i f
-
-  abbrev pub Does : PlayedItem → List Follower → List Follower → Type 0
-  Does x fs mids = DoesItself fleet base_states t.histories x fs mids
 
   -- what one is before it follows the lines of an item: as it was; made fresh at its last entry; or new
   pub data Mid (before : List PlayedItem) (x : PlayedItem) (fs : List Follower) (i : ℕ) (mid : Follower) : Type 0 where
     kept : slice_get fs i ≡ Some mid → (mid.standing.stale ≡ true → has_told i x ≡ false) → Mid before x fs i mid
-    now : (old : Follower) → slice_get fs i ≡ Some old → old.standing.stale ≡ true → mid.standing.stale ≡ false → Stands (before ++ x ∷ []) i mid
+    now : (old : Follower) → slice_get fs i ≡ Some old → old.standing.stale ≡ true → mid.standing.stale ≡ false → StandsAt t (before ++ x ∷ []) i mid
         → AllByRecursion (λ (h : Heard). h.number ≤ mid.standing.upto) (heard (table_place_of mid) [] (item_lines x)) → Mid before x fs i mid
-    new : length fs ≤ i → Stands (before ++ x ∷ []) i mid → Mid before x fs i mid
+    new : length fs ≤ i → StandsAt t (before ++ x ∷ []) i mid → Mid before x fs i mid
 
   module _ (before : List PlayedItem) (c : Command) (pieces : List Piece) (behind : List PlayedItem) where
     abbrev pub x : PlayedItem
@@ -186,7 +151,7 @@ module _ (fleet : FleetShape) (known : ℕ → Option Known) (items : List Item)
         pub last_is : number ≡ last_number (shown f.leaf f.table (all_pieces (before ++ x ∷ [])))
         pub knows : Knows (base_states f.leaf f.table) (t.histories f.leaf f.table) number (settled number gs f).standing
 
-      pub is_now : (i : ℕ) (f : Follower) (number : ℕ) (gs : List Group) (told : Line) → Stands before i f → pieces ≡ Called f.leaf f.table (call.Ask (spread f.standing.query)) number Asked ∷ Says told ∷ []
+      pub is_now : (i : ℕ) (f : Follower) (number : ℕ) (gs : List Group) (told : Line) → StandsAt t before i f → pieces ≡ Called f.leaf f.table (call.Ask (spread f.standing.query)) number Asked ∷ Says told ∷ []
           → AreAsked fleet base_states t.histories f number gs → IsNow f number gs
       is_now i f number gs told stands are asked =
           let q : Query = spread f.standing.query in
@@ -197,9 +162,9 @@ module _ (fleet : FleetShape) (known : ℕ → Option Known) (items : List Item)
           let line : Shown = asked_line number q in
           let st : IsStretch es low high (line ∷ []) =
           subst (λ (ss : List Shown). IsStretch es low high ss) (asked_shown f.leaf f.table number q told (pieces ++ []) (append-nil pieces ∙ are))
-          (stretch fleet known items out t before x behind cut f.leaf f.table stands.is.0 stands.is.1) in
+          (stretch t before x behind cut f.leaf f.table stands.is.0 stands.is.1) in
           let nums = one_number es low high line st in
-          let same : contents_behind g es number ≡ contents_before g es number = asked_leaves g es number q st.show.0 (legal fleet known items out t before x behind cut f.leaf f.table stands.is.0 stands.is.1) in
+          let same : contents_behind g es number ≡ contents_before g es number = asked_leaves g es number q st.show.0 (legal t before x behind cut f.leaf f.table stands.is.0 stands.is.1) in
           record {
             last_is = nums.0 ∙ sym nums.1;
             knows = (
@@ -214,30 +179,22 @@ module _ (fleet : FleetShape) (known : ℕ → Option Known) (items : List Item)
       not_ended f number told are =
           ap (λ (ss : List Shown). list_any (λ (e : Shown). ends_state e.call e.said) ss) (asked_shown f.leaf f.table number (spread f.standing.query) told (pieces ++ []) (append-nil pieces ∙ are))
 
-      stands_now : (i : ℕ) (f : Follower) (number : ℕ) (gs : List Group) (told : Line) → Stands before i f → f.standing.stale ≡ true
+      stands_now : (i : ℕ) (f : Follower) (number : ℕ) (gs : List Group) (told : Line) → StandsAt t before i f → f.standing.stale ≡ true
           → pieces ≡ Called f.leaf f.table (call.Ask (spread f.standing.query)) number Asked ∷ Says told ∷ [] → AreAsked fleet base_states t.histories f number gs → has_told i x ≡ true
-          → Stands (before ++ x ∷ []) i (settled number gs f)
+          → StandsAt t (before ++ x ∷ []) i (settled number gs f)
       stands_now i f number gs told stands stale are asked tells =
           let n = is_now i f number gs told stands are asked in
           record {
             is = stands.is;
             named = stands.named;
-            fresh = fresh_more fleet known items out t before x behind cut i (standing_of f)
+            fresh = fresh_more t before x behind cut i (standing_of f)
                 ∙ ap₂ (λ (a b : Bool). a && not b) (ap₂ (λ (a b : Bool). a || b) (stands.fresh ∙ ap not stale) tells) (not_ended f number told are);
             knows = λ fresh. (n.last_is, subst (λ (m : ℕ). Knows (base_states f.leaf f.table) (t.histories f.leaf f.table) m (settled number gs f).standing) n.last_is n.knows);
           }
 
-      told_rows : (i number : ℕ) (f : Follower) (told : Line) (standing upto : ℕ) (rows : List (List ℕ)) → told ≡ line.Told standing upto rows
-          → pieces ≡ Called f.leaf f.table (call.Ask (spread f.standing.query)) number Asked ∷ Says told ∷ [] → list_any tells_rows pieces ≡ true
-      told_rows i number f told standing upto rows is are =
-          ap (λ (ps : List Piece). list_any tells_rows ps) are ∙ ap (λ (l : Line). list_any tells_rows (Called f.leaf f.table (call.Ask (spread f.standing.query)) number Asked ∷ Says l ∷ [])) is
-
-  abbrev pub alone : Command → List Piece → PlayedItem
-  alone c pieces = One (record { command = c; pieces = pieces })
-
   -- one that was declared
   standing_mid : (before : List PlayedItem) (leaf : ℕ) (q : Query) (pieces : List Piece) (behind : List PlayedItem) → t.played ≡ before ++ alone (command.Standing leaf q) pieces ∷ behind → (fs mids : List Follower)
-      → AllStand fleet known items out t before fs → DeclaresOne fleet base_states t.histories leaf q pieces fs mids → (i : ℕ) (mid : Follower) → slice_get mids i ≡ Some mid → Mid before (alone (command.Standing leaf q) pieces) fs i mid
+      → AllStand t before fs → DeclaresOne fleet base_states t.histories leaf q pieces fs mids → (i : ℕ) (mid : Follower) → slice_get mids i ≡ Some mid → Mid before (alone (command.Standing leaf q) pieces) fs i mid
   standing_mid before leaf q pieces behind cut fs mids all d i mid at = by (nat_lt i (length fs)) refl
     where
       there : slice_get (fs ++ new_follower leaf (place_among q.table fleet.names) q ∷ []) i ≡ Some mid
@@ -248,17 +205,17 @@ module _ (fleet : FleetShape) (known : ℕ → Option Known) (items : List Item)
       by false e =
           let past : length fs ≤ i = ltb-false i (length fs) e in
           let found = get_behind fs (new_follower leaf (place_among q.table fleet.names) q) i mid there (λ l. omega (arith, past, l)) in
-          Mid.new past (subst (λ (f : Follower). Stands (before ++ alone (command.Standing leaf q) pieces ∷ []) i f) found.1 (record {
+          Mid.new past (subst (λ (f : Follower). StandsAt t (before ++ alone (command.Standing leaf q) pieces ∷ []) i f) found.1 (record {
             is = (d.leaf_is, d.table_is);
             named = name_there q.table fleet.names d.table_is;
-            fresh = fresh_more fleet known items out t before (alone (command.Standing leaf q) pieces) behind cut i (standing_of (new_follower leaf (place_among q.table fleet.names) q))
+            fresh = fresh_more t before (alone (command.Standing leaf q) pieces) behind cut i (standing_of (new_follower leaf (place_among q.table fleet.names) q))
                 ∙ ap (λ (b : Bool). (b || false) && not (is_ended (standing_of (new_follower leaf (place_among q.table fleet.names) q)) (pieces ++ []))) (all.none i (standing_of (new_follower leaf (place_among q.table fleet.names) q)) past);
             knows = λ fresh. absurd cc;
           }))
 
   -- one that told, or another
   tell_mid : (before : List PlayedItem) (standing : ℕ) (pieces : List Piece) (behind : List PlayedItem) → t.played ≡ before ++ alone (command.Tell standing) pieces ∷ behind → (fs mids : List Follower)
-      → AllStand fleet known items out t before fs → TellsOne fleet base_states t.histories standing pieces fs mids → (i : ℕ) (mid : Follower) → slice_get mids i ≡ Some mid → Mid before (alone (command.Tell standing) pieces) fs i mid
+      → AllStand t before fs → TellsOne fleet base_states t.histories standing pieces fs mids → (i : ℕ) (mid : Follower) → slice_get mids i ≡ Some mid → Mid before (alone (command.Tell standing) pieces) fs i mid
   tell_mid before standing pieces behind cut fs mids all d i mid at = by (standing == i) refl
     where
       there : slice_get (slice_set fs standing d.new) i ≡ Some mid
@@ -270,24 +227,18 @@ module _ (fleet : FleetShape) (known : ℕ → Option Known) (items : List Item)
 
       itself : standing ≡ i → d.new ≡ mid → TellsItself fleet base_states t.histories standing d.old pieces d.new → Mid before (alone (command.Tell standing) pieces) fs i mid
       itself here is (TellsItself.fresh told fresh are tells same) =
-          kept_here here is same (λ stale. absurd (apart (sym fresh ∙ (ap (λ (f : Follower). f.standing.stale) (sym same ∙ is) ∙ stale))))
-        where
-          apart : false ≡ true → ⊥
-          apart e = cc
+          kept_here here is same (λ stale. absurd (true≢false (sym (sym fresh ∙ (ap (λ (f : Follower). f.standing.stale) (sym same ∙ is) ∙ stale)))))
       itself here is (TellsItself.stays_stale asked why stale ask untold are same) =
           kept_here here is same (λ stale.
-          ap (λ (b : Bool). (standing == i) && b) (ap (λ (ps : List Piece). list_any tells_rows ps) are ∙ asked_tells_none d.old.leaf d.old.table (spread d.old.standing.query) asked (line.Untold standing why) ask) ∙ no_more (standing == i))
-        where
-          no_more : (b : Bool) → (b && false) ≡ false
-          no_more true = refl
-          no_more false = refl
+          ap (λ (b : Bool). (standing == i) && b) (ap (λ (ps : List Piece). list_any tells_rows ps) are ∙ asked_tells_none d.old.leaf d.old.table (spread d.old.standing.query) asked (line.Untold standing why) ask) ∙ and-false (standing == i))
       itself here is (TellsItself.made_fresh number gs told stale are asked tells same) =
-          let stands : Stands before i d.old = all.each i d.old (subst (λ (n : ℕ). slice_get fs n ≡ Some d.old) here d.at) in
-          let rows = told_rows before (command.Tell standing) pieces behind cut i number d.old told standing number tells.0 tells.1 are in
+          let stands : StandsAt t before i d.old = all.each i d.old (subst (λ (n : ℕ). slice_get fs n ≡ Some d.old) here d.at) in
+          let rows : list_any tells_rows pieces ≡ true =
+          ap (λ (ps : List Piece). list_any tells_rows ps) are ∙ ap (λ (l : Line). list_any tells_rows (Called d.old.leaf d.old.table (call.Ask (spread d.old.standing.query)) number Asked ∷ Says l ∷ [])) tells.1 in
           let is_told : has_told i (alone (command.Tell standing) pieces) ≡ true = ap₂ (λ (a b : Bool). a && b) (eq-eqb standing i here) rows in
           let settled_is : settled number gs d.old ≡ mid = sym same ∙ is in
           Mid.now d.old (subst (λ (n : ℕ). slice_get fs n ≡ Some d.old) here d.at) stale (ap (λ (f : Follower). f.standing.stale) (sym settled_is))
-          (subst (λ (f : Follower). Stands (before ++ alone (command.Tell standing) pieces ∷ []) i f) settled_is
+          (subst (λ (f : Follower). StandsAt t (before ++ alone (command.Tell standing) pieces ∷ []) i f) settled_is
           (stands_now before (command.Tell standing) pieces behind cut i d.old number gs told stands stale are asked is_told))
           (subst (λ (f : Follower). AllByRecursion (λ (h : Heard). h.number ≤ f.standing.upto) (heard (table_place_of f) [] (lines_in pieces))) settled_is
           (subst (λ (ps : List Piece). AllByRecursion (λ (h : Heard). h.number ≤ number) (heard (table_place_of d.old) [] (lines_in ps))) (sym are)
@@ -296,20 +247,17 @@ module _ (fleet : FleetShape) (known : ℕ → Option Known) (items : List Item)
       by : (b : Bool) → (standing == i) ≡ b → Mid before (alone (command.Tell standing) pieces) fs i mid
       by true e =
           let here : standing ≡ i = eqb-true standing i e in
-          let is : d.new ≡ mid = same_some d.new mid (sym (get_of_set fs standing d.old d.new d.at) ∙ (ap (λ (n : ℕ). slice_get (slice_set fs standing d.new) n) here ∙ there)) in
+          let is : d.new ≡ mid = same_Some d.new mid (sym (get_of_set fs standing d.old d.new d.at) ∙ (ap (λ (n : ℕ). slice_get (slice_set fs standing d.new) n) here ∙ there)) in
           itself here is d.tells
       by false e =
-          Mid.kept (sym (get_beside_set fs standing i d.new (λ same. absurd (clash (sym (eq-eqb standing i same) ∙ e)))) ∙ there) (λ stale. ap (λ (b : Bool). b && list_any tells_rows pieces) e)
-        where
-          clash : true ≡ false → ⊥
-          clash x = cc
+          Mid.kept (sym (get_beside_set fs standing i d.new (eqb-false standing i e)) ∙ there) (λ stale. ap (λ (b : Bool). b && list_any tells_rows pieces) e)
 
-  pub mids_at : (before : List PlayedItem) (x : PlayedItem) (behind : List PlayedItem) → t.played ≡ before ++ x ∷ behind → (fs mids : List Follower) → AllStand fleet known items out t before fs → Does x fs mids
+  pub mids_at : (before : List PlayedItem) (x : PlayedItem) (behind : List PlayedItem) → t.played ≡ before ++ x ∷ behind → (fs mids : List Follower) → AllStand t before fs → Does t x fs mids
       → (i : ℕ) (mid : Follower) → slice_get mids i ≡ Some mid → Mid before x fs i mid
   mids_at before (Burst lanes) behind cut fs mids all does i mid at = Mid.kept (subst (λ (ms : List Follower). slice_get ms i ≡ Some mid) does at) (λ stale. refl)
   mids_at before (One p) behind cut fs mids all does i mid at = by p.command cut does
     where
-      by : (c : Command) → t.played ≡ before ++ alone c p.pieces ∷ behind → Does (alone c p.pieces) fs mids → Mid before (alone c p.pieces) fs i mid
+      by : (c : Command) → t.played ≡ before ++ alone c p.pieces ∷ behind → Does t (alone c p.pieces) fs mids → Mid before (alone c p.pieces) fs i mid
       by (command.Standing leaf q) is d = standing_mid before leaf q p.pieces behind is fs mids all d i mid at
       by (command.Tell standing) is d = tell_mid before standing p.pieces behind is fs mids all d i mid at
       by _ is d = Mid.kept (subst (λ (ms : List Follower). slice_get ms i ≡ Some mid) d at) (λ stale. refl)

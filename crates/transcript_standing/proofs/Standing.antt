@@ -1,15 +1,14 @@
 -- Where standing queries stand behind the items of a transcript: a fresh one knows the rows behind the last entry that
 -- was printed of its table.
-use Rattle.std.proofs.Common.{◌≡◌, ◌⊎◌, inl, inr, ℕ, zero, suc, ◌+◌, ◌-◌, ◌<◌, ◌≤◌, ◌||◌, Bool, true, false, List, [], ◌∷◌, ◌++◌, length, map, refl, sym, ap, ap₂, subst, ◌∙◌, arith, Option, Some}
-use Rattle.std.specs.Prelude.{IsPermutation, MatchBool, not, slice_get, ◌&&◌}
-use Rattle.std.specs.List.{AllByRecursion, list_any, range_with_len}
-use Rattle.std.specs.List.Sorted.{IsNonDecreasingBy}
+use Rattle.std.proofs.Common.{◌≡◌, ◌⊎◌, inl, inr, ℕ, zero, suc, ◌+◌, ◌-◌, ◌<◌, ◌≤◌, ◌||◌, Bool, true, false, true≢false, List, [], ◌∷◌, ◌++◌, length, map, refl, sym, ap, ap₂, subst, ◌∙◌, arith, Option, Some}
+use Rattle.std.specs.Prelude.{MatchBool, not, slice_get, ◌&&◌}
+use Rattle.std.specs.List.{AllByRecursion, list_any}
 use Rattle.std.proofs.lemmas.Grind.{flat_map-append}
-use Rattle.std.proofs.lemmas.List.Elements.{All-from_recursion, recursion_from_All}
-use Rattle.std.proofs.lemmas.List.Sorted.{All-permutation, IsPermutation-map, IsPermutation-sym, IsPermutation-trans}
 use Rattle.std.proofs.lemmas.List.Sums.{fold-append}
+use Rattle.std.proofs.lemmas.Option.{same_Some}
 use Rattle.leaf_history.specs.History.{Entry, LegalFrom}
 use Rattle.region_layout.specs.Names.{AreNames}
+use Rattle.script_text.specs.declared.command.Command.{Command}
 use Rattle.script_text.specs.declared.fleet.FleetShape.{FleetShape}
 use Rattle.script_text.specs.declared.item.Item.{Item}
 use Rattle.script_text.specs.Commands.{leaf_count}
@@ -20,100 +19,53 @@ use Rattle.standing_feed.specs.declared.heard.Heard.{Heard}
 use Rattle.standing_feed.specs.declared.meant.Meant.{Meant}
 use Rattle.standing_feed.specs.Hearing.{TablePlace, heard, meant_in}
 use Rattle.standing_feed.specs.Following.{FollowAll, Follows, Heeds, HeedsAll, HeedsInOrder, table_place_of}
-use Rattle.transcript.specs.Pieces.{Piece, Played, PlayedItem, all_pieces, item_lines, item_of, pieces_in, plays_in, plays_of}
+use Rattle.transcript.specs.Pieces.{Piece, Played, PlayedItem, One, all_pieces, item_lines, item_of, pieces_in, plays_in, plays_of}
 use Rattle.transcript.specs.Shapes.{Prints}
 use Rattle.transcript.specs.Histories.{BaseState, InOrder, IsHistoryOf, Shown, shown}
 use Rattle.transcript.specs.Answers.{Answers}
 use Rattle.transcript.specs.Transcript.{Known, Transcript, base_states_of}
 use Rattle.transcript.specs.Telling.{StandingQuery, declared, ends_state, has_told, is_ended, is_fresh, is_fresh_behind, last_number}
-use Rattle.transcript_standing.specs.Followed.{IsFollower, IsPlayable}
-use Rattle.transcript_standing.proofs.Lists.{All-back, All-front, same_some}
-use Rattle.transcript_standing.proofs.Numbers.{IsStretch, numbers, stretch_of_item}
-use Rattle.transcript_standing.proofs.Counting.{ascending_counts}
-use Rattle.transcript_standing.proofs.HeardPieces.{IsProper, PrintsOwn, heard_of}
+use Rattle.transcript_standing.specs.Followed.{DoesItself, IsFollower, IsPlayable}
+use Rattle.transcript_standing.proofs.Lists.{All-both, All-reordered}
+use Rattle.transcript_standing.proofs.Numbers.{IsStretch, counts_up, stretch_of_item}
+use Rattle.transcript_standing.proofs.HeardPieces.{IsProper, ItemOwn, heard_of}
 use Rattle.transcript_standing.proofs.Heard.{heard_shown}
-use Rattle.transcript_standing.proofs.Feeding.{CountUp, FedBehind, Knows}
+use Rattle.transcript_standing.proofs.Feeding.{FedBehind, HaveTimes, Knows}
 use Rattle.transcript_standing.proofs.Heeding.{heeds_on}
-use Rattle.transcript_standing.proofs.Times.{item_adds, proper_lines}
-
--- ---- numbers that count up
-
-count_from : (low count : ℕ) (ss : List Shown) → numbers ss ≡ range_with_len (low + 1) count → CountUp low ss (low + count)
-count_from low count [] same = by count same
-  where
-    by : (n : ℕ) → [] ≡ range_with_len (low + 1) n → low + n ≡ low
-    by zero is = omega arith
-    by (suc n) is = absurd cc
-count_from low count (s ∷ ss) same = by count same (λ n is. count_from (low + 1) n ss is)
-  where
-    head_is : (a b : ℕ) (us vs : List ℕ) → a ∷ us ≡ b ∷ vs → a ≡ b
-    head_is a b us vs e = cc
-
-    tail_is : (a b : ℕ) (us vs : List ℕ) → a ∷ us ≡ b ∷ vs → us ≡ vs
-    tail_is a b us vs e = cc
-
-    by : (n : ℕ) → s.number ∷ numbers ss ≡ range_with_len (low + 1) n → ((m : ℕ) → numbers ss ≡ range_with_len (low + 1 + 1) m → CountUp (low + 1) ss (low + 1 + m)) → CountUp low (s ∷ ss) (low + n)
-    by zero is further = absurd cc
-    by (suc n) is further = (
-      head_is s.number (low + 1) (numbers ss) (range_with_len (low + 1 + 1) n) is,
-      subst (λ (m : ℕ). CountUp (low + 1) ss m) (omega arith) (further n (tail_is s.number (low + 1) (numbers ss) (range_with_len (low + 1 + 1) n) is)),
-    )
-
-module _ {entries : List Entry} {low high : ℕ} {lines : List Shown} (stretch : IsStretch entries low high lines) where
-  pub counts_up : (zs : List Shown) → IsPermutation lines zs → IsNonDecreasingBy (λ (z : Shown). z.number) zs → CountUp low zs high
-  counts_up zs same ascend =
-      let there : IsPermutation (numbers zs) (range_with_len (low + 1) (high - low)) =
-      IsPermutation-trans (numbers zs) (numbers lines) (range_with_len (low + 1) (high - low))
-      (IsPermutation-map (λ (z : Shown). z.number) zs lines (IsPermutation-sym lines zs same)) stretch.numbers_are in
-      let ups = ascending_counts (λ (z : Shown). z.number) zs low (high - low) ascend there in
-      subst (λ (m : ℕ). CountUp low zs m) (omega (arith, stretch.rise)) (count_from low (high - low) zs ups)
+use Rattle.transcript_standing.proofs.Times.{heard_times, proper_lines}
 
 -- ---- states that hear
 
-heeds_query : (hs : List Heard) (s t : StandingState) → HeedsAll s hs t → t.query ≡ s.query
-heeds_query [] s t (HeedsAll.none s0 hs t0 empty same) = ap (λ (x : StandingState). x.query) same
-heeds_query [] s t (HeedsAll.more s0 hs t0 h others between first rest is) = absurd cc
-heeds_query (k ∷ ks) s t (HeedsAll.none s0 hs t0 empty same) = absurd cc
-heeds_query (k ∷ ks) s t (HeedsAll.more s0 hs t0 h others between first rest is) =
-    subst (λ (os : List Heard). HeedsAll between os t → t.query ≡ between.query) (tail_is k h ks others is) (heeds_query ks between t) rest ∙ once first
-  where
-    tail_is : (a b : Heard) (us vs : List Heard) → a ∷ us ≡ b ∷ vs → us ≡ vs
-    tail_is a b us vs e = cc
+heeds_query : (s : StandingState) (h : Heard) (t : StandingState) → Heeds s h t → t.query ≡ s.query
+heeds_query s h t (Heeds.known old same) = ap (λ (x : StandingState). x.query) same
+heeds_query s h t (Heeds.next new fed) = fed.query
+heeds_query s h t (Heeds.missed past lost) = lost.query
 
-    once : Heeds s h between → between.query ≡ s.query
-    once (Heeds.known old same) = ap (λ (x : StandingState). x.query) same
-    once (Heeds.next new fed) = fed.query
-    once (Heeds.missed past lost) = lost.query
+all_query : (s : StandingState) (hs : List Heard) (t : StandingState) → HeedsAll s hs t → t.query ≡ s.query
+all_query s hs t (HeedsAll.none a b c empty same) = ap (λ (x : StandingState). x.query) same
+all_query s hs t (HeedsAll.more a b c h others between first rest is) = all_query between others t rest ∙ heeds_query s h between first
 
 -- Entries that it knows change nothing.
-heeds_known : (hs : List Heard) (s t : StandingState) → AllByRecursion (λ (h : Heard). h.number ≤ s.upto) hs → HeedsAll s hs t → t ≡ s
-heeds_known [] s t old (HeedsAll.none s0 hs t0 empty same) = same
-heeds_known [] s t old (HeedsAll.more s0 hs t0 h others between first rest is) = absurd cc
-heeds_known (k ∷ ks) s t old (HeedsAll.none s0 hs t0 empty same) = absurd cc
-heeds_known (k ∷ ks) s t old (HeedsAll.more s0 hs t0 h others between first rest is) =
-    let number : h.number ≤ s.upto = subst (λ (x : Heard). x.number ≤ s.upto) (head_is k h ks others is) old.0 in
-    let same : between ≡ s = once number first in
-    let more : HeedsAll s ks t = subst (λ (os : List Heard). HeedsAll s os t) (sym (tail_is k h ks others is)) (subst (λ (x : StandingState). HeedsAll x others t) same rest) in
-    heeds_known ks s t old.1 more
-  where
-    head_is : (a b : Heard) (us vs : List Heard) → a ∷ us ≡ b ∷ vs → a ≡ b
-    head_is a b us vs e = cc
+heeds_known : (s : StandingState) (h : Heard) (t : StandingState) → h.number ≤ s.upto → Heeds s h t → t ≡ s
+heeds_known s h t number (Heeds.known old same) = same
+heeds_known s h t number (Heeds.next new fed) = absurd (omega (arith, number, new))
+heeds_known s h t number (Heeds.missed past lost) = absurd (omega (arith, number, past))
 
-    tail_is : (a b : Heard) (us vs : List Heard) → a ∷ us ≡ b ∷ vs → us ≡ vs
-    tail_is a b us vs e = cc
+abbrev AreKnown : StandingState → List Heard → Type 0
+AreKnown s hs = AllByRecursion (λ (h : Heard). h.number ≤ s.upto) hs
 
-    once : h.number ≤ s.upto → Heeds s h between → between ≡ s
-    once number (Heeds.known old same) = same
-    once number (Heeds.next new fed) = absurd (omega (arith, number, new))
-    once number (Heeds.missed past lost) = absurd (omega (arith, number, past))
+all_known : (s : StandingState) (hs : List Heard) (t : StandingState) → AreKnown s hs → HeedsAll s hs t → t ≡ s
+all_known s hs t old (HeedsAll.none a b c empty same) = same
+all_known s hs t old (HeedsAll.more a b c h others between first rest is) =
+    let known : AreKnown s (h ∷ others) = subst (AreKnown s) is old in
+    let same : between ≡ s = heeds_known s h between known.0 first in
+    all_known between others t (subst (λ (x : StandingState). AreKnown x others) (sym same) known.1) rest ∙ same
 
 pub order_query : (s : StandingState) (hs : List Heard) (t : StandingState) → HeedsInOrder s hs t → t.query ≡ s.query
-order_query s hs t o = heeds_query o.in_order s t o.heeds
+order_query s hs t o = all_query s o.in_order t o.heeds
 
-pub order_known : (s : StandingState) (hs : List Heard) (t : StandingState) → AllByRecursion (λ (h : Heard). h.number ≤ s.upto) hs → HeedsInOrder s hs t → t ≡ s
-order_known s hs t old o =
-    let P : Heard → Type 0 = λ (h : Heard). h.number ≤ s.upto in
-    heeds_known o.in_order s t (recursion_from_All P o.in_order (All-permutation P hs o.in_order o.same (All-from_recursion P hs old))) o.heeds
+pub order_known : (s : StandingState) (hs : List Heard) (t : StandingState) → AreKnown s hs → HeedsInOrder s hs t → t ≡ s
+order_known s hs t old o = all_known s o.in_order t (All-reordered (λ (h : Heard). h.number ≤ s.upto) hs o.in_order o.same old) o.heeds
 
 -- ---- followers that hear
 
@@ -130,7 +82,7 @@ followed_at (calls ∷ notes) lines (old ∷ olds) [] i new all at = absurd all
 followed_at (calls ∷ notes) lines (old ∷ olds) (n ∷ news) zero new all at = record {
   old = old;
   at = refl;
-  went = inl (calls, refl, subst (λ (f : Follower). Follows calls lines old f) (same_some n new at) all.0);
+  went = inl (calls, refl, subst (λ (f : Follower). Follows calls lines old f) (same_Some n new at) all.0);
 }
 followed_at (calls ∷ notes) lines (old ∷ olds) (n ∷ news) (suc i) new all at =
     let more = followed_at notes lines olds news i new all.1 at in
@@ -152,13 +104,24 @@ as_many (calls ∷ notes) lines (old ∷ olds) (n ∷ news) all = ap suc (as_man
 abbrev pub standing_of : Follower → StandingQuery
 standing_of f = record { leaf = f.leaf; table = f.table; query = f.standing.query }
 
+-- a stale one stays as it is, and a fresh one heeds what is heard
+abbrev HearsIf : List Meant → List Line → Follower → Follower → Bool → Type 0
+HearsIf calls lines old new stale = MatchBool stale (new ≡ old) (HeedsInOrder old.standing (heard (table_place_of old) calls lines) new.standing)
+
+pub stale_stays : {calls : List Meant} {lines : List Line} {old new : Follower} → Follows calls lines old new → old.standing.stale ≡ true → new ≡ old
+stale_stays {calls} {lines} {old} {new} follows stale = subst (HearsIf calls lines old new) stale follows.hears
+
+pub fresh_heeds : {calls : List Meant} {lines : List Line} {old new : Follower} → Follows calls lines old new → old.standing.stale ≡ false
+    → HeedsInOrder old.standing (heard (table_place_of old) calls lines) new.standing
+fresh_heeds {calls} {lines} {old} {new} follows fresh = subst (HearsIf calls lines old new) fresh follows.hears
+
 -- it is of the same table and asks the same
 hears_same : (calls : List Meant) (lines : List Line) (old new : Follower) → Follows calls lines old new → new.standing.query ≡ old.standing.query
-hears_same calls lines old new follows = by old.standing.stale follows.hears
+hears_same calls lines old new follows = by old.standing.stale refl
   where
-    by : (b : Bool) → MatchBool b (new ≡ old) (HeedsInOrder old.standing (heard (table_place_of old) calls lines) new.standing) → new.standing.query ≡ old.standing.query
-    by true same = ap (λ (f : Follower). f.standing.query) same
-    by false order = order_query old.standing (heard (table_place_of old) calls lines) new.standing order
+    by : (b : Bool) → old.standing.stale ≡ b → new.standing.query ≡ old.standing.query
+    by true stale = ap (λ (f : Follower). f.standing.query) (stale_stays follows stale)
+    by false fresh = order_query old.standing (heard (table_place_of old) calls lines) new.standing (fresh_heeds follows fresh)
 
 pub standing_same : (calls : List Meant) (lines : List Line) (old new : Follower) → Follows calls lines old new → standing_of new ≡ standing_of old
 standing_same calls lines old new follows =
@@ -175,12 +138,19 @@ standings_same (calls ∷ notes) lines (old ∷ olds) (n ∷ news) all = ap₂ (
 
 -- ---- behind the items of a transcript
 
-module _ (fleet : FleetShape) (known : ℕ → Option Known) (items : List Item) (out : List ℕ) (t : Transcript fleet known items out) where
+abbrev pub alone : Command → List Piece → PlayedItem
+alone c pieces = One (record { command = c; pieces = pieces })
+
+module _ {fleet : FleetShape} {known : ℕ → Option Known} {items : List Item} {out : List ℕ} (t : Transcript fleet known items out) where
   abbrev pub base_state : Follower → BaseState
   base_state f = base_states_of fleet known f.leaf f.table
 
   abbrev pub entries : Follower → List Entry
   entries f = t.histories f.leaf f.table
+
+  -- what the queries do at an item
+  abbrev pub Does : PlayedItem → List Follower → List Follower → Type 0
+  Does x fs mids = DoesItself fleet (base_states_of fleet known) t.histories x fs mids
 
   -- the number of the last entry of its table that these items printed
   abbrev pub last : Follower → List PlayedItem → ℕ
@@ -211,7 +181,7 @@ module _ (fleet : FleetShape) (known : ℕ → Option Known) (items : List Item)
     plays_cut = ap (λ (ps : List PlayedItem). plays_in ps) cut ∙ flat_map-append plays_of before (x ∷ behind)
 
     of_item : (P : Played → Type 0) → AllByRecursion P (plays_in t.played) → AllByRecursion P (plays_of x)
-    of_item P all = All-front P (plays_of x) (plays_in behind) (All-back P (plays_in before) (plays_of x ++ plays_in behind) (subst (AllByRecursion P) plays_cut all))
+    of_item P all = (All-both P (plays_of x) (plays_in behind) (All-both P (plays_in before) (plays_of x ++ plays_in behind) (subst (AllByRecursion P) plays_cut all)).1).0
 
     pub prints : AllByRecursion (λ (p : Played). Prints fleet p.command p.pieces) (plays_of x)
     prints = of_item (λ (p : Played). Prints fleet p.command p.pieces) t.prints
@@ -250,13 +220,10 @@ module _ (fleet : FleetShape) (known : ℕ → Option Known) (items : List Item)
       fresh = fresh_more i (standing_of f)
           ∙ ap₂ (λ (a b : Bool). (a || b) && not (is_ended (standing_of f) (pieces_in (plays_of x)))) (stands.fresh ∙ ap not stale) untold
           ∙ ap not (sym stale);
-      knows = λ fresh. absurd (apart (sym stale ∙ fresh));
+      knows = λ fresh. absurd (true≢false (sym stale ∙ fresh));
     }
-      where
-        apart : true ≡ false → ⊥
-        apart e = cc
 
-    module _ (names : AreNames fleet.names) (may : IsPlayable x) (own : AllByRecursion PrintsOwn (plays_of x)) where
+    module _ (names : AreNames fleet.names) (may : IsPlayable x) (own : (p : TablePlace) → ItemOwn p x) where
       -- a fresh one comes to the rows behind it, unless it ended its state
       pub hears_item : (i : ℕ) (f g : Follower) → StandsAt before i f → f.standing.stale ≡ false → Follows (meant_in (table_place_of f) (item_of x)) (item_lines x) f g → StandsAt (before ++ x ∷ []) i g
       hears_item i f g stands fresh follows =
@@ -264,29 +231,19 @@ module _ (fleet : FleetShape) (known : ℕ → Option Known) (items : List Item)
           let ss : List Shown = shown f.leaf f.table pieces in
           let st = stretch f.leaf f.table stands.is.0 stands.is.1 in
           let same : heard (table_place_of f) (meant_in (table_place_of f) (item_of x)) (item_lines x) ≡ map heard_of ss =
-          heard_shown fleet (base_states_of fleet known) t.histories x (table_place_of f) names.distinct stands.is.0 stands.named may prints answers own (proper f.leaf f.table stands.is.0 stands.is.1) in
-          let order : HeedsInOrder f.standing (heard (table_place_of f) (meant_in (table_place_of f) (item_of x)) (item_lines x)) g.standing = fresh_hears f.standing.stale fresh follows.hears in
+          heard_shown fleet (base_states_of fleet known) t.histories x (table_place_of f) names.distinct stands.is.0 stands.named may prints answers (own (table_place_of f)) (proper f.leaf f.table stands.is.0 stands.is.1) in
+          let order = fresh_heeds follows fresh in
           let knows = stands.knows fresh in
           let fed : FedBehind (base_state f) (entries f) ss (last f (before ++ x ∷ [])) f.standing g.standing =
           heeds_on (base_state f) (entries f) (legal f.leaf f.table stands.is.0 stands.is.1) ss (last f before) (last f (before ++ x ∷ [])) f.standing g.standing (counts_up st) st.show
-          (item_adds fleet (base_states_of fleet known) t.histories x f.leaf f.table may prints answers own) knows.0 (λ none. knows.1)
+          (subst HaveTimes same (heard_times (table_place_of f) x may)) knows.0 (λ none. knows.1)
           (subst (λ (hs : List Heard). HeedsInOrder f.standing hs g.standing) same order) in
-          let leaf : g.leaf ≡ f.leaf = ap (λ (p : TablePlace). p.leaf) follows.place in
-          let table : g.table ≡ f.table = ap (λ (p : TablePlace). p.table) follows.place in
           let stale : g.standing.stale ≡ is_ended (standing_of f) pieces = fed.stale ∙ ap (λ (b : Bool). b || list_any (λ (e : Shown). ends_state e.call e.said) ss) fresh in
           record {
-            is = (subst (λ (n : ℕ). n < leaf_count fleet) (sym leaf) stands.is.0, subst (λ (n : ℕ). n < length fleet.names) (sym table) stands.is.1);
-            named = ap (λ (n : ℕ). slice_get fleet.names n) table ∙ (stands.named ∙ ap (λ (p : TablePlace). Some p.name) (sym follows.place));
+            is = subst (λ (p : TablePlace). (p.leaf < leaf_count fleet) × (p.table < length fleet.names)) (sym follows.place) stands.is;
+            named = subst (λ (p : TablePlace). slice_get fleet.names p.table ≡ Some p.name) (sym follows.place) stands.named;
             fresh = ap (λ (s : StandingQuery). is_fresh i s (before ++ x ∷ [])) (standing_same (meant_in (table_place_of f) (item_of x)) (item_lines x) f g follows)
                 ∙ (fresh_more i (standing_of f)
                 ∙ (ap (λ (b : Bool). (b || has_told i x) && not (is_ended (standing_of f) pieces)) (stands.fresh ∙ ap not fresh) ∙ ap not (sym stale)));
-            knows = λ now. of_table (g.leaf) (g.table) leaf table (fed.upto, fed.means now);
+            knows = λ now. subst (λ (p : TablePlace). KnowsAt (before ++ x ∷ []) g p.leaf p.table) (sym follows.place) (fed.upto, fed.means now);
           }
-        where
-          fresh_hears : (b : Bool) → b ≡ false → MatchBool b (g ≡ f) (HeedsInOrder f.standing (heard (table_place_of f) (meant_in (table_place_of f) (item_of x)) (item_lines x)) g.standing)
-              → HeedsInOrder f.standing (heard (table_place_of f) (meant_in (table_place_of f) (item_of x)) (item_lines x)) g.standing
-          fresh_hears true none hears = absurd cc
-          fresh_hears false none hears = hears
-
-          of_table : (leaf table : ℕ) → leaf ≡ f.leaf → table ≡ f.table → KnowsAt (before ++ x ∷ []) g f.leaf f.table → KnowsAt (before ++ x ∷ []) g leaf table
-          of_table leaf table one other knows = subst (λ (l : ℕ). KnowsAt (before ++ x ∷ []) g l table) (sym one) (subst (λ (n : ℕ). KnowsAt (before ++ x ∷ []) g f.leaf n) (sym other) knows)

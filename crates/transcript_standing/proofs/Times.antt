@@ -1,222 +1,166 @@
--- The lines of an item's entries are what callers and stewards may be told, and the rows that its adds name have times.
-use Rattle.std.proofs.Common.{◌≡◌, ◌⊎◌, inl, inr, ℕ, zero, suc, ◌-◌, Bool, true, false, true≢false, List, [], ◌∷◌, ◌++◌, refl, sym, ap, subst, ◌∙◌, Option, Some, None}
-use Rattle.std.specs.Prelude.{IfSome, if◌then◌else◌, is_some, option_to_list, slice_get, ◌&&◌, ◌==◌, ⊤}
-use Rattle.std.specs.List.{AllByRecursion, AllZip, flat_map, range_with_len}
+-- The rows that are heard have times, and the lines of entries are what callers and stewards may be told.
+use Rattle.std.proofs.Common.{◌≡◌, ℕ, ◌-◌, ◌==◌, Bool, true, false, List, [], ◌∷◌, ◌++◌, map, refl, subst, ap, ◌∙◌, Option, Some, None}
+use Rattle.std.specs.Prelude.{IfSome, bytes_eq, if◌then◌else◌, option_to_list, take, ⊤}
+use Rattle.std.specs.List.{AllByRecursion, flat_map}
 use Rattle.row_model.specs.declared.rows.Row.{Row}
-use Rattle.leaf_model.specs.declared.queries.Query.{Query}
 use Rattle.leaf_history.specs.Calls.{Call}
 use Rattle.leaf_history.specs.Calls as call
 use Rattle.leaf_history.specs.Replies.{EntryReply}
 use Rattle.leaf_history.specs.Replies as reply
-use Rattle.leaf_history.specs.History.{Allowed, Entry, HistoryState, LegalFrom, after_entry}
-use Rattle.tail_picks.specs.Room.{every_row}
-use Rattle.tail_picks.specs.Tails.{TryGoesOn, IsTry, Tails, TryOf, pick_of, sent_by, words_of}
-use Rattle.script_text.specs.declared.command.Command.{Command}
-use Rattle.script_text.specs.declared.command.Command.TheVariants as command
+use Rattle.leaf_history.specs.History.{Allowed, Entry, HistoryState, LegalFrom, after}
 use Rattle.script_text.specs.declared.order.Order.{Order}
 use Rattle.script_text.specs.declared.order.Order.TheVariants as order
+use Rattle.script_text.specs.declared.order.Part.{Part}
+use Rattle.script_text.specs.declared.order.Part.TheVariants as part
 use Rattle.script_text.specs.declared.order.TableRequest.{TableRequest}
 use Rattle.script_text.specs.declared.order.TableRequest.TheVariants as request
 use Rattle.script_text.specs.Orders.{part_of}
-use Rattle.script_text.specs.declared.fleet.FleetShape.{FleetShape}
-use Rattle.script_text.specs.Commands.{leaf_count}
 use Rattle.printed_lines.specs.declared.line.Said.{Said}
 use Rattle.printed_lines.specs.declared.line.Said.TheVariants.{Added, Removed, Asked, RefusedShut, RefusedFull, RefusedMemory, Opened, Took, Flushed, Closed, Handed}
-use Rattle.printed_lines.specs.declared.line.Deed.TheVariants.{Start}
-use Rattle.transcript.specs.Pieces.{Piece, Called, Worn, Acted, Says, Noted, Played, PlayedItem, One, Burst, pieces_in, plays_of}
-use Rattle.transcript.specs.Shapes.{CallPiece, OnePiece, Prints, PrintsOrder, QueryPieces, call_of}
-use Rattle.transcript.specs.Histories.{BaseState, Shown, ShowsEntry, shown, shown_if, shown_in, shown_notes}
-use Rattle.transcript.specs.Answers.{Answers, AnswersOrder}
-use Rattle.transcript.specs.Tails.{TryPieces, free_then, pieces_of_try, tells_added}
-use Rattle.transcript_standing.specs.Followed.{AreTimes, HasTimes, IsOfLane, IsPlayable, OrderTimes, RequestTimes}
-use Rattle.transcript_standing.proofs.Lists.{All-joined, All-therefore, same_some}
-use Rattle.transcript_standing.proofs.HeardPieces.{AsksOnce, IsCalm, IsProper, IsSaidOf, PrintsOwn, PrintsOwnOf, TellsOnce}
-use Rattle.transcript_standing.proofs.Heard.{AreCalm, each_calm, one_calm, order_in, roll_calm}
-use Rattle.transcript_standing.proofs.Feeding.{AddsTimes, CallTimes}
+use Rattle.printed_lines.specs.declared.line.Line.{Line}
+use Rattle.printed_lines.specs.declared.line.Line.TheVariants as line
+use Rattle.standing_feed.specs.declared.heard.Heard.{Heard}
+use Rattle.standing_feed.specs.declared.meant.Meant.{Meant}
+use Rattle.standing_feed.specs.declared.meant.Meant.TheVariants as meant
+use Rattle.standing_feed.specs.declared.meant.Now.{Now}
+use Rattle.standing_feed.specs.declared.meant.Now.TheVariants as now
+use Rattle.standing_feed.specs.Hearing.{CallsLeft, TablePlace, fed_by, fed_by_call, fed_by_next, fed_by_tail, fed_called, heard, heard_from, is_at, left_by, left_by_next, left_by_tail, left_called, meant_by, meant_in, meant_lane, meant_order, meant_part, meant_request, no_call_yet, rows_left, some_when}
+use Rattle.transcript.specs.Pieces.{Played, PlayedItem, One, Burst, commands_in, item_lines, item_of, plays_of}
+use Rattle.transcript.specs.Histories.{Shown, ShowsEntry}
+use Rattle.transcript_standing.specs.Followed.{AreTimes, IsOfLane, IsPlayable, LanePart, OrderTimes, PartTimes, RequestTimes}
+use Rattle.transcript_standing.proofs.Lists.{All-both, All-joined, All-therefore}
+use Rattle.transcript_standing.proofs.HeardPieces.{IsProper, IsSaidOf}
+use Rattle.transcript_standing.proofs.Feeding.{FedTimes, HaveTimes, added_noted, entry_at}
 use Rattle.transcript_standing.proofs.Numbers.{ShowsIn}
 
--- ---- pieces
+-- ---- what is heard of calls whose rows have times
 
-abbrev pub PieceTimes : Piece → Type 0
-PieceTimes (Called leaf table c number told) = CallTimes (Some c)
-PieceTimes _ = ⊤
+abbrev MeantTimes : Meant → Type 0
+MeantTimes (meant.Add rows) = AreTimes rows
+MeantTimes (meant.Tail rows) = IfSome rows AreTimes
+MeantTimes _ = ⊤
 
-abbrev pub HaveTimes : List Piece → Type 0
-HaveTimes pieces = AllByRecursion PieceTimes pieces
+abbrev AllTimes : List Meant → Type 0
+AllTimes calls = AllByRecursion MeantTimes calls
 
-calm_piece : (p : Piece) → IsCalm p → PieceTimes p
-calm_piece (Called leaf table c number told) calm = absurd calm
-calm_piece _ calm = tt
+abbrev NowTimes : Now → Type 0
+NowTimes (now.Tail rows) = IfSome rows AreTimes
+NowTimes now.Between = ⊤
 
-calm_times : (pieces : List Piece) → AreCalm pieces → HaveTimes pieces
-calm_times pieces calm = All-therefore IsCalm PieceTimes calm_piece pieces calm
+abbrev LeftTimes : CallsLeft → Type 0
+LeftTimes k = NowTimes k.current × AllTimes k.rest
 
-call_times : (leaf table : ℕ) (c : Call) (p : Piece) → CallTimes (Some c) → CallPiece leaf table c p → PieceTimes p
-call_times leaf table c p times (inl k) = subst PieceTimes (sym k.2) times
-call_times leaf table c p times (inr is) = subst PieceTimes (sym is) tt
+call_feeds : (m : Meant) (told : Said) → MeantTimes m → FedTimes (fed_by_call m told)
+call_feeds (meant.Add rows) (Added kept late) t = t
+call_feeds (meant.Add rows) _ t = tt
+call_feeds (meant.Expire horizon) (Removed n) t = tt
+call_feeds (meant.Expire horizon) _ t = tt
+call_feeds meant.Keep (Removed n) t = tt
+call_feeds meant.Keep _ t = tt
+call_feeds _ _ t = tt
 
-one_times : (leaf table : ℕ) (c : Call) (pieces : List Piece) → CallTimes (Some c) → OnePiece (CallPiece leaf table c) pieces → HaveTimes pieces
-one_times leaf table c pieces times one = subst HaveTimes (sym one.2) (call_times leaf table c one.0 times one.1, tt)
+tail_feeds : (rows : Option (List Row)) (told : Said) → IfSome rows AreTimes → FedTimes (fed_by_tail rows told) × IfSome (rows_left rows told) AreTimes
+tail_feeds None told t = (tt, tt)
+tail_feeds (Some rows) (Added kept late) t = (t, tt)
+tail_feeds (Some rows) _ t = (tt, t)
 
-asks_times : (table : ℕ) (q : Query) (leaves : List ℕ) (asks : List Piece) → AllZip (λ leaf piece. CallPiece leaf table (call.Ask q) piece) leaves asks → HaveTimes asks
-asks_times table q [] [] each = tt
-asks_times table q [] (p ∷ asks) each = absurd each
-asks_times table q (leaf ∷ leaves) [] each = absurd each
-asks_times table q (leaf ∷ leaves) (p ∷ asks) each = (call_times leaf table (call.Ask q) p tt each.0, asks_times table q leaves asks each.1)
+next_feeds : (calls : List Meant) (told : Said) → AllTimes calls → FedTimes (fed_by_next calls told) × LeftTimes (left_by_next calls told)
+next_feeds [] told t = (tt, (tt, tt))
+next_feeds (meant.Tail rows ∷ more) told t = let both = tail_feeds rows told t.0 in (both.0, (both.1, t.1))
+next_feeds (m ∷ more) told t = (call_feeds m told t.0, (tt, t.1))
 
-query_times : (fleet : FleetShape) (q : Query) (pieces : List Piece) → QueryPieces fleet q pieces → HaveTimes pieces
-query_times fleet q pieces a = subst HaveTimes (sym a.are) (All-joined PieceTimes a.asks (Says _ ∷ []) (asks_times _ q (range_with_len 0 (leaf_count fleet)) a.asks a.each) (tt, tt))
+called_feeds : (current : Now) (rest : List Meant) (told : Said) → NowTimes current → AllTimes rest
+    → FedTimes (fed_called (record { current = current; rest = rest }) told) × LeftTimes (left_called (record { current = current; rest = rest }) told)
+called_feeds (now.Tail rows) rest told t ts = let both = tail_feeds rows told t in (both.0, (both.1, ts))
+called_feeds now.Between rest told t ts = next_feeds rest told ts
 
--- ---- those of a tail
+entry_feeds : (k : CallsLeft) (told : Said) → LeftTimes k → FedTimes (fed_by k told) × LeftTimes (left_by k told)
+entry_feeds k (Opened writes) t = (tt, t)
+entry_feeds k (Closed writes) t = (tt, t)
+entry_feeds k (Took writes) t = (tt, t)
+entry_feeds k (Flushed writes) t = (tt, t)
+entry_feeds k Handed t = (tt, t)
+entry_feeds k told t = called_feeds k.current k.rest told t.0 t.1
 
-module _ (base_states : ℕ → BaseState) (histories : ℕ → List Entry) (table : ℕ) (rows : List Row) (times : AreTimes rows) where
-  abbrev free : Piece → Option ℕ
-  free = free_then base_states histories
+tail_ends : (current : Now) (rest : List Meant) → AllTimes rest → LeftTimes (left_by_tail (record { current = current; rest = rest }))
+tail_ends (now.Tail rows) rest ts = (tt, ts)
+tail_ends now.Between [] ts = (tt, tt)
+tail_ends now.Between (m ∷ rest) ts = (tt, ts.1)
 
-  also_times : (leaf : ℕ) (o : Option Piece) → IfSome o (CallPiece leaf table (call.Ask every_row)) → HaveTimes (option_to_list o)
-  also_times leaf None is = tt
-  also_times leaf (Some p) is = (call_times leaf table (call.Ask every_row) p tt is, tt)
+left_if : (b : Bool) (j k : CallsLeft) → LeftTimes j → LeftTimes k → LeftTimes (if b then j else k)
+left_if true j k t other = t
+left_if false j k t other = other
 
-  added_times : (o : Option Piece) (pick : Option ℕ) → is_some o ≡ is_some pick → IfSome o (λ p. IfSome pick (λ leaf. CallPiece leaf table (call.Add rows) p)) → HaveTimes (option_to_list o)
-  added_times None pick both is = tt
-  added_times (Some p) None both is = absurd (true≢false both)
-  added_times (Some p) (Some leaf) both is = (call_times leaf table (call.Add rows) p times is, tt)
+heard_if : (b : Bool) (h : Heard) (hs : List Heard) → FedTimes h.fed → HaveTimes hs → HaveTimes (option_to_list (some_when b h) ++ hs)
+heard_if true h hs t ts = (t, ts)
+heard_if false h hs t ts = ts
 
-  try_times : (n u v : ℕ) (t : TryOf Piece) → IsTry free tells_added n u v t → TryPieces table rows (pick_of free tells_added t) t → HaveTimes (pieces_of_try t)
-  try_times n u v t is ps = (
-    call_times t.first table (call.Ask every_row) t.one tt ps.one,
-    All-joined PieceTimes (option_to_list t.two) (option_to_list t.added) (also_times t.second t.two ps.two) (added_times t.added (pick_of free tells_added t) is.add ps.added),
-  )
+lines_feed : (p : TablePlace) (k : CallsLeft) (lines : List Line) → LeftTimes k → HaveTimes (heard_from p k lines)
+lines_feed p k [] t = tt
+lines_feed p k (line.Entry leaf table number told ∷ lines) t =
+    let feeds = entry_feeds k told t in
+    let next : CallsLeft = if is_at p leaf table then left_by k told else k in
+    heard_if (is_at p leaf table) (record { number = number; fed = fed_by k told }) (heard_from p next lines) feeds.0
+    (lines_feed p next lines (left_if (is_at p leaf table) (left_by k told) k feeds.1 t))
+lines_feed p k (line.Worn leaf table ∷ lines) t =
+    lines_feed p (if is_at p leaf table then left_called k RefusedShut else k) lines
+    (left_if (is_at p leaf table) (left_called k RefusedShut) k (called_feeds k.current k.rest RefusedShut t.0 t.1).1 t)
+lines_feed p k (line.Tailed leaf ∷ lines) t = lines_feed p (left_by_tail k) lines (tail_ends k.current k.rest t.1)
+lines_feed p k (_ ∷ lines) t = lines_feed p k lines t
 
-  tries_times : (n : ℕ) (words : List ℕ) (ts : List (TryOf Piece)) (sent : Option ℕ) → Tails free tells_added n words ts sent
-      → AllByRecursion (λ t. TryPieces table rows (pick_of free tells_added t) t) ts → HaveTimes (flat_map pieces_of_try ts)
-  tries_times n words [] sent tails all = tt
-  tries_times n [] (t ∷ ts) sent tails all = absurd tails
-  tries_times n (u ∷ []) (t ∷ ts) sent tails all = absurd tails
-  tries_times n (u ∷ v ∷ words) (t ∷ ts) sent tails all =
-      All-joined PieceTimes (pieces_of_try t) (flat_map pieces_of_try ts) (try_times n u v t tails.0 all.0)
-      (by (sent_by free tells_added t) tails.1 (λ goes. tries_times n words ts sent goes all.1))
-    where
-      by : (o : Option ℕ) → TryGoesOn free tells_added o ts sent (Tails free tells_added n words ts sent) → (Tails free tells_added n words ts sent → HaveTimes (flat_map pieces_of_try ts)) → HaveTimes (flat_map pieces_of_try ts)
-      by (Some leaf) goes further = subst (λ (rest : List (TryOf Piece)). HaveTimes (flat_map pieces_of_try rest)) (sym goes.0) tt
-      by None goes further = further goes
+-- ---- the calls that items mean
 
--- ---- commands
+meant_if : (b : Bool) (m : Meant) → MeantTimes m → AllTimes (option_to_list (some_when b m))
+meant_if true m t = (t, tt)
+meant_if false m t = tt
 
-request_times : (r : TableRequest) → RequestTimes r → CallTimes (Some (call_of r))
-request_times (request.Add rows) times = times
-request_times _ times = tt
+rows_if : (b : Bool) (rows : List Row) → AreTimes rows → IfSome (some_when b rows) AreTimes
+rows_if true rows t = t
+rows_if false rows t = tt
 
-order_times : (fleet : FleetShape) (base_states : ℕ → ℕ → BaseState) (histories : ℕ → ℕ → List Entry) (o : Order) (pieces : List Piece) → PrintsOrder fleet o pieces
-    → AnswersOrder fleet base_states histories o pieces → OrderTimes o → HaveTimes pieces
-order_times fleet base_states histories order.Start pieces prints answers times = calm_times pieces (each_calm Start (range_with_len 0 (leaf_count fleet)) pieces prints)
-order_times fleet base_states histories (order.Call leaf table r) pieces prints answers times = one_times leaf table (call_of r) pieces (request_times r times) prints
-order_times fleet base_states histories (order.Deed leaf d) pieces prints answers times = calm_times pieces (one_calm leaf d pieces prints)
-order_times fleet base_states histories (order.Query q) pieces prints answers times = query_times fleet q pieces prints
-order_times fleet base_states histories (order.Tail key table rows) pieces prints answers times =
-    subst HaveTimes (sym answers.are)
-    (All-joined PieceTimes (flat_map pieces_of_try answers.tries) (Says _ ∷ [])
-    (tries_times (λ leaf. base_states leaf table) (λ leaf. histories leaf table) table rows times (leaf_count fleet) (words_of key) answers.tries answers.sent answers.tails answers.calls) (tt, tt))
-order_times fleet base_states histories (order.Rollover percent) pieces prints answers times = calm_times pieces (roll_calm fleet percent pieces prints)
+request_times : (r : TableRequest) → RequestTimes r → MeantTimes (meant_request r)
+request_times (request.Add rows) t = t
+request_times _ t = tt
 
-command_times : (fleet : FleetShape) (base_states : ℕ → ℕ → BaseState) (histories : ℕ → ℕ → List Entry) (c : Command) (pieces : List Piece) → Prints fleet c pieces
-    → Answers fleet base_states histories (record { command = c; pieces = pieces }) → PrintsOwnOf c pieces → HasTimes c → HaveTimes pieces
-command_times fleet base_states histories (command.Standing leaf q) pieces prints answers own times = subst HaveTimes (sym own.2) (tt, tt)
-command_times fleet base_states histories (command.Tell standing) pieces prints answers own times = by own
-  where
-    by : TellsOnce pieces ⊎ AsksOnce pieces → HaveTimes pieces
-    by (inl t) = subst HaveTimes (sym t.2) (tt, tt)
-    by (inr t) = subst HaveTimes (sym t.are) (call_times t.leaf t.table (call.Ask t.query) t.asked tt t.ask, (tt, tt))
-command_times fleet base_states histories c pieces prints answers own times = order_times fleet base_states histories (order_in (part_of c)) pieces prints answers times
+order_times : (p : TablePlace) (o : Order) → OrderTimes o → AllTimes (option_to_list (meant_order p o))
+order_times p (order.Call leaf table r) t = meant_if (is_at p leaf table) (meant_request r) (request_times r t)
+order_times p (order.Query q) t = meant_if (bytes_eq q.table p.name) meant.Ask tt
+order_times p (order.Tail key table rows) t = (rows_if (table == p.table) rows t, tt)
+order_times p _ t = tt
 
-module _ (fleet : FleetShape) (base_states : ℕ → ℕ → BaseState) (histories : ℕ → ℕ → List Entry) where
-  plays_times : (ps : List Played) → AllByRecursion (λ (q : Played). Prints fleet q.command q.pieces) ps → AllByRecursion (Answers fleet base_states histories) ps → AllByRecursion PrintsOwn ps
-      → AllByRecursion (λ (q : Played). HasTimes q.command) ps → HaveTimes (pieces_in ps)
-  plays_times [] prints answers own times = tt
-  plays_times (q ∷ ps) prints answers own times =
-      All-joined PieceTimes q.pieces (pieces_in ps) (command_times fleet base_states histories q.command q.pieces prints.0 answers.0 own.0 times.0) (plays_times ps prints.1 answers.1 own.1 times.1)
+part_times : (p : TablePlace) (x : Part) → PartTimes x → AllTimes (option_to_list (meant_part p x))
+part_times p (part.Leaves o) t = order_times p o t
+part_times p (part.Run o) t = tt
 
--- ---- items
+of_lane : (x : Part) → LanePart x → PartTimes x
+of_lane (part.Leaves o) is = is
+of_lane (part.Run o) is = absurd is
 
-lane_times : (c : Command) → IsOfLane c → HasTimes c
-lane_times (command.Standing leaf q) is = absurd is
-lane_times (command.Tell standing) is = absurd is
-lane_times _ is = is
+lane_times : (p : TablePlace) (ps : List Played) → AllByRecursion (λ (q : Played). IsOfLane q.command) ps → AllTimes (meant_lane p (commands_in ps))
+lane_times p [] may = tt
+lane_times p (q ∷ ps) may =
+    All-joined MeantTimes (option_to_list (meant_by p q.command)) (meant_lane p (commands_in ps)) (part_times p (part_of q.command) (of_lane (part_of q.command) may.0)) (lane_times p ps may.1)
 
-lane_own : (c : Command) (pieces : List Piece) → IsOfLane c → PrintsOwnOf c pieces
-lane_own (command.Standing leaf q) pieces is = absurd is
-lane_own (command.Tell standing) pieces is = absurd is
-lane_own _ pieces is = tt
+lanes_times : (p : TablePlace) (lanes : List (List Played)) → IsPlayable (Burst lanes) → AllTimes (flat_map (meant_lane p) (map commands_in lanes))
+lanes_times p [] may = tt
+lanes_times p (lane ∷ lanes) may =
+    let both = All-both (λ (q : Played). IsOfLane q.command) lane (plays_of (Burst lanes)) may in
+    All-joined MeantTimes (meant_lane p (commands_in lane)) (flat_map (meant_lane p) (map commands_in lanes)) (lane_times p lane both.0) (lanes_times p lanes both.1)
 
-play_times : (x : PlayedItem) → IsPlayable x → AllByRecursion (λ (q : Played). HasTimes q.command) (plays_of x)
-play_times (One p) may = (may, tt)
-play_times (Burst lanes) may = All-therefore (λ (q : Played). IsOfLane q.command) (λ (q : Played). HasTimes q.command) (λ q is. lane_times q.command is) (plays_of (Burst lanes)) may
+item_times : (p : TablePlace) (x : PlayedItem) → IsPlayable x → AllTimes (meant_in p (item_of x))
+item_times p (One q) may = part_times p (part_of q.command) may
+item_times p (Burst lanes) may = lanes_times p lanes may
 
--- the lanes of a burst print nothing of standing queries
-pub lanes_own : (lanes : List (List Played)) → IsPlayable (Burst lanes) → AllByRecursion PrintsOwn (plays_of (Burst lanes))
-lanes_own lanes may = All-therefore (λ (q : Played). IsOfLane q.command) PrintsOwn (λ q is. lane_own q.command q.pieces is) (plays_of (Burst lanes)) may
-
-notes_add : (table : ℕ) (notes : List Noted) → AllByRecursion AddsTimes (shown_notes table notes)
-notes_add table [] = tt
-notes_add table (n ∷ notes) = by (n.table == table) (notes_add table notes)
-  where
-    by : (b : Bool) → AllByRecursion AddsTimes (shown_notes table notes) → AllByRecursion AddsTimes (shown_if b (record { number = n.number; call = None; said = n.said }) ++ shown_notes table notes)
-    by true others = (tt, others)
-    by false others = others
-
-piece_adds : (leaf table : ℕ) (p : Piece) → PieceTimes p → AllByRecursion AddsTimes (shown_in leaf table p)
-piece_adds leaf table (Called l t c number told) times = by ((l == leaf) && (t == table))
-  where
-    by : (b : Bool) → AllByRecursion AddsTimes (shown_if b (record { number = number; call = Some c; said = told }))
-    by true = (times, tt)
-    by false = tt
-piece_adds leaf table (Acted l deed notes ending) times = by (l == leaf)
-  where
-    by : (b : Bool) → AllByRecursion AddsTimes (if b then shown_notes table notes else [])
-    by true = notes_add table notes
-    by false = tt
-piece_adds leaf table (Worn l t) times = tt
-piece_adds leaf table (Says l) times = tt
-
-pieces_add : (leaf table : ℕ) (ps : List Piece) → HaveTimes ps → AllByRecursion AddsTimes (shown leaf table ps)
-pieces_add leaf table [] times = tt
-pieces_add leaf table (p ∷ ps) times = All-joined AddsTimes (shown_in leaf table p) (shown leaf table ps) (piece_adds leaf table p times.0) (pieces_add leaf table ps times.1)
-
--- the rows of an item's adds have times
-pub item_adds : (fleet : FleetShape) (base_states : ℕ → ℕ → BaseState) (histories : ℕ → ℕ → List Entry) (x : PlayedItem) (leaf table : ℕ) → IsPlayable x
-    → AllByRecursion (λ (q : Played). Prints fleet q.command q.pieces) (plays_of x) → AllByRecursion (Answers fleet base_states histories) (plays_of x) → AllByRecursion PrintsOwn (plays_of x)
-    → AllByRecursion AddsTimes (shown leaf table (pieces_in (plays_of x)))
-item_adds fleet base_states histories x leaf table may prints answers own =
-    pieces_add leaf table (pieces_in (plays_of x)) (plays_times fleet base_states histories (plays_of x) prints answers own (play_times x may))
+-- the rows that are heard behind an item have times
+pub heard_times : (p : TablePlace) (x : PlayedItem) → IsPlayable x → HaveTimes (heard p (meant_in p (item_of x)) (item_lines x))
+heard_times p x may = lines_feed p (no_call_yet (meant_in p (item_of x))) (item_lines x) (tt, item_times p x may)
 
 -- ---- what lines say
-
--- each entry of a legal history was allowed when it was made
-legal_at : (founded : Bool) (s : HistoryState) (es : List Entry) (i : ℕ) (e : Entry) → LegalFrom founded s es → slice_get es i ≡ Some e → (t : HistoryState) × Allowed founded t e.caller e.call e.reply
-legal_at founded s [] i e legal at = absurd cc
-legal_at founded s (d ∷ es) zero e legal at = (s, subst (λ (k : Entry). Allowed founded s k.caller k.call k.reply) (same_some d e at) legal.0)
-legal_at founded s (d ∷ es) (suc i) e legal at = legal_at founded (after_entry founded s d) es i e legal.1 at
 
 -- rows were added to an add alone
 by_add : (founded : Bool) (t : HistoryState) (caller : ℕ) (c : Call) (kept late : ℕ) → Allowed founded t caller c (reply.Added kept late) → (rows : List Row) × (c ≡ call.Add rows)
 by_add founded t caller (call.Add rows) kept late allowed = (rows, refl)
-by_add founded t caller (call.Expire horizon) kept late allowed = absurd allowed.1
-by_add founded t caller (call.Keep n) kept late allowed = absurd allowed.1
-by_add founded t caller (call.Ask q) kept late allowed = absurd allowed.1
-by_add founded t caller call.Take kept late allowed = absurd allowed.2
-by_add founded t caller (call.Flushed n) kept late allowed = absurd (noted allowed.2)
-  where
-    noted : reply.Added kept late ≡ reply.Noted → ⊥
-    noted e = cc
-by_add founded t caller call.Shut kept late allowed = absurd allowed.2
-by_add founded t caller call.Done kept late allowed = absurd (noted allowed.2)
-  where
-    noted : reply.Added kept late ≡ reply.Noted → ⊥
-    noted e = cc
-by_add founded t caller (call.Open n contents) kept late allowed = absurd (noted allowed.3)
-  where
-    noted : reply.Added kept late ≡ reply.Noted → ⊥
-    noted e = cc
+by_add founded t caller _ kept late allowed = absurd (search (allowed, added_noted kept late))
 
 said_proper : (founded : Bool) (t : HistoryState) (e : Entry) (c : Option Call) (told : Said) → Allowed founded t e.caller e.call e.reply → ShowsEntry c told e → IsSaidOf c told
 said_proper founded t e c (Added kept late) allowed is =
@@ -238,5 +182,5 @@ proper_lines founded s entries lines legal shows = All-therefore (ShowsIn entrie
   where
     one : (l : Shown) → ShowsIn entries l → IsProper l
     one l is =
-        let allowed = legal_at founded s entries (l.number - 1) is.1.0 legal is.1.1 in
-        said_proper founded allowed.0 is.1.0 l.call l.said allowed.1 is.1.2
+        let at = entry_at founded s entries (l.number - 1) is.1.0 legal is.1.1 in
+        said_proper founded (after founded s (take (l.number - 1) entries)) is.1.0 l.call l.said at.0 is.1.2
