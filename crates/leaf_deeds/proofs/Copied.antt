@@ -21,7 +21,7 @@ use Rattle.crash_moments.specs.Told as moments
 use Rattle.crash_moments.proofs.Telling.{none_more, told_join}
 use Rattle.crash_states.specs.Standing.{Copies}
 use Rattle.crash_states.proofs.Lefts.{copies_told}
-use Rattle.leaf_steward.specs.declared.notes.Note.{Note}
+use Rattle.leaf_words.specs.declared.note.Note.{Note}
 use Rattle.leaf_steward.specs.Seated.{Seated, AreFounded, watched_by}
 use Rattle.leaf_steward.specs.Making.{Makes, EachNoted, IsHandedNote}
 use Rattle.leaf_steward.proofs.Keeping.{makes_since}

@@ -1,6 +1,6 @@
 -- Steps of a drain, one behind another, and how many may be made.
 use Rattle.std.proofs.Common.{◌≡◌, ℕ, zero, suc, ◌+◌, ◌<◌, ◌≤◌, ◌∙◌, true, List, [], ◌++◌, Option, Some, None, append_assoc, append-nil, refl, sym, ap, subst, arith}
-use Rattle.transcript.specs.Pieces.{Noted}
+use Rattle.leaf_words.specs.declared.note.Note.{Note}
 use Rattle.transcript.specs.Life.{Copying, MayMake, StageOfDrain, StepOfDrain, StepsOfDrain}
 use Rattle.leaf_deeds.specs.Steps.{AreLeft, Spends}
 
@@ -8,14 +8,14 @@ use Rattle.leaf_deeds.specs.Steps.{AreLeft, Spends}
 
 module _ (tables copy : ℕ) where
   -- one step more
-  pub steps_more : (n : ℕ) (s : StageOfDrain) (a : List Noted) (t : StageOfDrain) (b : List Noted) (u : StageOfDrain) → StepsOfDrain tables copy n s a t → StepOfDrain tables copy t b u → StepsOfDrain tables copy (suc n) s (a ++ b) u
+  pub steps_more : (n : ℕ) (s : StageOfDrain) (a : List Note) (t : StageOfDrain) (b : List Note) (u : StageOfDrain) → StepsOfDrain tables copy n s a t → StepOfDrain tables copy t b u → StepsOfDrain tables copy (suc n) s (a ++ b) u
   steps_more zero s a t b u steps step =
-      (b, [], u, subst (λ (v : StageOfDrain). StepOfDrain tables copy v b u) steps.1 step, (refl, refl), ap (λ (ns : List Noted). ns ++ b) steps.0 ∙ sym (append-nil b))
+      (b, [], u, subst (λ (v : StageOfDrain). StepOfDrain tables copy v b u) steps.1 step, (refl, refl), ap (λ (ns : List Note). ns ++ b) steps.0 ∙ sym (append-nil b))
   steps_more (suc n) s a t b u steps step =
-      (steps.0, steps.1 ++ b, steps.2, steps.3, steps_more n steps.2 steps.1 t b u steps.4 step, ap (λ (ns : List Noted). ns ++ b) steps.5 ∙ append_assoc steps.0 steps.1 b)
+      (steps.0, steps.1 ++ b, steps.2, steps.3, steps_more n steps.2 steps.1 t b u steps.4 step, ap (λ (ns : List Note). ns ++ b) steps.5 ∙ append_assoc steps.0 steps.1 b)
 
   -- those of the copy, behind its plan
-  pub copies_on : (n k : ℕ) (s : StageOfDrain) (a : List Noted) → k < copy → StepsOfDrain tables copy n s a (Copying 0) → StepsOfDrain tables copy (n + k) s a (Copying k)
+  pub copies_on : (n k : ℕ) (s : StageOfDrain) (a : List Note) → k < copy → StepsOfDrain tables copy n s a (Copying 0) → StepsOfDrain tables copy (n + k) s a (Copying k)
   copies_on n zero s a below steps =
       let size : n ≡ n + 0 = omega arith in
       subst (λ (i : ℕ). StepsOfDrain tables copy i s a (Copying 0)) size steps
@@ -23,7 +23,7 @@ module _ (tables copy : ℕ) where
       let before = copies_on n k s a (omega (arith, below)) steps in
       let size : suc (n + k) ≡ n + suc k = omega arith in
       subst (λ (i : ℕ). StepsOfDrain tables copy i s a (Copying (suc k))) size
-      (subst (λ (ns : List Noted). StepsOfDrain tables copy (suc (n + k)) s ns (Copying (suc k))) (append-nil a)
+      (subst (λ (ns : List Note). StepsOfDrain tables copy (suc (n + k)) s ns (Copying (suc k))) (append-nil a)
       (steps_more (n + k) s a (Copying k) [] (Copying (suc k)) before (below, refl, refl)))
 
 -- ---- how many may be made

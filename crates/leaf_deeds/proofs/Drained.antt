@@ -9,7 +9,7 @@ use Rattle.berth_face.proofs.Moments.{passes_on}
 use Rattle.leaf_model.specs.declared.writes.Write.{Write}
 use Rattle.crash_moments.proofs.Telling.{told_join}
 use Rattle.crash_states.specs.Standing.{Runs}
-use Rattle.leaf_steward.specs.declared.notes.Note.{Note}
+use Rattle.leaf_words.specs.declared.note.Note.{Note}
 use Rattle.leaf_table.specs.Calls.{base_seen, state_seen}
 use Rattle.leaf_steward.specs.Seated.{Seated, AreFounded, AtEach, watched_by}
 use Rattle.leaf_steward.specs.Making.{Makes, EachNoted, IsClosedNote}
@@ -22,13 +22,11 @@ use Rattle.leaf_machine.specs.States.{Shutting, Copying, GoesOnCopying, IsShutAn
 use Rattle.leaf_machine.specs.Prepares.{AllTreated, CrowdsStep, PreparingIsCrowded, IsTreatingStep, RoseStep, StepGoesOn, berth_of_step, seats_of_step}
 use Rattle.printed_lines.specs.declared.line.Ending.{Ending}
 use Rattle.printed_lines.specs.declared.line.Ending.TheVariants as ending
-use Rattle.transcript.specs.Pieces.{Noted}
-use Rattle.transcript.specs.Life.{MayMake, StepsOfDrain, Treats}
+use Rattle.transcript.specs.Life.{MayMake, Treats}
 use Rattle.transcript.specs.Life as life
 use Rattle.leaf_moves.specs.Stage.{IsPreparing}
 use Rattle.leaf_moves.specs.Modes.{HasShut, mode_of, progress_of}
-use Rattle.leaf_moves.specs.Steps.{AreShut, DrainMoves, Reaches, noted_all}
-use Rattle.leaf_moves.proofs.NoteLines.{noted_append}
+use Rattle.leaf_moves.specs.Steps.{AreShut, DrainMoves, Reaches}
 use Rattle.leaf_deeds.specs.declared.drain.Shut.{Shut}
 use Rattle.leaf_deeds.specs.declared.drain.Shut.TheVariants as how
 use Rattle.leaf_deeds.specs.Steps.{AreLeft, Spends}
@@ -106,7 +104,7 @@ pub fewer_left : {B : Type 0} (meaning : B → Meaning) (leaf more : Shutting ×
     → length more.0.serving.seated.tables - treated more.0 < length leaf.0.serving.seated.tables - treated leaf.0
 fewer_left meaning leaf more notes shut stepped =
     let same = ap (λ ts. length ts) (makes_tables (meaning leaf.1).clock (meaning more.1).clock leaf.0.serving.seated notes more.0.serving.seated stepped.made) in
-    omega (arith, same, one_treated leaf.0 more.0 (noted_all notes) (treats leaf.0 more.0 notes shut stepped.one.1), stepped.one.0)
+    omega (arith, same, one_treated leaf.0 more.0 notes (treats leaf.0 more.0 notes shut stepped.one.1), stepped.one.0)
 
 module _ {B : Type 0} (meaning : B → Meaning) (x : Shutting) (m : Meaning) (stop left left' : Option ℕ) (leaf : Shutting × B)
     (before : List Note) (so_far : SoFar x m stop leaf.0 (meaning leaf.1) left before) (shut : HasShut leaf.0) where
@@ -143,17 +141,16 @@ module _ {B : Type 0} (meaning : B → Meaning) (x : Shutting) (m : Meaning) (st
     shut_more more stepped = record {
       made = suc so_far.made;
       treated_so = record {
-        steps = λ copy. subst (λ (ns : List Noted). StepsOfDrain tables copy (suc so_far.made) (life.Shutting (progress_of x)) ns (life.Shutting (progress_of more.0))) (sym (noted_append before notes))
-            (steps_more tables copy so_far.made (life.Shutting (progress_of x)) (noted_all before) (life.Shutting (progress_of leaf.0)) (noted_all notes) (life.Shutting (progress_of more.0))
-            (so_far.treated_so.steps copy) (omega (arith, stepped.one.0, same_tables), step));
+        steps = λ copy. steps_more tables copy so_far.made (life.Shutting (progress_of x)) before (life.Shutting (progress_of leaf.0)) notes (life.Shutting (progress_of more.0))
+            (so_far.treated_so.steps copy) (omega (arith, stepped.one.0, same_tables), step);
         part = record { from = m.clock; to = (meaning more.1).clock; made = far.made };
       };
       left_are = left_now;
-      few = omega (arith, length-append before notes, so_far.few, treats_few (progress_of leaf.0) (progress_of more.0) notes step, one_treated leaf.0 more.0 (noted_all notes) step);
+      few = omega (arith, length-append before notes, so_far.few, treats_few (progress_of leaf.0) (progress_of more.0) notes step, one_treated leaf.0 more.0 notes step);
       far = far;
     }
       where
-        step : Treats (progress_of leaf.0) (noted_all notes) (progress_of more.0)
+        step : Treats (progress_of leaf.0) notes (progress_of more.0)
         step = treats leaf.0 more.0 notes shut stepped.one.1
 
         far : GoesFar x more.0 (before ++ notes) m (meaning more.1)

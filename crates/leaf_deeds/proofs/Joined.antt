@@ -6,7 +6,7 @@ use Rattle.berth_face.specs.Berth.{Meaning, Passes}
 use Rattle.adopt.specs.Adopting.{HasNoStranger}
 use Rattle.crash_moments.specs.Left.{NamedStates}
 use Rattle.crash_moments.proofs.Telling.{told_join}
-use Rattle.leaf_steward.specs.declared.notes.Note.{Note}
+use Rattle.leaf_words.specs.declared.note.Note.{Note}
 use Rattle.leaf_table.specs.Turns.{Shared}
 use Rattle.leaf_steward.specs.Seated.{Seated, AreFounded, AreSeated, watched_by}
 use Rattle.leaf_steward.specs.Making.{Makes, EachNoted, IsClosedNote, IsHandedNote}
@@ -16,12 +16,11 @@ use Rattle.leaf_machine.specs.Prepares.{begins}
 use Rattle.leaf_machine.proofs.StartMakes.{makes_names}
 use Rattle.printed_lines.specs.declared.line.Ending.{Ending}
 use Rattle.printed_lines.specs.declared.line.Ending.TheVariants as ending
-use Rattle.transcript.specs.Pieces.{Noted}
 use Rattle.transcript.specs.Life.{MayMake, StageOfDrain, StepsOfDrain}
 use Rattle.transcript.specs.Life as life
 use Rattle.leaf_moves.specs.Stage.{Leaf, IsDown, IsUp, IsPreparing, LeafStands, Carries, seated_of}
 use Rattle.leaf_moves.specs.Modes.{progress_of}
-use Rattle.leaf_moves.specs.Steps.{DrainMoves, HasCopyLength, Reaches, RegionStopped, Stops, noted_all}
+use Rattle.leaf_moves.specs.Steps.{DrainMoves, HasCopyLength, Reaches, RegionStopped, Stops}
 use Rattle.leaf_moves.proofs.Drains.{by_endings}
 use Rattle.leaf_deeds.specs.Held.{KeepsSeats}
 use Rattle.leaf_deeds.specs.Steps.{copy_left}
@@ -68,11 +67,11 @@ module _ (x : Shutting) (m n o : Meaning) (stop left : Option ℕ) (before notes
   }
 
   -- the plan is a step more
-  planned : (copy : ℕ) → StepsOfDrain (length x.serving.seated.tables) copy (suc ready.made) (life.Shutting (progress_of x)) (noted_all before) (life.Copying 0)
+  planned : (copy : ℕ) → StepsOfDrain (length x.serving.seated.tables) copy (suc ready.made) (life.Shutting (progress_of x)) before (life.Copying 0)
   planned copy =
       let all = ready.all ∙ (ap (λ (y : Seated). length y.tables) (sym ready.copy.seated) ∙ same_count) in
-      subst (λ (ns : List Noted). StepsOfDrain (length x.serving.seated.tables) copy (suc ready.made) (life.Shutting (progress_of x)) ns (life.Copying 0)) (append-nil (noted_all before))
-      (steps_more (length x.serving.seated.tables) copy ready.made (life.Shutting (progress_of x)) (noted_all before) (life.Shutting (progress_of ready.whole)) [] (life.Copying 0)
+      subst (λ (ns : List Note). StepsOfDrain (length x.serving.seated.tables) copy (suc ready.made) (life.Shutting (progress_of x)) ns (life.Copying 0)) (append-nil before)
+      (steps_more (length x.serving.seated.tables) copy ready.made (life.Shutting (progress_of x)) before (life.Shutting (progress_of ready.whole)) [] (life.Copying 0)
       (ready.so_far.steps copy) (all, refl, refl))
 
   -- so many steps of a copy
@@ -82,7 +81,7 @@ module _ (x : Shutting) (m n o : Meaning) (stop left : Option ℕ) (before notes
     treating = before;
     last = notes;
     notes_are = refl;
-    comes = (progress_of x, refl, copies_on (length x.serving.seated.tables) copy (suc ready.made) made (life.Shutting (progress_of x)) (noted_all before) below (planned copy));
+    comes = (progress_of x, refl, copies_on (length x.serving.seated.tables) copy (suc ready.made) made (life.Shutting (progress_of x)) before below (planned copy));
     between = ready.whole.serving.seated;
     treats = ready.so_far.part;
     ends = record { from = n.clock; to = o.clock; made = subst (λ (s : Seated). Makes n.clock o.clock s notes z) ready.copy.seated rests.made };

@@ -4,18 +4,16 @@ use Rattle.std.specs.Prelude.{IsSome, IsTrue, if◌then◌else◌}
 use Rattle.std.proofs.lemmas.List.{length-append}
 use Rattle.row_records.specs.Records.{LogRecord}
 use Rattle.table_state.specs.Tables.{Table}
-use Rattle.leaf_steward.specs.declared.notes.Note.{Note}
+use Rattle.leaf_words.specs.declared.note.Note.{Note}
+use Rattle.leaf_words.specs.declared.note.What.{What}
+use Rattle.leaf_words.specs.declared.note.What.TheVariants as what
 use Rattle.leaf_machine.specs.Flushes.{OwedNotes}
 use Rattle.leaf_machine.specs.States.{Shutting, treated}
 use Rattle.leaf_machine.specs.Prepares as prepares
-use Rattle.printed_lines.specs.declared.line.Said.{Said}
-use Rattle.printed_lines.specs.declared.line.Said.TheVariants as said
-use Rattle.transcript.specs.Pieces.{Noted}
 use Rattle.transcript.specs.Life.{Halts, NotesOf, Progress, Starves, Treats}
 use Rattle.leaf_moves.specs.Modes.{HasShut, owed_of, progress_of}
-use Rattle.leaf_moves.specs.Steps.{noted_all}
 use Rattle.leaf_moves.proofs.Modes.{owed_none, owed_some, progress_is}
-use Rattle.leaf_moves.proofs.NoteLines.{noted_none, tells, tells_owed}
+use Rattle.leaf_moves.proofs.NoteLines.{tells, tells_owed}
 
 -- ---- how many tables are treated
 
@@ -48,26 +46,26 @@ place_half x shut e = shut ∙ ap (λ (b : Bool). if b then suc (treated x) else
 -- ---- the words of an entry
 
 -- those of a table that is treated, by whether it waits
-by_waits : (x : Shutting) (b : Bool) (n : ℕ) (ns : List Noted) → x.waits ≡ b → NotesOf (owed_of x.serving.owing) (treated x) (if b then [] else said.Closed n ∷ said.Flushed n ∷ []) ns
-    → NotesOf (owed_of x.serving.owing) (treated x) (if x.waits then [] else said.Closed n ∷ said.Flushed n ∷ []) ns
-by_waits x b n ns e h = subst (λ (c : Bool). NotesOf (owed_of x.serving.owing) (treated x) (if c then [] else said.Closed n ∷ said.Flushed n ∷ []) ns) (sym e) h
+by_waits : (x : Shutting) (b : Bool) (n : ℕ) (ns : List Note) → x.waits ≡ b → NotesOf (owed_of x.serving.owing) (treated x) (if b then [] else what.Closed n ∷ what.Flushed n ∷ []) ns
+    → NotesOf (owed_of x.serving.owing) (treated x) (if x.waits then [] else what.Closed n ∷ what.Flushed n ∷ []) ns
+by_waits x b n ns e h = subst (λ (c : Bool). NotesOf (owed_of x.serving.owing) (treated x) (if c then [] else what.Closed n ∷ what.Flushed n ∷ []) ns) (sym e) h
 
-abbrev closed_word : ℕ → ℕ → List (ℕ × Said)
-closed_word n place = (place, said.Closed n) ∷ []
+abbrev closed_word : ℕ → ℕ → List (ℕ × What)
+closed_word n place = (place, what.Closed n) ∷ []
 
-abbrev closed_words : ℕ → ℕ → List (ℕ × Said)
-closed_words n place = (place, said.Closed n) ∷ (place, said.Flushed n) ∷ []
+abbrev closed_words : ℕ → ℕ → List (ℕ × What)
+closed_words n place = (place, what.Closed n) ∷ (place, what.Flushed n) ∷ []
 
 -- ---- each way that a step may go
 
-pub treats : (x y : Shutting) (notes : List Note) → HasShut x → prepares.PreparingTreats x y notes → Treats (progress_of x) (noted_all notes) (progress_of y)
+pub treats : (x y : Shutting) (notes : List Note) → HasShut x → prepares.PreparingTreats x y notes → Treats (progress_of x) notes (progress_of y)
 treats x y notes shut (prepares.whole first closing flushing n content open_ owes notes_are closed open_then none) =
     let place = place_whole x open_ in (
-      (n, by_waits x false n (noted_all notes) open_ (tells x.serving.owing notes first _ (treated x) (said.Closed n ∷ said.Flushed n ∷ []) owes notes_are (ap (closed_words n) place))),
+      (n, by_waits x false n notes open_ (tells x.serving.owing notes first _ (treated x) (what.Closed n ∷ what.Flushed n ∷ []) owes notes_are (ap (closed_words n) place))),
       progress_is y None (suc (treated x)) false (owed_none y.serving.owing none) (treated_as y false open_then ∙ (one_closed x y content closed ∙ ap suc place)) open_then,
     )
 treats x y notes shut (prepares.rest half owes closed open_then none) = (
-  (0, by_waits x true 0 (noted_all notes) half (tells_owed x.serving.owing notes (treated x) owes)),
+  (0, by_waits x true 0 notes half (tells_owed x.serving.owing notes (treated x) owes)),
   progress_is y None (suc (treated x)) false (owed_none y.serving.owing none)
       (treated_as y false open_then ∙ (ap (λ (ts : List Table). length ts) closed ∙ place_half x shut half)) open_then,
 )
@@ -76,27 +74,27 @@ treats x y notes shut (prepares.rest half owes closed open_then none) = (
 half_treated : (x y : Shutting) (content : Table) → x.waits ≡ false → y.closed ≡ x.closed ++ content ∷ [] → y.waits ≡ true → treated y ≡ treated x
 half_treated x y content open_ closed half = omega (arith, treated_as y true half, one_closed x y content closed, place_whole x open_)
 
-pub halts : (x y : Shutting) (notes : List Note) → prepares.PreparingHalts x y notes → Halts (progress_of x) (noted_all notes) (progress_of y)
+pub halts : (x y : Shutting) (notes : List Note) → prepares.PreparingHalts x y notes → Halts (progress_of x) notes (progress_of y)
 halts x y notes (prepares.half first closing n content open_ owes notes_are closed half some owner count) =
     let place = place_whole x open_ in
     inl (
       n,
       open_,
-      tells x.serving.owing notes first _ (treated x) (said.Closed n ∷ []) owes notes_are (ap (closed_word n) place),
+      tells x.serving.owing notes first _ (treated x) (what.Closed n ∷ []) owes notes_are (ap (closed_word n) place),
       progress_is y _ (treated x) true (owed_some y.serving.owing (treated x) n some (owner ∙ place) count) (half_treated x y content open_ closed half) half,
     )
 halts x y notes (prepares.stuck none some seated log owner count closed shut) =
     let before = owed_some x.serving.owing x.serving.owing.owner x.serving.owing.count some refl refl in
     let now = owed_some y.serving.owing x.serving.owing.owner x.serving.owing.count (subst (λ (r : Option LogRecord). IsSome r) (sym log) some) owner count in
-    inr (_, before, noted_none notes none, progress_is y (owed_of x.serving.owing) (treated x) x.waits (now ∙ sym before) (treated_same x y closed shut) shut)
+    inr (_, before, none, progress_is y (owed_of x.serving.owing) (treated x) x.waits (now ∙ sym before) (treated_same x y closed shut) shut)
 
 -- no table more is shut
 starves_same : (tables : ℕ) (x y : Shutting) (notes : List Note) → OwedNotes x.serving.owing.log.owed x.serving.owing notes → y.closed ≡ x.closed → y.waits ≡ x.waits → y.serving.owing.log.owed ≡ None
-    → Starves tables (progress_of x) (noted_all notes) (progress_of y)
+    → Starves tables (progress_of x) notes (progress_of y)
 starves_same tables x y notes owes closed shut none =
     inl (tells_owed x.serving.owing notes (treated x) owes, progress_is y None (treated x) x.waits (owed_none y.serving.owing none) (treated_same x y closed shut) shut)
 
-pub starves : (tables : ℕ) (x y : Shutting) (notes : List Note) → length x.serving.seated.tables ≡ tables → prepares.PreparingStarves x y notes → Starves tables (progress_of x) (noted_all notes) (progress_of y)
+pub starves : (tables : ℕ) (x y : Shutting) (notes : List Note) → length x.serving.seated.tables ≡ tables → prepares.PreparingStarves x y notes → Starves tables (progress_of x) notes (progress_of y)
 starves tables x y notes size (prepares.before open_ owes closed open_then none) = starves_same tables x y notes owes closed (open_then ∙ sym open_) none
 starves tables x y notes size (prepares.behind first closing flushing n content open_ few owes notes_are closed half none) =
     let place = place_whole x open_ in
@@ -104,11 +102,11 @@ starves tables x y notes size (prepares.behind first closing flushing n content 
       n,
       open_,
       omega (arith, few, place, size),
-      tells x.serving.owing notes first _ (treated x) (said.Closed n ∷ said.Flushed n ∷ []) owes notes_are (ap (closed_words n) place),
+      tells x.serving.owing notes first _ (treated x) (what.Closed n ∷ what.Flushed n ∷ []) owes notes_are (ap (closed_words n) place),
       progress_is y None (treated x) true (owed_none y.serving.owing none) (half_treated x y content open_ closed half) half,
     )
 starves tables x y notes size (prepares.still was owes closed half none) = starves_same tables x y notes owes closed (half ∙ sym was) none
 
 -- one table more is treated
-pub one_treated : (x y : Shutting) (notes : List Noted) → Treats (progress_of x) notes (progress_of y) → treated y ≡ suc (treated x)
+pub one_treated : (x y : Shutting) (notes : List Note) → Treats (progress_of x) notes (progress_of y) → treated y ≡ suc (treated x)
 one_treated x y notes step = ap (λ (p : Progress). p.treated) step.1

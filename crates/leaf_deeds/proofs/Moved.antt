@@ -12,7 +12,7 @@ use Rattle.leaf_opening.specs.declared.ways.OpenFault.TheVariants as found
 use Rattle.leaf_opening.specs.Starts.{IsOpeningRefusal}
 use Rattle.crash_moments.specs.Left.{NamedStates}
 use Rattle.crash_states.specs.Standing.{Rests, Runs}
-use Rattle.leaf_steward.specs.declared.notes.Note.{Note}
+use Rattle.leaf_words.specs.declared.note.Note.{Note}
 use Rattle.leaf_steward.specs.Seated.{Seated, AreFounded, watched_by}
 use Rattle.leaf_steward.specs.Making.{Makes}
 use Rattle.leaf_machine.specs.declared.faults.StartFault.{StartFault}

@@ -4,7 +4,7 @@ use Rattle.std.specs.Prelude.{IsTrue}
 use Rattle.berth_face.specs.Berth.{Meaning, Passes}
 use Rattle.berth_face.proofs.Moments.{passes_none, passes_on}
 use Rattle.crash_moments.proofs.Telling.{told_join}
-use Rattle.leaf_steward.specs.declared.notes.Note.{Note}
+use Rattle.leaf_words.specs.declared.note.Note.{Note}
 use Rattle.leaf_steward.specs.Seated.{AreFounded, watched_by}
 use Rattle.leaf_steward.specs.Making.{Makes}
 use Rattle.leaf_steward.proofs.Keeping.{makes_join, makes_tables}

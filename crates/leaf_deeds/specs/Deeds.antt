@@ -1,7 +1,7 @@
 -- What a deed does to one leaf.
 use Rattle.std.specs.Prelude.{◌≡◌, false, List}
 use Rattle.berth_face.specs.Berth.{Meaning}
-use Rattle.leaf_steward.specs.declared.notes.Note.{Note}
+use Rattle.leaf_words.specs.declared.note.Note.{Note}
 use Rattle.printed_lines.specs.declared.line.Deed.{Deed}
 use Rattle.printed_lines.specs.declared.line.Ending.{Ending}
 use Rattle.transcript.specs.Counts.{reads_disk}

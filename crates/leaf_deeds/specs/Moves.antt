@@ -8,7 +8,7 @@ use Rattle.leaf_opening.specs.Starts.{IsWayLeft}
 use Rattle.crash_moments.specs.Left.{NamedStates}
 use Rattle.crash_moments.specs.Told as moments
 use Rattle.crash_states.specs.Standing.{Copies}
-use Rattle.leaf_steward.specs.declared.notes.Note.{Note}
+use Rattle.leaf_words.specs.declared.note.Note.{Note}
 use Rattle.leaf_steward.specs.Seated.{Seated, AreFounded, watched_by}
 use Rattle.leaf_steward.specs.Making.{Makes, EachNoted, IsClosedNote, IsHandedNote}
 use Rattle.leaf_machine.specs.declared.preparing.Prepared.{Prepared}
@@ -24,7 +24,7 @@ use Rattle.transcript.specs.Life as life
 use Rattle.leaf_moves.specs.Stage as stage
 use Rattle.leaf_moves.specs.Stage.{Leaf, IsDown, IsPreparing, LeafStands, Carries}
 use Rattle.leaf_moves.specs.Modes.{HasShut, progress_of}
-use Rattle.leaf_moves.specs.Steps.{DrainMoves, HasCopyLength, MakesNoted, RegionStopped, SameRegion, noted_all}
+use Rattle.leaf_moves.specs.Steps.{DrainMoves, HasCopyLength, MakesNoted, RegionStopped, SameRegion}
 use Rattle.leaf_deeds.specs.declared.drain.Shut.{Shut}
 use Rattle.leaf_deeds.specs.declared.drain.Shut.TheVariants as shut
 use Rattle.leaf_deeds.specs.Steps.{AreLeft, copy_left}
@@ -58,7 +58,7 @@ pub record CopyRests (c : Copying) (y : Seated) (notes : List Note) (m m' : Mean
 
 -- tables were treated in `made` steps of the leaf's life, with these notes
 pub record Treated (x : Shutting) (made : ℕ) (notes : List Note) (y : Shutting) : Type 0 where
-  pub steps : (copy : ℕ) → StepsOfDrain (length x.serving.seated.tables) copy made (life.Shutting (progress_of x)) (noted_all notes) (life.Shutting (progress_of y))
+  pub steps : (copy : ℕ) → StepsOfDrain (length x.serving.seated.tables) copy made (life.Shutting (progress_of x)) notes (life.Shutting (progress_of y))
   pub part : MakesNoted x.serving.seated notes y.serving.seated
 
 -- all tables that were left were treated, with these notes, and their copy is planned

@@ -20,7 +20,7 @@ use Rattle.crash_states.specs.Entries.{HandsAll}
 use Rattle.crash_states.proofs.Lefts.{copies_told, rests_left, told_now}
 use Rattle.crash_draining.specs.Laws.{DrainStepped, HandsOver}
 use Rattle.crash_draining.proofs.Copying.{step_told, step_more, step_last, step_failed, given_up, handed}
-use Rattle.leaf_steward.specs.declared.notes.Note.{Note}
+use Rattle.leaf_words.specs.declared.note.Note.{Note}
 use Rattle.leaf_steward.specs.Seated.{Seated, AreSeated, AreFounded, AtEach, watched_by}
 use Rattle.leaf_table.specs.Calls.{SeesShut}
 use Rattle.leaf_steward.specs.Making.{Makes, EachNoted, IsHandedNote}

@@ -10,7 +10,7 @@ use Rattle.crash_states.specs.Standing.{Runs, Rests}
 use Rattle.crash_states.proofs.Lefts.{rests_left, told_now}
 use Rattle.crash_serving.specs.Laws.{IsKilled}
 use Rattle.crash_serving.proofs.Running.{kills}
-use Rattle.leaf_steward.specs.declared.notes.Note.{Note}
+use Rattle.leaf_words.specs.declared.note.Note.{Note}
 use Rattle.leaf_steward.specs.Seated.{Seated, AtEach, AreSeated, AreFounded, watched_by}
 use Rattle.leaf_table.specs.Turns.{Shared}
 use Rattle.leaf_table.specs.Calls.{SeesShut}

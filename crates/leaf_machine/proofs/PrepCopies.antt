@@ -27,7 +27,7 @@ use Rattle.crash_states.proofs.Names.{each_at}
 use Rattle.crash_states.proofs.States.{now_sound}
 use Rattle.crash_draining.specs.Laws.{AreTaken}
 use Rattle.crash_draining.proofs.Copying.{planned}
-use Rattle.leaf_steward.specs.declared.notes.Note.{Note}
+use Rattle.leaf_words.specs.declared.note.Note.{Note}
 use Rattle.leaf_steward.specs.Seated.{AreFounded, AreSeated, watched_by}
 use Rattle.leaf_machine.proofs.PrepColumns.{drain_few, drain_long}
 use Rattle.leaf_machine.proofs.PrepNames.{treated_all}

@@ -11,7 +11,7 @@ use Rattle.leaf_history.specs.Replies as reply
 use Rattle.table_state.specs.Tables.{Store, Table, Takes, added_count, bare, columns_most}
 use Rattle.leaf_table.specs.Turns.{HasFewColumns, Shared, is_founded}
 use Rattle.leaf_table.specs.Calls.{Made, SeatView, SeesShut, base_seen, state_before, state_seen}
-use Rattle.leaf_steward.specs.declared.notes.Note.{Note}
+use Rattle.leaf_words.specs.declared.note.Note.{Note}
 use Rattle.leaf_steward.specs.Seated.{Seated, AreSeated, with_seat}
 use Rattle.leaf_steward.specs.Making.{ShutsAt}
 use Rattle.leaf_steward.specs.Owing.{Owing, Brings, SettlesOwed}

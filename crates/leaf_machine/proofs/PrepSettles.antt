@@ -9,7 +9,7 @@ use Rattle.table_state.specs.Tables.{Table}
 use Rattle.leaf_table.specs.Turns.{Shared}
 use Rattle.leaf_table.specs.Calls.{SeatView, base_seen, name_of, state_seen}
 use Rattle.crash_states.specs.Standing.{Runs}
-use Rattle.leaf_steward.specs.declared.notes.Note.{Note}
+use Rattle.leaf_words.specs.declared.note.Note.{Note}
 use Rattle.leaf_steward.specs.Seated.{Seated, AreFounded, AreSeated, AtPlace, Spares, watched_by}
 use Rattle.leaf_steward.specs.Making.{NotesOn, OneEntry}
 use Rattle.leaf_steward.specs.Owing.{Owing, IsOwed, RunsTo, SettlesOwed, flushed_note, nothing, done, failed}

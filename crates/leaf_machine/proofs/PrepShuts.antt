@@ -21,8 +21,8 @@ use Rattle.crash_states.specs.Standing.{Runs}
 use Rattle.crash_states.specs.Entries.{Enters}
 use Rattle.crash_serving.specs.Laws as law
 use Rattle.crash_serving.proofs.Running.{shuts}
-use Rattle.leaf_steward.specs.declared.notes.Note.{Note}
-use Rattle.leaf_steward.specs.declared.notes.What.TheVariants as what
+use Rattle.leaf_words.specs.declared.note.Note.{Note}
+use Rattle.leaf_words.specs.declared.note.What.TheVariants as what
 use Rattle.leaf_steward.specs.Seated.{Seated, AreFounded, AreSeated, AtPlace, Spares, watched, watched_by}
 use Rattle.leaf_steward.specs.Making.{Makes, NotesOn, OneEntry, ShutsAt}
 use Rattle.leaf_steward.proofs.Keeping.{founded_as, makes_one, makes_seated, makes_tables}

@@ -5,8 +5,8 @@ use Rattle.std.proofs.lemmas.Bool.{false≢true}
 use Rattle.row_records.specs.Records.{LogRecord}
 use Rattle.berth_face.specs.Berth.{Meaning}
 use Rattle.table_state.specs.Tables.{Table}
-use Rattle.leaf_steward.specs.declared.notes.Note.{Note}
-use Rattle.leaf_steward.specs.declared.notes.What.TheVariants as what
+use Rattle.leaf_words.specs.declared.note.Note.{Note}
+use Rattle.leaf_words.specs.declared.note.What.TheVariants as what
 use Rattle.leaf_steward.specs.Owing.{Owing}
 use Rattle.leaf_machine.specs.declared.preparing.PrepareFault.{PrepareFault}
 use Rattle.leaf_machine.specs.declared.preparing.PrepareFault.TheVariants.{DiskFault, NoRoom, NoMemory}

@@ -1,8 +1,8 @@
 -- Entries that were made one after another.
 use Rattle.std.proofs.Common.{◌≡◌, ◌∙◌, ℕ, suc, List, [], ◌∷◌, length, refl, sym, ap, subst}
 use Rattle.table_state.specs.Tables.{Table}
-use Rattle.leaf_steward.specs.declared.notes.Note.{Note}
-use Rattle.leaf_steward.specs.declared.notes.What.{What}
+use Rattle.leaf_words.specs.declared.note.Note.{Note}
+use Rattle.leaf_words.specs.declared.note.What.{What}
 use Rattle.leaf_steward.specs.Seated.{Seated}
 use Rattle.leaf_steward.specs.Making.{EachNoted, Makes, OpenedNotes}
 use Rattle.leaf_machine.specs.Starts.{IsOpenedNote}

@@ -30,7 +30,7 @@ use Rattle.crash_states.proofs.Names.{each_at}
 use Rattle.crash_states.proofs.States.{now_sound}
 use Rattle.crash_starting.specs.Laws.{FindsOpenable, HasContent, Opens, names_of}
 use Rattle.crash_starting.proofs.Starting.{opening_told, found, openable, opens}
-use Rattle.leaf_steward.specs.declared.notes.Note.{Note}
+use Rattle.leaf_words.specs.declared.note.Note.{Note}
 use Rattle.leaf_steward.specs.Seated.{Seated, AreAlike, AreSeated, AreFounded, AtEach, Spares, watched, watched_by}
 use Rattle.leaf_steward.specs.Making.{EachNoted, Makes, OpenedNotes}
 use Rattle.leaf_steward.specs.Owing.{Owing}

@@ -20,7 +20,7 @@ use Rattle.crash_moments.proofs.Telling.{none_more}
 use Rattle.crash_states.specs.Standing.{Rests}
 use Rattle.crash_states.proofs.Lefts.{rests_told}
 use Rattle.crash_starting.proofs.Starting.{opening_told, refused}
-use Rattle.leaf_steward.specs.declared.notes.Note.{Note}
+use Rattle.leaf_words.specs.declared.note.Note.{Note}
 use Rattle.leaf_steward.specs.Seated.{Seated, AreSeated, AtEach, watched_by}
 use Rattle.leaf_steward.specs.Making.{Makes}
 use Rattle.leaf_steward.proofs.Watching.{watch_names}

@@ -12,8 +12,8 @@ use Rattle.crash_moments.proofs.Telling.{told_join}
 use Rattle.crash_states.specs.Standing.{Runs}
 use Rattle.leaf_table.specs.Turns.{Shared}
 use Rattle.leaf_table.specs.Calls.{IsFresh, base_seen, name_of, state_seen}
-use Rattle.leaf_steward.specs.declared.notes.Note.{Note}
-use Rattle.leaf_steward.specs.declared.notes.What.TheVariants as what
+use Rattle.leaf_words.specs.declared.note.Note.{Note}
+use Rattle.leaf_words.specs.declared.note.What.TheVariants as what
 use Rattle.leaf_steward.specs.Seated.{Seated, AtPlace, AreSeated, AreFounded, Spares, watched_by}
 use Rattle.leaf_steward.specs.Making.{Makes, OneEntry, TakesAt, WornAt}
 use Rattle.leaf_steward.proofs.Seating.{same_at}

@@ -18,7 +18,7 @@ use Rattle.crash_states.specs.Standing.{Runs}
 use Rattle.crash_states.specs.Entries.{Enters}
 use Rattle.crash_serving.specs.Laws.{Owes, record_for, untaken_before}
 use Rattle.crash_serving.proofs.Running.{takes}
-use Rattle.leaf_steward.specs.declared.notes.What.TheVariants as what
+use Rattle.leaf_words.specs.declared.note.What.TheVariants as what
 use Rattle.leaf_steward.specs.Seated.{Seated, AreSeated, AreFounded, watched, watched_by}
 use Rattle.leaf_steward.specs.Making.{TakesAt}
 use Rattle.leaf_steward.proofs.WatchPlaces.{watch_all}

@@ -7,7 +7,7 @@ use Rattle.leaf_history.specs.Replies as reply
 use Rattle.leaf_table.specs.Turns.{Shared}
 use Rattle.leaf_table.specs.Calls.{SeatView, base_seen, name_of, state_before, state_seen, SeesOpen}
 use Rattle.leaf_table.proofs.Knowing.{open_after_take, taken_after_take}
-use Rattle.leaf_steward.specs.declared.notes.What.TheVariants as what
+use Rattle.leaf_words.specs.declared.note.What.TheVariants as what
 use Rattle.leaf_steward.specs.Seated.{Seated, AtPlace, IsSeated, AreSeated, Spares}
 use Rattle.leaf_steward.specs.Making.{OneEntry, TakesAt}
 use Rattle.leaf_steward.proofs.Seating.{at_new, may_enter, spares_less}

@@ -16,7 +16,7 @@ use Rattle.drain_copy.specs.Regions.{IsCutOrBegun}
 use Rattle.crash_states.specs.Standing.{Copies as Stands, StandsNow}
 use Rattle.leaf_words.specs.declared.ways.Way.TheVariants.{Memory}
 use Rattle.leaf_opening.specs.Starts.{IsWayLeft}
-use Rattle.leaf_steward.specs.declared.notes.Note.{Note}
+use Rattle.leaf_words.specs.declared.note.Note.{Note}
 use Rattle.leaf_steward.specs.Seated.{AreFounded, Seated, watched_by}
 use Rattle.leaf_steward.specs.Making.{EachNoted, IsHandedNote, Makes}
 use Rattle.leaf_machine.specs.declared.copying.Copied.{Copied}

@@ -2,8 +2,8 @@
 use Rattle.std.specs.Prelude.{◌≡◌, ℕ, List, [], ◌∷◌, ◌++◌, Option, Some, None, IsSome}
 use Rattle.row_records.specs.Records.{LogRecord}
 use Rattle.leaf_table.specs.Calls.{IsFresh}
-use Rattle.leaf_steward.specs.declared.notes.Note.{Note}
-use Rattle.leaf_steward.specs.declared.notes.What.TheVariants as what
+use Rattle.leaf_words.specs.declared.note.Note.{Note}
+use Rattle.leaf_words.specs.declared.note.What.TheVariants as what
 use Rattle.leaf_steward.specs.Seated.{Seated, AtPlace}
 use Rattle.leaf_steward.specs.Making.{Makes, WornAt}
 use Rattle.leaf_steward.specs.Owing.{Owing, flushed_note}

@@ -18,7 +18,7 @@ use Rattle.leaf_opening.specs.Starts.{AreFresh, IsDurable, IsOpeningRefusal, IsW
 use Rattle.crash_moments.specs.Left.{NamedStates}
 use Rattle.crash_states.specs.Standing.{Rests}
 use Rattle.crash_starting.specs.Laws.{OpeningMade}
-use Rattle.leaf_steward.specs.declared.notes.Note.{Note}
+use Rattle.leaf_words.specs.declared.note.Note.{Note}
 use Rattle.leaf_steward.specs.Seated.{AreFounded, Seated, watched_by}
 use Rattle.leaf_steward.specs.Making.{Makes}
 use Rattle.leaf_machine.specs.declared.faults.StartFault.{StartFault}

@@ -2,7 +2,7 @@
 use Rattle.std.specs.Prelude.{◌≡◌, ℕ, List, IsTrue}
 use Rattle.berth_face.specs.Berth.{Meaning, Passes}
 use Rattle.berth_face.specs.Causes.{Rose}
-use Rattle.leaf_steward.specs.declared.notes.Note.{Note}
+use Rattle.leaf_words.specs.declared.note.Note.{Note}
 use Rattle.leaf_steward.specs.Seated.{AreFounded}
 use Rattle.leaf_steward.specs.Making.{Makes}
 use Rattle.leaf_machine.specs.declared.up.FlushReply.{FlushReply}

@@ -1,7 +1,7 @@
 -- How a drain may end.
 use Rattle.std.proofs.Common.{ℕ, List, Option}
 use Rattle.berth_face.specs.Berth.{Meaning}
-use Rattle.leaf_steward.specs.declared.notes.Note.{Note}
+use Rattle.leaf_words.specs.declared.note.Note.{Note}
 use Rattle.printed_lines.specs.declared.line.Ending.{Ending}
 use Rattle.printed_lines.specs.declared.line.Ending.TheVariants as ending
 use Rattle.leaf_moves.specs.Stage.{Leaf}

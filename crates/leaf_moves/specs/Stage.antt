@@ -10,7 +10,7 @@ use Rattle.crash_moments.specs.Left.{NamedStates}
 use Rattle.crash_moments.specs.Watched.{IsFoundation}
 use Rattle.crash_moments.specs.Told as moments
 use Rattle.crash_states.specs.Standing.{Runs, Rests}
-use Rattle.leaf_steward.specs.declared.notes.Note.{Note}
+use Rattle.leaf_words.specs.declared.note.Note.{Note}
 use Rattle.leaf_steward.specs.Seated.{Seated, AreFounded, watched_by}
 use Rattle.leaf_steward.specs.Making.{Makes}
 use Rattle.leaf_machine.specs.States.{Serving, Shutting}

@@ -1,6 +1,6 @@
 -- What each command does to the leaves and callers' seats that a player holds: the pieces that it prints, and what then
 -- holds.
-use Rattle.std.specs.Prelude.{◌≡◌, ◌≢◌, ℕ, zero, suc, ◌+◌, ◌<◌, ◌≤◌, true, List, [], ◌++◌, length, map, Option, Some, None, Ok, slice_get, slice_set, IsTrue, ⊤}
+use Rattle.std.specs.Prelude.{◌≡◌, ◌≢◌, ℕ, zero, suc, ◌+◌, ◌<◌, ◌≤◌, true, List, [], ◌++◌, length, Option, Some, None, Ok, slice_get, slice_set, IsTrue, ⊤}
 use Rattle.berth_face.specs.Berth.{Meaning}
 use Rattle.leaf_history.specs.Calls.{Call}
 use Rattle.leaf_words.specs.declared.ways.WhyDisk.TheVariants as why
@@ -17,9 +17,7 @@ use Rattle.leaf_table.specs.declared.replies.Reply.{Reply}
 use Rattle.leaf_table.specs.declared.replies.Reply.TheVariants as told
 use Rattle.leaf_table.specs.Turns.{Shared}
 use Rattle.leaf_table.specs.Calls.{SeatView, SeesShut, base_seen, Answered}
-use Rattle.leaf_steward.specs.declared.notes.Note.{Note}
-use Rattle.leaf_steward.specs.declared.notes.What.{What}
-use Rattle.leaf_steward.specs.declared.notes.What.TheVariants as what
+use Rattle.leaf_words.specs.declared.note.Note.{Note}
 use Rattle.leaf_steward.specs.Seated.{Seated, AreFounded, AtEach}
 use Rattle.leaf_steward.specs.Making.{Makes, EachNoted, IsClosedNote, IsHandedNote, WornAt}
 use Rattle.leaf_machine.specs.declared.faults.StartFault.{StartFault}
@@ -31,13 +29,12 @@ use Rattle.leaf_machine.specs.States.{Serving, columns_added, columns_seen}
 use Rattle.leaf_machine.specs.Starts.{CameUp, IsExactRefusal, IsOpenedNote, IsStartRefused}
 use Rattle.leaf_machine.specs.Flushes as flushing
 use Rattle.leaf_machine.specs.Prepares.{PreparingIsCrowded}
-use Rattle.printed_lines.specs.declared.line.Said.{Said}
 use Rattle.printed_lines.specs.declared.line.Said.TheVariants as said
 use Rattle.printed_lines.specs.declared.line.Ending.{Ending}
 use Rattle.printed_lines.specs.declared.line.Ending.TheVariants as ending
 use Rattle.printed_lines.specs.declared.line.Deed.{Deed}
 use Rattle.printed_lines.specs.declared.line.Deed.TheVariants.{Start, Flush, Drain, Kill}
-use Rattle.transcript.specs.Pieces.{Piece, Called, Worn, Acted, Noted}
+use Rattle.transcript.specs.Pieces.{Piece, Called, Worn, Acted}
 use Rattle.transcript.specs.Life.{DrainComes, Copying, Down, Halts, MayMake, LifeMode, Owed, Preparing, Progress, Shutting, StageOfDrain, Starves, first_open}
 use Rattle.leaf_moves.specs.Stage.{Leaf, IsDown, IsUp, IsPreparing, seated_of, LeafStands, ServingStands, AreHandedNothing, Carries, MeetAll}
 use Rattle.leaf_moves.specs.Modes.{mode_of, owed_of, progress_of}
@@ -65,22 +62,6 @@ pub record CallStep (leaf table : ℕ) (c : Call) (tables : List Shared) (caller
   pub answered : Answered (base_seen shared) before c reply after
   pub now : callers' ≡ slice_set callers table (Some after)
   pub says : IsReplyPiece leaf table c reply p
-
--- ---- the lines of notes
-
--- what the line of a note says
-abbrev pub said_of_note : What → Said
-said_of_note (what.Opened writes) = said.Opened writes
-said_of_note (what.Took writes) = said.Took writes
-said_of_note (what.Flushed writes) = said.Flushed writes
-said_of_note (what.Closed writes) = said.Closed writes
-said_of_note what.Handed = said.Handed
-
-abbrev pub noted : Note → Noted
-noted n = record { table = n.table; number = n.number; said = said_of_note n.what }
-
-abbrev pub noted_all : List Note → List Noted
-noted_all notes = map noted notes
 
 -- ---- the steward's part of a command, by its notes and its ending
 
@@ -228,7 +209,7 @@ pub record ReachesBy (mode : LifeMode) (x y : Seated) (notes : List Note) (copy 
   pub treating : List Note
   pub last : List Note
   pub notes_are : notes ≡ treating ++ last
-  pub comes : DrainComes (length x.tables) copy made mode (noted_all treating) s
+  pub comes : DrainComes (length x.tables) copy made mode treating s
   pub between : Seated
   pub treats : MakesNoted x treating between
   pub ends : MakesNoted between last y
@@ -272,9 +253,9 @@ DrainMoves m m' leaf stop notes ending.FaultRegion leaf' = (copy made : ℕ) × 
 DrainMoves m m' leaf stop notes ending.FaultRoom leaf' = (q : Progress) × (r : Reaches leaf leaf' notes 0 (Shutting q)) × MayMake stop (suc r.made) × (q.treated ≡ length (seated_of leaf).tables)
     × AreShut (seated_of leaf') × PreparingIsCrowded (seated_of leaf') × (r.last ≡ []) × (mode_of leaf' ≡ Preparing q) × SameRegion m m'
 DrainMoves m m' leaf stop notes ending.FaultMemory leaf' = (q p : Progress) × (r : Reaches leaf leaf' notes 0 (Shutting q)) × MayMake stop (suc r.made)
-    × Starves (length (seated_of leaf).tables) q (noted_all r.last) p × (mode_of leaf' ≡ Preparing p) × SameRegion m m'
+    × Starves (length (seated_of leaf).tables) q r.last p × (mode_of leaf' ≡ Preparing p) × SameRegion m m'
 DrainMoves m m' leaf stop notes ending.FaultDisk leaf' = (q p : Progress) × (r : Reaches leaf leaf' notes 0 (Shutting q)) × MayMake stop (suc r.made) × (q.treated < length (seated_of leaf).tables)
-    × Halts q (noted_all r.last) p × (mode_of leaf' ≡ Preparing p) × SameRegion m m'
+    × Halts q r.last p × (mode_of leaf' ≡ Preparing p) × SameRegion m m'
 DrainMoves m m' leaf stop notes ending.Stopped leaf' =
     (copy : ℕ) × (s : StageOfDrain) × (r : Reaches leaf leaf' notes copy s) × (stop ≡ Some r.made) × Stops m m' leaf leaf' notes copy s r × (mode_of leaf' ≡ Down)
 DrainMoves m m' leaf stop notes ending.NotUp leaf' = IsDownLeaf leaf × (notes ≡ []) × (m'.held ≡ m.held) × (leaf' ≡ leaf)
@@ -300,4 +281,4 @@ pub record DeedStep (number : ℕ) (deed : Deed) (m m' : Meaning) (leaf : Leaf) 
   pub moves : Moves deed m m' met notes ends moved
   pub carries : Carries met moved notes m m'
   pub second : MeetAll moved met_callers leaf' callers' m'
-  pub piece_is : p ≡ Acted number deed (noted_all notes) ends
+  pub piece_is : p ≡ Acted number deed notes ends

@@ -1,7 +1,7 @@
 -- Notes put behind others, one by one.
 use Rattle.std.proofs.Common.{◌≡◌, ℕ, zero, suc, ◌+◌, ◌<◌, ◌≤◌, List, [], ◌∷◌, ◌++◌, length, take, slice_get, Some, ap, sym, ◌∙◌, append_assoc, arith}
 use Rattle.std.proofs.lemmas.List.{length-append, length-take-le}
-use Rattle.leaf_steward.specs.declared.notes.Note.{Note}
+use Rattle.leaf_words.specs.declared.note.Note.{Note}
 
 take_next : (ns : List Note) (i : ℕ) (n : Note) → slice_get ns i ≡ Some n → take (suc i) ns ≡ take i ns ++ n ∷ []
 take_next [] i n at = absurd cc

@@ -21,7 +21,7 @@ use Rattle.crash_states.specs.Entries.{Enters}
 use Rattle.crash_states.proofs.Lefts.{runs_told}
 use Rattle.crash_serving.specs.Laws.{Settles, IsFlushed, Owes, settled_log, owing_log}
 use Rattle.crash_serving.proofs.Running.{settles, flushes}
-use Rattle.leaf_steward.specs.declared.notes.Note.{Note}
+use Rattle.leaf_words.specs.declared.note.Note.{Note}
 use Rattle.leaf_steward.specs.Seated.{Seated, AreSeated, AreFounded, AtPlace, watched, watched_by}
 use Rattle.leaf_steward.specs.Making.{OneEntry}
 use Rattle.leaf_steward.proofs.WatchPlaces.{watch_all}

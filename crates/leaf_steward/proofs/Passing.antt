@@ -5,9 +5,9 @@ use Rattle.table_state.specs.Tables.{Table}
 use Rattle.leaf_table.specs.Turns.{Shared}
 use Rattle.leaf_table.specs.Calls.{SeatView, base_seen, SeesOpen, SeesShut}
 use Rattle.leaf_table.proofs.Knowing.{shut_after_shut}
-use Rattle.leaf_steward.specs.declared.notes.Note.{Note}
-use Rattle.leaf_steward.specs.declared.notes.What.{What}
-use Rattle.leaf_steward.specs.declared.notes.What.TheVariants.{Opened, Closed}
+use Rattle.leaf_words.specs.declared.note.Note.{Note}
+use Rattle.leaf_words.specs.declared.note.What.{What}
+use Rattle.leaf_words.specs.declared.note.What.TheVariants.{Opened, Closed}
 use Rattle.leaf_steward.specs.Seated.{Seated, AtEach, AtPlace, Spares, with_seat}
 use Rattle.leaf_steward.specs.Making.{Makes, OneEntry, EachNoted, OpenedNotes, ShutsAt}
 use Rattle.leaf_steward.proofs.Seating.{each_with, same_at, set_get, set_other}

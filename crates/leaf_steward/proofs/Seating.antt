@@ -13,7 +13,7 @@ use Rattle.row_records.specs.Records.{LogRecord}
 use Rattle.leaf_table.specs.declared.replies.ClosedTable.{ClosedTable}
 use Rattle.leaf_table.specs.Turns.{Shared, TurnsTaken, is_founded, start_of, told, history, untaken_record}
 use Rattle.leaf_table.specs.Calls.{SeatView, Made, ClosedBy, base_seen, name_of, seen_of, state_before, entry_seen, IsFresh, IsSteward, IsWorn}
-use Rattle.leaf_steward.specs.declared.notes.What.{What}
+use Rattle.leaf_words.specs.declared.note.What.{What}
 use Rattle.leaf_steward.specs.Seated.{Seated, AtEach, AtPlace, IsSeated, IsUnused, AreSeated, Spares, with_seat}
 use Rattle.leaf_steward.specs.Making.{MadeAs, OneEntry, TakesAt, ShutsAt, WornAt}
 

@@ -13,9 +13,9 @@ use Rattle.crash_moments.specs.Told.{SeenMore}
 use Rattle.crash_moments.proofs.Telling.{between_append, more_on, none_more}
 use Rattle.crash_states.specs.Entries.{Enters, stewards}
 use Rattle.crash_states.proofs.Meeting.{callers_between}
-use Rattle.leaf_steward.specs.declared.notes.Note.{Note}
-use Rattle.leaf_steward.specs.declared.notes.What.{What}
-use Rattle.leaf_steward.specs.declared.notes.What.TheVariants.{Opened}
+use Rattle.leaf_words.specs.declared.note.Note.{Note}
+use Rattle.leaf_words.specs.declared.note.What.{What}
+use Rattle.leaf_words.specs.declared.note.What.TheVariants.{Opened}
 use Rattle.leaf_steward.specs.Seated.{Seated, AreSeated, AreFounded, watched, watched_by, with_seat}
 use Rattle.leaf_steward.specs.Making.{MadeAs, Makes, OneEntry, EachNoted, OpenedNotes}
 use Rattle.leaf_steward.proofs.Seating.{same_at, set_get, set_other}

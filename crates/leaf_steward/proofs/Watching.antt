@@ -15,9 +15,9 @@ use Rattle.leaf_table.specs.Calls.{SeatView, Made, base_seen, name_of, SeesShut}
 use Rattle.crash_moments.specs.Watched.{IsFoundation, Watched, now_of}
 use Rattle.crash_states.specs.Standing.{MayHave}
 use Rattle.crash_states.specs.Entries.{ShutsAll, OpensAll, HandsAll}
-use Rattle.leaf_steward.specs.declared.notes.Note.{Note}
-use Rattle.leaf_steward.specs.declared.notes.What.{What}
-use Rattle.leaf_steward.specs.declared.notes.What.TheVariants.{Opened, Took, Flushed, Closed, Handed}
+use Rattle.leaf_words.specs.declared.note.Note.{Note}
+use Rattle.leaf_words.specs.declared.note.What.{What}
+use Rattle.leaf_words.specs.declared.note.What.TheVariants.{Opened, Took, Flushed, Closed, Handed}
 use Rattle.leaf_steward.specs.Seated.{Seated, IsSeated, AreSeated, AreFounded, AtEach, watched, watched_by, with_seat}
 use Rattle.leaf_steward.specs.Making.{MadeAs, Makes, EachNoted, IsClosedNote, IsHandedNote, OpenedNotes}
 use Rattle.leaf_steward.proofs.Seating.{same_at}

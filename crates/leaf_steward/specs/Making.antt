@@ -9,9 +9,9 @@ use Rattle.row_records.specs.Records.{LogRecord}
 use Rattle.leaf_table.specs.declared.base.TableBase.{TableBase}
 use Rattle.leaf_table.specs.Turns.{HasFewColumns, Shared, is_founded, untaken_record}
 use Rattle.leaf_table.specs.Calls.{SeatView, Made, base_seen, name_of, state_before, IsFresh, IsWorn}
-use Rattle.leaf_steward.specs.declared.notes.Note.{Note}
-use Rattle.leaf_steward.specs.declared.notes.What.{What}
-use Rattle.leaf_steward.specs.declared.notes.What.TheVariants.{Opened, Took, Flushed, Closed, Handed}
+use Rattle.leaf_words.specs.declared.note.Note.{Note}
+use Rattle.leaf_words.specs.declared.note.What.{What}
+use Rattle.leaf_words.specs.declared.note.What.TheVariants.{Opened, Took, Flushed, Closed, Handed}
 use Rattle.leaf_steward.specs.Seated.{Seated, with_seat}
 
 -- the entry that a note tells

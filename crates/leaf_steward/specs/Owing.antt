@@ -9,8 +9,8 @@ use Rattle.crash_moments.specs.Told.{Told}
 use Rattle.crash_states.specs.Standing.{Runs}
 use Rattle.crash_serving.specs.Laws.{settled_log, owing_log, Owes}
 use Rattle.leaf_table.specs.Calls.{base_seen, name_of, state_seen}
-use Rattle.leaf_steward.specs.declared.notes.Note.{Note}
-use Rattle.leaf_steward.specs.declared.notes.What.TheVariants as what
+use Rattle.leaf_words.specs.declared.note.Note.{Note}
+use Rattle.leaf_words.specs.declared.note.What.TheVariants as what
 use Rattle.leaf_steward.specs.Seated.{Seated, AtPlace, watched_by}
 use Rattle.leaf_steward.specs.Making.{OneEntry}
 

@@ -8,5 +8,5 @@ mod notes;
 mod seats;
 
 pub use log::StewardLog;
-pub use notes::{Note, Notes, What};
+pub use notes::Notes;
 pub use seats::Seats;

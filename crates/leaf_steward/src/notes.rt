@@ -1,27 +1,8 @@
 // Notes: what a deed tells of the entries that it made.
 ghost use Rattle.std.specs.Prelude.{◌≡◌, ◌+◌, ◌<◌, ◌≤◌, ◌++◌, ◌∷◌, [], length, slice_get, Some};
 
+use leaf_words::{Note, What};
 use std::marker::Model;
-
-/// What an entry did: it opened a table that has so many writes; took or flushed its first so many writes; closed it
-/// after so many; or handed it over.
-#[derive(Clone, Copy, PartialEq, Eq)]
-pub enum What {
-    Opened(u64),
-    Took(u64),
-    Flushed(u64),
-    Closed(u64),
-    Handed,
-}
-
-/// The note of an entry: the index of the table in the leaf, the number of the entry in the table's history, from 1 on,
-/// and what it did.
-#[derive(Clone, Copy, PartialEq, Eq)]
-pub struct Note {
-    pub table: u32,
-    pub number: u64,
-    pub what: What,
-}
 
 /// At most 80 notes, in order. Contracts see them as the list. A drain of 16 tables makes at most 49.
 #[derive(Drop)]
@@ -32,7 +13,7 @@ pub struct Notes {
 
 impl Model for Notes {
     ghost use Rattle.std.specs.Prelude.{List, ◌≡◌, ◌≤◌, length, take};
-    ghost use Rattle.leaf_steward.specs.declared.notes.Note.{Note};
+    ghost use Rattle.leaf_words.specs.declared.note.Note.{Note};
 
     ghost Value = { List Note };
 

@@ -17,7 +17,6 @@ use Rattle.transcript.specs.Pieces.{Acted, Called, Piece, Says, Worn, lines_in, 
 use Rattle.transcript.specs.Counts.{CountRose, CountsRose, deeds_in, is_disk_fault, is_region_fault, reads_disk}
 use Rattle.leaf_moves.specs.Holds.{Hold, caller_in, with_callers, with_leaf}
 use Rattle.leaf_moves.specs.Plays as going
-use Rattle.leaf_moves.specs.Steps.{noted_all}
 use Rattle.leaf_moves.specs.Plays.{Goes}
 use Rattle.leaf_moves.specs.Stage.{Leaf}
 use Rattle.player.specs.declared.answer.DeedOutcome.{DeedOutcome}
@@ -171,7 +170,7 @@ module _ {B : Type 0} (meaning : B → Meaning) where
           each = each_set (λ j h h'. CountedIf meaning j (acts.piece ∷ []) h.held h'.held) xs number x y at
               (subst (λ (o : Option (Leaf × B)). CountedIf meaning number (acts.piece ∷ []) o (Some (l', b'))) (sym held) acts.counted)
               (λ j h apart. counted_calm j (acts.piece ∷ []) h.held
-              (λ test. subst (λ (p : Piece). deeds_in test j (p ∷ []) ≡ 0) (sym acts.step.piece_is) (calm_other number j deed (noted_all acts.step.notes) acts.step.ends test apart)));
+              (λ test. subst (λ (p : Piece). deeds_in test j (p ∷ []) ≡ 0) (sym acts.step.piece_is) (calm_other number j deed acts.step.notes acts.step.ends test apart)));
         };
         time = all_pass_set xs number x y at (subst (λ (o : Option (Leaf × B)). PassesIf meaning o (Some (l', b'))) (sym held) time);
         still = still_set xs number x y at (ap (λ (o : Option (Leaf × B)). is_some o) (sym held)) seats;

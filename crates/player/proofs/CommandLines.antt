@@ -4,16 +4,15 @@ use Rattle.std.specs.Prelude.{min}
 use Rattle.std.specs.List.{AllByRecursion}
 use Rattle.std.proofs.lemmas.Bool.{eq-eqb, ne_eqb}
 use Rattle.berth_face.specs.Berth.{Meaning, Passes}
-use Rattle.leaf_steward.specs.declared.notes.Note.{Note}
+use Rattle.leaf_words.specs.declared.note.Note.{Note}
 use Rattle.printed_lines.specs.declared.line.Ending.{Ending}
 use Rattle.printed_lines.specs.declared.line.Ending.TheVariants.{Done, Stopped, NotUp, NotDown, Started, FaultRegion, FaultRoom, FaultDisk, FaultDamaged, FaultMemory, FaultStranger, FaultWorn}
 use Rattle.printed_lines.specs.declared.line.Ending.TheVariants as ending
 use Rattle.printed_lines.specs.declared.line.Line.TheVariants as line
 use Rattle.printed_lines.specs.Lines.{EndsOf, IsOf}
 use Rattle.printed_lines.specs.declared.line.Deed.{Deed}
-use Rattle.transcript.specs.Pieces.{Piece, Acted, Noted, lines_in, piece_lines}
+use Rattle.transcript.specs.Pieces.{Piece, Acted, lines_in, piece_lines}
 use Rattle.transcript.specs.Counts.{CountRose, CountsRose, deeds_in, is_disk_fault, is_region_fault, reads_disk}
-use Rattle.leaf_moves.specs.Steps.{noted_all}
 use Rattle.player.specs.Lines.{note_lines}
 use Rattle.leaf_deeds.specs.Moves.{FaultRose}
 use Rattle.player.specs.Meeting.{ArePlaces}
@@ -79,7 +78,7 @@ not_read : (b : Bool) → one_if b ≡ 0 → b ≡ false
 not_read true none = absurd (omega (arith, none))
 not_read false none = refl
 
-pub counted : (number : ℕ) (deed : Deed) (notes : List Noted) (ends : Ending) (m m' : Meaning) → Passes m m' → FaultRose ends m m'
+pub counted : (number : ℕ) (deed : Deed) (notes : List Note) (ends : Ending) (m m' : Meaning) → Passes m m' → FaultRose ends m m'
     → (reads_disk deed ends ≡ false → m'.disk_reads ≡ m.disk_reads) → CountsRose number (Acted number deed notes ends ∷ []) m m'
 counted number deed notes ends m m' time rose same = record {
   region = subst (CountRose m.region_faults m'.region_faults) (sym (one_such number (is_region_fault ends))) (region_rose ends m m' time rose);
@@ -91,7 +90,7 @@ counted number deed notes ends m m' time rose same = record {
 other_such : (number other : ℕ) (b : Bool) → other ≢ number → (if (number == other) && b then 1 else 0) + 0 ≡ 0
 other_such number other b apart = ap (λ (c : Bool). (if c && b then 1 else 0) + 0) (ne_eqb number other (λ same. apart (sym same)))
 
-pub calm_other : (number other : ℕ) (deed : Deed) (notes : List Noted) (ends : Ending) (test : Deed → Ending → Bool) → other ≢ number → deeds_in test other (Acted number deed notes ends ∷ []) ≡ 0
+pub calm_other : (number other : ℕ) (deed : Deed) (notes : List Note) (ends : Ending) (test : Deed → Ending → Bool) → other ≢ number → deeds_in test other (Acted number deed notes ends ∷ []) ≡ 0
 calm_other number other deed notes ends test apart = other_such number other (test deed ends) apart
 
 -- ---- tables
@@ -102,6 +101,6 @@ fit_all number names deed ends [] places ended = (ended, tt)
 fit_all number names deed ends (n ∷ ns) places ended = (places.0, fit_all number names deed ends ns places.1 ended)
 
 pub deed_fits : (number : ℕ) (names : List (List ℕ)) (deed : Deed) (notes : List Note) (ends : Ending) → ArePlaces (length names) notes → EndsOf names ends
-    → AllByRecursion (IsOf names) (lines_in (Acted number deed (noted_all notes) ends ∷ []))
+    → AllByRecursion (IsOf names) (lines_in (Acted number deed notes ends ∷ []))
 deed_fits number names deed notes ends places ended =
-    subst (AllByRecursion (IsOf names)) (sym (one_piece (Acted number deed (noted_all notes) ends))) (fit_all number names deed ends notes places ended)
+    subst (AllByRecursion (IsOf names)) (sym (one_piece (Acted number deed notes ends))) (fit_all number names deed ends notes places ended)

@@ -5,7 +5,7 @@ use Rattle.std.proofs.lemmas.Option.{slice_get_within}
 use Rattle.std.proofs.lemmas.Result.{IfOk-weaker}
 use Rattle.berth_face.specs.Berth.{Meaning, Passes}
 use Rattle.leaf_table.specs.Calls.{SeatView}
-use Rattle.leaf_steward.specs.declared.notes.Note.{Note}
+use Rattle.leaf_words.specs.declared.note.Note.{Note}
 use Rattle.leaf_steward.specs.Seated.{Seated}
 use Rattle.leaf_machine.specs.declared.faults.StartFault.{StartFault}
 use Rattle.leaf_machine.specs.declared.faults.StartFault.TheVariants as fault
@@ -21,7 +21,7 @@ use Rattle.transcript.specs.Counts.{reads_disk}
 use Rattle.leaf_moves.specs.Stage.{Leaf, seated_of, Carries, MeetAll}
 use Rattle.leaf_moves.proofs.Drains.{by_endings}
 use Rattle.leaf_moves.specs.Steps as step
-use Rattle.leaf_moves.specs.Steps.{Moves, StartMoves, FlushMoves, KillMoves, DrainMoves, IsTrueOf, ending_of, ending_of_flush, noted_all}
+use Rattle.leaf_moves.specs.Steps.{Moves, StartMoves, FlushMoves, KillMoves, DrainMoves, IsTrueOf, ending_of, ending_of_flush}
 use Rattle.leaf_deeds.specs.Held.{KeepsSeats}
 use Rattle.player.specs.Stage.{IsMember}
 use Rattle.player.specs.Lines.{AreEnded}
@@ -99,7 +99,7 @@ module _ {B E : Type 0} (number : ℕ) (meaning : B → Meaning) (b b1 b2 b3 : B
       → answer ≡ answer_of ends
       → ActsWith meaning names number deed leaf callers b answer result after after_callers b3
   acts fits keeps first second moves carries time cause reads told answered = record {
-    piece = Acted number deed (noted_all notes) ends;
+    piece = Acted number deed notes ends;
     step = record {
       met = met;
       met_callers = met_callers;
@@ -112,11 +112,11 @@ module _ {B E : Type 0} (number : ℕ) (meaning : B → Meaning) (b b1 b2 b3 : B
       second = subst (λ (x : B). MeetAll moved met_callers after after_callers (meaning x)) (sym second_berth) second;
       piece_is = refl;
     };
-    counted = counted number deed (noted_all notes) ends (meaning b) (meaning b3) (between Passes time) (between (FaultRose ends) cause)
+    counted = counted number deed notes ends (meaning b) (meaning b3) (between Passes time) (between (FaultRose ends) cause)
         (between (λ (m m' : Meaning). reads_disk deed ends ≡ false → m'.disk_reads ≡ m.disk_reads) reads);
     fit = deed_fits number names deed notes ends (places fits keeps carries)
         (deed_ends names deed (meaning b1) (meaning b2) (seated_of leaf) met notes ends moved fits.seats keeps moves);
     answered = answered;
-    lines_are = IfOk-weaker result (λ lines. AreEnded number deed notes ends lines.items) (λ lines. lines.items ≡ lines_in (Acted number deed (noted_all notes) ends ∷ []))
-        (λ lines are. are ∙ sym (one_piece (Acted number deed (noted_all notes) ends))) told;
+    lines_are = IfOk-weaker result (λ lines. AreEnded number deed notes ends lines.items) (λ lines. lines.items ≡ lines_in (Acted number deed notes ends ∷ []))
+        (λ lines are. are ∙ sym (one_piece (Acted number deed notes ends))) told;
   }

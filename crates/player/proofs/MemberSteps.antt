@@ -13,7 +13,6 @@ use Rattle.printed_lines.specs.declared.line.Line.{Line}
 use Rattle.script_text.specs.Commands.{leaf_count}
 use Rattle.printed_lines.specs.declared.line.Deed.{Deed}
 use Rattle.leaf_moves.specs.Holds.{Hold, caller_in, with_callers, with_leaf}
-use Rattle.leaf_moves.specs.Steps.{noted_all}
 use Rattle.leaf_deeds.specs.declared.leaf.OneLeaf.{OneLeaf}
 use Rattle.player.specs.declared.members.Members.{Members}
 use Rattle.player.specs.declared.answer.DeedOutcome.{DeedOutcome}
@@ -190,7 +189,7 @@ module _ {B : Type 0} where
         → Passes (meaning (berth_of one)) (meaning (berth_of next)) → DeedAt meaning number deed x answer result (with_parts x leaves rows)
     deed_at meaning deed answer result acts time = record {
       piece = acts.piece;
-      prints = (noted_all acts.step.notes, acts.step.ends, acts.step.piece_is);
+      prints = (acts.step.notes, acts.step.ends, acts.step.piece_is);
       answered = acts.answered;
       goes = one_act meaning x.names (holds_in x) (holds_in (with_parts x leaves rows)) number deed (hold_at number x.tables.now (lists_in x.rows.items) (Some one))
           (leaf_state one) (leaf_state next) (berth_of one) (berth_of next) (column number (lists_in rows.items)) answer result

@@ -7,7 +7,7 @@ use Rattle.leaf_table.specs.declared.replies.Reply.{Reply}
 use Rattle.leaf_table.specs.declared.replies.Reply.TheVariants as told
 use Rattle.leaf_table.specs.Turns.{Shared}
 use Rattle.leaf_table.specs.Calls.{SeatView}
-use Rattle.leaf_steward.specs.declared.notes.Note.{Note}
+use Rattle.leaf_words.specs.declared.note.Note.{Note}
 use Rattle.printed_lines.specs.declared.line.Said.TheVariants as said
 use Rattle.printed_lines.specs.declared.line.Ending.{Ending}
 use Rattle.printed_lines.specs.declared.line.Line.{Line}
@@ -16,7 +16,7 @@ use Rattle.printed_lines.specs.Lines.{IsOf}
 use Rattle.printed_lines.specs.declared.line.Deed.{Deed}
 use Rattle.transcript.specs.Pieces.{Piece, lines_in, noted_line}
 use Rattle.transcript.specs.Counts.{deeds_in}
-use Rattle.leaf_moves.specs.Steps.{CallStep, noted, noted_all}
+use Rattle.leaf_moves.specs.Steps.{CallStep}
 
 -- ---- calls
 
@@ -40,12 +40,9 @@ pub record CallsWith {E : Type 0} (names : List (List ℕ)) (leaf table : ℕ) (
 
 -- ---- deeds
 
-abbrev pub note_line : ℕ → Note → Line
-note_line leaf n = noted_line leaf (noted n)
-
 -- one line for each note, in order
 abbrev pub note_lines : ℕ → List Note → List Line
-note_lines leaf notes = map (noted_line leaf) (noted_all notes)
+note_lines leaf notes = map (noted_line leaf) notes
 
 -- one line for each note, and how the deed ended
 abbrev pub AreEnded : ℕ → Deed → List Note → Ending → List Line → Type 0

@@ -2,8 +2,8 @@
 ghost use Rattle.std.specs.Prelude.{◌≡◌, ◌∷◌, ◌++◌, [], IfOk, OnOk};
 ghost use Rattle.std.specs.Option.{option_to_list};
 ghost use Rattle.printed_lines.specs.declared.line.Line.TheVariants.{Entry};
-ghost use Rattle.leaf_moves.specs.Steps.{said_of_note};
-ghost use Rattle.player.specs.Lines.{AreEnded, AreJoined, note_line, note_lines, reply_line};
+ghost use Rattle.transcript.specs.Pieces.{noted_line, said_of_note};
+ghost use Rattle.player.specs.Lines.{AreEnded, AreJoined, note_lines, reply_line};
 
 use leaf_machine::{Note, Notes, What};
 use leaf_table::Reply;
@@ -86,7 +86,7 @@ fn put_notes(lines: &mut Vec<Line>, number: u32, notes: &Notes) -> Result<(), Al
 }
 
 fn note_line(leaf: u32, note: Note) -> Line
-    ensures { result ≡ note_line leaf note }
+    ensures { result ≡ noted_line leaf note }
 {
     entry(leaf, note.table, note.number, said_of_note(note.what))
 }

@@ -7,6 +7,7 @@ use Rattle.leaf_model.specs.declared.queries.Query.{Query}
 use Rattle.leaf_model.specs.Groups.{groups}
 use Rattle.answer_text.specs.Answer.{answer_lines}
 use Rattle.leaf_model.specs.declared.writes.Write.{Write}
+use Rattle.leaf_words.specs.declared.note.Note.{Note}
 use Rattle.leaf_history.specs.History.{Entry, after}
 use Rattle.table_state.specs.Tables.{added_count, least_columns}
 use Rattle.script_text.specs.declared.order.Order.{Order}
@@ -20,7 +21,7 @@ use Rattle.script_text.specs.declared.fleet.FleetShape.{FleetShape}
 use Rattle.script_text.specs.Commands.{leaf_count}
 use Rattle.printed_lines.specs.declared.line.Deed.{Deed}
 use Rattle.printed_lines.specs.declared.line.Deed.TheVariants.{Flush}
-use Rattle.transcript.specs.Pieces.{Piece, Worn, Acted, Says, Noted, Played, place_among}
+use Rattle.transcript.specs.Pieces.{Piece, Worn, Acted, Says, Played, place_among}
 use Rattle.transcript.specs.Shapes.{named}
 use Rattle.transcript.specs.Histories.{BaseState, rows_before}
 use Rattle.transcript.specs.Life.{Columns}
@@ -70,21 +71,21 @@ WornIsLong histories piece = IfSome (worn_in piece) (λ x. 2 ^ 62 ≤ length (hi
 -- ---- columns
 
 -- the least number of columns of the tables that these entries hand over, by the rows that each then has
-abbrev pub columns_handed : (ℕ → BaseState) → (ℕ → List Entry) → List Noted → ℕ
+abbrev pub columns_handed : (ℕ → BaseState) → (ℕ → List Entry) → List Note → ℕ
 columns_handed base_states histories [] = 0
 columns_handed base_states histories (n ∷ ns) = least_columns (rows_before (base_states n.table) (histories n.table) n.number) + columns_handed base_states histories ns
 
 -- the number of the last entry of a table in these notes; 0 if there is none
-abbrev pub last_of : ℕ → List Noted → ℕ
-last_of table notes = fold (λ (last : ℕ) (n : Noted). if n.table == table then n.number else last) 0 notes
+abbrev pub last_of : ℕ → List Note → ℕ
+last_of table notes = fold (λ (last : ℕ) (n : Note). if n.table == table then n.number else last) 0 notes
 
 -- the writes of a table after its last entry in these notes
-abbrev pub writes_then : (ℕ → BaseState) → (ℕ → List Entry) → List Noted → ℕ → List Write
+abbrev pub writes_then : (ℕ → BaseState) → (ℕ → List Entry) → List Note → ℕ → List Write
 writes_then base_states histories notes table = (after (base_states table).founded (base_states table).base (take (last_of table notes) (histories table))).writes
 
 -- bounds on the columns of a leaf's tables after these entries: at least what their rows need, at most one for each row
 -- and each cell that their writes add, and the spare ones of the leaf's base
-abbrev pub columns_of : (ℕ → BaseState) → (ℕ → List Entry) → ℕ → List Noted → Columns
+abbrev pub columns_of : (ℕ → BaseState) → (ℕ → List Entry) → ℕ → List Note → Columns
 columns_of base_states histories tables notes = record {
   least = columns_handed base_states histories;
   most = sum_by (λ table. (base_states table).base.spare + added_count (writes_then base_states histories notes table)) (range_with_len 0 tables);

@@ -4,13 +4,14 @@ use Rattle.std.specs.List.{AllByRecursion, flat_map}
 use Rattle.row_model.specs.declared.rows.Row.{Row}
 use Rattle.leaf_model.specs.declared.groups.Group.{Group}
 use Rattle.leaf_model.specs.Content.{Contents}
+use Rattle.leaf_words.specs.declared.note.Note.{Note}
 use Rattle.leaf_history.specs.Calls.{Call}
 use Rattle.leaf_history.specs.Calls as call
 use Rattle.leaf_history.specs.Replies as reply
 use Rattle.leaf_history.specs.History.{Entry, HistoryState, LegalFrom, after, contents_held}
 use Rattle.printed_lines.specs.declared.line.Said.{Said}
 use Rattle.printed_lines.specs.declared.line.Said.TheVariants.{Added, Removed, Asked, RefusedShut, RefusedFull, RefusedMemory, Opened, Took, Flushed, Closed, Handed}
-use Rattle.transcript.specs.Pieces.{Piece, Called, Acted, Noted, PlayedItem, One, Burst, pieces_in}
+use Rattle.transcript.specs.Pieces.{Piece, Called, Acted, PlayedItem, One, Burst, pieces_in, said_of_note}
 
 -- the line of an entry, and the call if a caller made it
 pub record Shown : Type 0 where
@@ -21,8 +22,8 @@ pub record Shown : Type 0 where
 abbrev pub shown_if : Bool → Shown → List Shown
 shown_if b s = if b then s ∷ [] else []
 
-abbrev pub shown_notes : ℕ → List Noted → List Shown
-shown_notes table notes = flat_map (λ (n : Noted). shown_if (n.table == table) (record { number = n.number; call = None; said = n.said })) notes
+abbrev pub shown_notes : ℕ → List Note → List Shown
+shown_notes table notes = flat_map (λ (n : Note). shown_if (n.table == table) (record { number = n.number; call = None; said = said_of_note n.what })) notes
 
 -- the line tells this entry
 abbrev pub ShowsEntry : Option Call → Said → Entry → Type 0

@@ -1,6 +1,9 @@
 -- The pieces that the commands of a script print.
 use Rattle.std.specs.Prelude.{ℕ, suc, ◌==◌, List, [], ◌∷◌, ◌++◌, map, if◌then◌else◌, bytes_eq}
 use Rattle.std.specs.List.{flat_map}
+use Rattle.leaf_words.specs.declared.note.Note.{Note}
+use Rattle.leaf_words.specs.declared.note.What.{What}
+use Rattle.leaf_words.specs.declared.note.What.TheVariants as what
 use Rattle.leaf_history.specs.Calls.{Call}
 use Rattle.script_text.specs.declared.fleet.FleetShape.{FleetShape}
 use Rattle.script_text.specs.declared.command.Command.{Command}
@@ -8,27 +11,30 @@ use Rattle.script_text.specs.declared.command.Command.TheVariants as command
 use Rattle.script_text.specs.declared.item.Item.{Item}
 use Rattle.script_text.specs.declared.item.Item.TheVariants as item
 use Rattle.printed_lines.specs.declared.line.Said.{Said}
+use Rattle.printed_lines.specs.declared.line.Said.TheVariants as said
 use Rattle.printed_lines.specs.declared.line.Deed.{Deed}
 use Rattle.printed_lines.specs.declared.line.Ending.{Ending}
 use Rattle.printed_lines.specs.declared.line.Line.{Line}
 use Rattle.printed_lines.specs.declared.line.Line.TheVariants as line
-
--- the note of an entry of a leaf's steward
-pub record Noted : Type 0 where
-  pub table : ℕ
-  pub number : ℕ
-  pub said : Said
 
 -- A piece of what a command prints: a caller's call, with its entry; a call whose seat is worn, without one; a deed of
 -- a leaf's steward, with its entries and how it ended; or a line that tells no entry.
 pub data Piece : Type 0 where
   Called : (leaf table : ℕ) (call : Call) (number : ℕ) (said : Said) → Piece
   Worn : (leaf table : ℕ) → Piece
-  Acted : (leaf : ℕ) (deed : Deed) (notes : List Noted) (ending : Ending) → Piece
+  Acted : (leaf : ℕ) (deed : Deed) (notes : List Note) (ending : Ending) → Piece
   Says : (line : Line) → Piece
 
-abbrev pub noted_line : ℕ → Noted → Line
-noted_line leaf n = line.Entry leaf n.table n.number n.said
+-- what the line of a steward's entry says
+abbrev pub said_of_note : What → Said
+said_of_note (what.Opened writes) = said.Opened writes
+said_of_note (what.Took writes) = said.Took writes
+said_of_note (what.Flushed writes) = said.Flushed writes
+said_of_note (what.Closed writes) = said.Closed writes
+said_of_note what.Handed = said.Handed
+
+abbrev pub noted_line : ℕ → Note → Line
+noted_line leaf n = line.Entry leaf n.table n.number (said_of_note n.what)
 
 abbrev pub piece_lines : Piece → List Line
 piece_lines (Called leaf table call number said) = line.Entry leaf table number said ∷ []
@@ -88,7 +94,7 @@ all_pieces items = pieces_in (plays_in items)
 -- a deed, with its entries and how it ended
 pub record Did : Type 0 where
   pub deed : Deed
-  pub notes : List Noted
+  pub notes : List Note
   pub ending : Ending
 
 abbrev pub did_in : ℕ → Piece → List Did

@@ -2,6 +2,7 @@
 use Rattle.std.specs.Prelude.{◌≡◌, ◌⊎◌, ℕ, suc, Bool, List, [], ◌∷◌, ◌++◌, length, map, nat_lt, None, ⊤}
 use Rattle.std.specs.List.{flat_map, AllZip, range_with_len}
 use Rattle.leaf_model.specs.declared.queries.Query.{Query}
+use Rattle.leaf_words.specs.declared.note.Note.{Note}
 use Rattle.leaf_history.specs.Calls.{Call}
 use Rattle.leaf_history.specs.Calls as call
 use Rattle.script_text.specs.declared.command.Command.{Command}
@@ -21,7 +22,7 @@ use Rattle.script_text.specs.declared.fleet.FleetShape.{FleetShape}
 use Rattle.script_text.specs.Commands.{leaf_count}
 use Rattle.printed_lines.specs.declared.line.Deed.{Deed}
 use Rattle.printed_lines.specs.declared.line.Deed.TheVariants.{Start, Drain}
-use Rattle.transcript.specs.Pieces.{Piece, Called, Worn, Acted, Says, Noted, place_among}
+use Rattle.transcript.specs.Pieces.{Piece, Called, Worn, Acted, Says, place_among}
 
 -- A caller's call at a table. The history of the table decides what its line may tell.
 abbrev pub CallPiece : ℕ → ℕ → Call → Piece → Type 0
@@ -29,7 +30,7 @@ CallPiece leaf table c piece = ((number : ℕ) × (said : Said) × (piece ≡ Ca
 
 -- a deed of a leaf's steward
 abbrev pub ActPiece : ℕ → Deed → Piece → Type 0
-ActPiece leaf deed piece = (notes : List Noted) × (ending : Ending) × (piece ≡ Acted leaf deed notes ending)
+ActPiece leaf deed piece = (notes : List Note) × (ending : Ending) × (piece ≡ Acted leaf deed notes ending)
 
 -- this deed of each of the leaves, in order
 abbrev pub EachActs : Deed → List ℕ → List Piece → Type 0

@@ -8,7 +8,7 @@ use Rattle.leaf_history.specs.History.{Entry, LegalFrom, HistoryState}
 use Rattle.script_text.specs.declared.command.Command.{Command}
 use Rattle.leaf_table.specs.Turns.{Shared, is_founded, start_of}
 use Rattle.leaf_table.specs.Calls.{SeatView, base_seen, name_of, seen_of}
-use Rattle.leaf_steward.specs.declared.notes.Note.{Note}
+use Rattle.leaf_words.specs.declared.note.Note.{Note}
 use Rattle.leaf_steward.proofs.Keeping.{makes_tables}
 use Rattle.printed_lines.specs.declared.line.Ending.{Ending}
 use Rattle.printed_lines.specs.declared.line.Deed.{Deed}
@@ -17,7 +17,7 @@ use Rattle.transcript.specs.Histories.{BaseState}
 use Rattle.transcript.specs.Transcript.{Known, base_state_of}
 use Rattle.leaf_moves.specs.Stage.{Leaf, Carries, MeetAll, MeetsIf, seated_of}
 use Rattle.leaf_moves.specs.Holds.{Hold, caller_in, seen_by, steward_in, with_leaf}
-use Rattle.leaf_moves.specs.Steps.{DeedStep, Moves, noted_all}
+use Rattle.leaf_moves.specs.Steps.{DeedStep, Moves}
 use Rattle.transcript_leaf.specs.Session.{AreMet, IsStewards, LeafHeld, LeafSession, TableSession}
 use Rattle.transcript_leaf.proofs.Lists.{element_at, same_some, within}
 use Rattle.transcript_leaf.proofs.Terms.{with_pieces}
@@ -37,7 +37,7 @@ module _ {B : Type 0} (meaning : B → Meaning) (number : ℕ) (names : List (Li
     (now : LeafSession meaning number names known old before start (with_pieces items c0 ps) x) (are : AreMet x) (is : x.held ≡ Some (met, b))
     (moves : Moves deed (meaning b) (meaning b') met notes ends moved) (carries : Carries met moved notes (meaning b) (meaning b')) (second : MeetAll moved x.callers l' callers (meaning b')) where
   abbrev act : Piece
-  act = Acted number deed (noted_all notes) ends
+  act = Acted number deed notes ends
 
   now_held : LeafHeld number names known old (before ++ all_pieces (with_pieces items c0 ps)) met (meaning b)
   now_held = (now.held met b is).1
@@ -122,7 +122,7 @@ module _ {B : Type 0} (meaning : B → Meaning) (number : ℕ) (names : List (Li
   tables_are = ap (λ (k : Leaf). map name_of (seated_of k).tables) second.leaf_is
       ∙ (ap (λ s. map name_of s.tables) (seats_become moved second.seats) ∙ (ap (λ (ts : List Shared). map name_of ts) same_tables ∙ (now.held met b is).0))
 
-  pub act_on : LeafSession meaning number names known old before start (with_pieces items c0 (ps ++ Acted number deed (noted_all notes) ends ∷ [])) (with_leaf x l' b' callers)
+  pub act_on : LeafSession meaning number names known old before start (with_pieces items c0 (ps ++ Acted number deed notes ends ∷ [])) (with_leaf x l' b' callers)
   act_on = record {
     named = now.named;
     callers_are = second.count.1 ∙ now.callers_are;

@@ -2,9 +2,10 @@
 use Rattle.std.proofs.Common.{◌≡◌, ℕ, List, [], ◌++◌, length, Option, Some, None, sym, ap, subst, ◌∙◌}
 use Rattle.std.specs.Prelude.{IfSome, is_some}
 use Rattle.std.proofs.lemmas.List.{append-nil}
+use Rattle.leaf_words.specs.declared.note.Note.{Note}
 use Rattle.berth_face.specs.Berth.{Meaning}
 use Rattle.leaf_steward.specs.Seated.{AtEach, Seated}
-use Rattle.transcript.specs.Pieces.{Did, Noted, Piece}
+use Rattle.transcript.specs.Pieces.{Did, Piece}
 use Rattle.transcript.specs.Strangers.{StrangersIn}
 use Rattle.transcript.specs.Life.{Life, Lives}
 use Rattle.transcript.specs.Answers.{columns_of}
@@ -106,8 +107,8 @@ held_between number names known old before none more leaf m apart s = record {
       subst (λ (ds : List Did). Lives (is_some known) (length names) (columns_of base_states histories (length names)) [] (first_life known names) ds s.life) (sym (deeds_between number before none more apart))
       (s.lives base_states histories told);
   moments = λ base_states histories told.
-      subst (λ (ns : List Noted). MomentsRise histories old.clock ns m.clock) (sym (notes_between number before none more apart)) (s.moments base_states histories told);
-  noted = subst (λ (ns : List Noted). AtEach (IsNoted ns) (seated_of leaf)) (sym (notes_between number before none more apart)) s.noted;
+      subst (λ (ns : List Note). MomentsRise histories old.clock ns m.clock) (sym (notes_between number before none more apart)) (s.moments base_states histories told);
+  noted = subst (λ (ns : List Note). AtEach (IsNoted ns) (seated_of leaf)) (sym (notes_between number before none more apart)) s.noted;
   in_place = s.in_place;
   known_base = s.known_base;
   mode = s.mode;

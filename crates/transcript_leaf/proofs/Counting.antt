@@ -15,8 +15,8 @@ use Rattle.leaf_table.specs.Turns.{Shared, is_founded, start_of}
 use Rattle.leaf_table.specs.Calls.{SeatView, Made, base_seen, name_of, entry_seen, seen_of}
 use Rattle.leaf_table.proofs.Knowing.{callers_of}
 use Rattle.leaf_machine.specs.States.{IsShutAndTaken}
-use Rattle.leaf_steward.specs.declared.notes.What.{What}
-use Rattle.leaf_steward.specs.declared.notes.What.TheVariants.{Opened, Took, Flushed, Closed, Handed}
+use Rattle.leaf_words.specs.declared.note.What.{What}
+use Rattle.leaf_words.specs.declared.note.What.TheVariants.{Opened, Took, Flushed, Closed, Handed}
 use Rattle.leaf_steward.specs.Making.{MadeAs, IsHandedNote}
 use Rattle.transcript_leaf.specs.Session.{IsStewards, IsSettled}
 

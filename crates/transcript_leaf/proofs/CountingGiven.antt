@@ -5,14 +5,13 @@ use Rattle.berth_face.specs.Berth.{Meaning, Pair}
 use Rattle.crash_moments.specs.Left.{NamedStates}
 use Rattle.leaf_table.specs.Turns.{Shared}
 use Rattle.leaf_table.specs.Calls.{name_of}
-use Rattle.leaf_steward.specs.declared.notes.Note.{Note}
+use Rattle.leaf_words.specs.declared.note.Note.{Note}
 use Rattle.leaf_steward.specs.Seated.{AreFounded}
 use Rattle.leaf_steward.proofs.Keeping.{makes_tables}
 use Rattle.transcript.specs.Base.{LogHas}
 use Rattle.transcript.specs.Life.{durable_after}
 use Rattle.transcript.specs.Transcript.{Known}
 use Rattle.leaf_moves.specs.Stage.{Leaf, IsDown, IsUp, IsPreparing, Carries, LeafStands, seated_of}
-use Rattle.leaf_moves.specs.Steps.{noted_all}
 use Rattle.transcript_leaf.specs.Session.{HaveKnownBase, AreInPlace, AtCounts, IsDurable, StandsKnown}
 use Rattle.transcript_leaf.proofs.CountingNotes.{AreReady, AreStewards, are_founded, length_durable, tables_founded}
 
@@ -44,7 +43,7 @@ module _ (names : List (List ℕ)) (k : Known) (counts : List ℕ) (m m' : Meani
 
   -- what is to be shown
   abbrev Later : Leaf → Type 0
-  Later leaf' = IsDurable k.base (durable_after counts (noted_all notes)) leaf' m'
+  Later leaf' = IsDurable k.base (durable_after counts notes) leaf' m'
 
   -- a leaf that is known to be such and such
   pub of_leaves : (leaf leaf' l l' : Leaf) → leaf ≡ l → leaf' ≡ l' → (GivenOf l l' → Later l') → GivenOf leaf leaf' → Later leaf'
@@ -53,8 +52,8 @@ module _ (names : List (List ℕ)) (k : Known) (counts : List ℕ) (m m' : Meani
       subst (λ (a : Leaf). Later a) (sym is') (later known)
 
   -- no note leaves the counts as they are
-  pub counts_same : notes ≡ [] → durable_after counts (noted_all notes) ≡ counts
-  counts_same none = ap (λ (ns : List Note). durable_after counts (noted_all ns)) none
+  pub counts_same : notes ≡ [] → durable_after counts notes ≡ counts
+  counts_same none = ap (λ (ns : List Note). durable_after counts ns) none
 
   module _ (leaf leaf' : Leaf) (g : GivenOf leaf leaf') where
     pub ready_of : AreReady k.base (seated_of leaf)
@@ -68,9 +67,9 @@ module _ (names : List (List ℕ)) (k : Known) (counts : List ℕ) (m m' : Meani
     stands_behind = (g.carries.stands k.base g.known.tells founded_of g.known.sound g.known.stands).stands
 
     -- a count for each table still
-    pub count_behind : length (durable_after counts (noted_all notes)) ≡ length (seated_of leaf').tables
+    pub count_behind : length (durable_after counts notes) ≡ length (seated_of leaf').tables
     count_behind =
-        length_durable counts (noted_all notes) ∙ durable_count k.base counts leaf m g.durable
+        length_durable counts notes ∙ durable_count k.base counts leaf m g.durable
         ∙ sym (ap (λ (ts : List Shared). length ts) (makes_tables m.clock m'.clock (seated_of leaf) notes (seated_of leaf') g.carries.made))
 
     -- a leaf that is left alone

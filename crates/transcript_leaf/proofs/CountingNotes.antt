@@ -11,19 +11,15 @@ use Rattle.leaf_table.specs.Calls.{SeatView, base_seen, name_of}
 use Rattle.leaf_steward.specs.Owing.{Owing}
 use Rattle.leaf_machine.specs.Flushes.{OwedNotes}
 use Rattle.leaf_machine.specs.States.{IsShutAndTaken}
-use Rattle.leaf_steward.specs.declared.notes.Note.{Note}
-use Rattle.leaf_steward.specs.declared.notes.What.{What}
-use Rattle.leaf_steward.specs.declared.notes.What.TheVariants as what
+use Rattle.leaf_words.specs.declared.note.Note.{Note}
+use Rattle.leaf_words.specs.declared.note.What.{What}
+use Rattle.leaf_words.specs.declared.note.What.TheVariants as what
 use Rattle.leaf_steward.specs.Seated.{Seated, AtEach, AreFounded}
 use Rattle.leaf_steward.specs.Making.{MadeAs, Makes, OneEntry, EachNoted, IsClosedNote, IsHandedNote}
 use Rattle.leaf_steward.proofs.Seating.{set_either}
 use Rattle.leaf_steward.proofs.Keeping.{entry_each, entry_tables, makes_tables, some_entry}
-use Rattle.printed_lines.specs.declared.line.Said.{Said}
-use Rattle.printed_lines.specs.declared.line.Said.TheVariants as said
-use Rattle.transcript.specs.Pieces.{Noted}
 use Rattle.transcript.specs.Life.{durable_after, durable_by}
 use Rattle.leaf_moves.specs.Stage.{AreHandedNothing}
-use Rattle.leaf_moves.specs.Steps.{noted_all, said_of_note}
 use Rattle.transcript_leaf.specs.Session.{AreInPlace, IsSettled, IsStewards}
 use Rattle.transcript_leaf.proofs.Lists.{element_at, get_set_other, length_mapped, length_set, same_some, within}
 use Rattle.transcript_leaf.proofs.Counting.{IsFoundedWith, IsHalf, IsOf, half_closed, half_took, settled_flushed, shut_closed, shut_flushed, state_with}
@@ -176,18 +172,18 @@ set_same [] i c e = refl
 set_same (x ∷ xs) zero c e = ap (λ (y : ℕ). y ∷ xs) (sym (same_some x c e))
 set_same (x ∷ xs) (suc i) c e = ap (λ (ys : List ℕ). x ∷ ys) (set_same xs i c e)
 
-length_by : (counts : List ℕ) (table : ℕ) (s : Said) → length (durable_by counts table s) ≡ length counts
-length_by counts table (said.Opened n) = length_set counts table n
-length_by counts table (said.Flushed n) = length_set counts table n
-length_by counts table s = refl
+length_by : (counts : List ℕ) (table : ℕ) (w : What) → length (durable_by counts table w) ≡ length counts
+length_by counts table (what.Opened n) = length_set counts table n
+length_by counts table (what.Flushed n) = length_set counts table n
+length_by counts table w = refl
 
-pub length_durable : (counts : List ℕ) (notes : List Noted) → length (durable_after counts notes) ≡ length counts
+pub length_durable : (counts : List ℕ) (notes : List Note) → length (durable_after counts notes) ≡ length counts
 length_durable counts [] = refl
-length_durable counts (n ∷ ns) = length_durable (durable_by counts n.table n.said) ns ∙ length_by counts n.table n.said
+length_durable counts (n ∷ ns) = length_durable (durable_by counts n.table n.what) ns ∙ length_by counts n.table n.what
 
-pub durable_append : (counts : List ℕ) (xs ys : List Note) → durable_after counts (noted_all (xs ++ ys)) ≡ durable_after (durable_after counts (noted_all xs)) (noted_all ys)
+pub durable_append : (counts : List ℕ) (xs ys : List Note) → durable_after counts (xs ++ ys) ≡ durable_after (durable_after counts xs) ys
 durable_append counts [] ys = refl
-durable_append counts (x ∷ xs) ys = durable_append (durable_by counts x.table (said_of_note x.what)) xs ys
+durable_append counts (x ∷ xs) ys = durable_append (durable_by counts x.table x.what) xs ys
 
 -- notes that leave them as they are
 abbrev pub IsStill : What → Type 0
@@ -197,15 +193,15 @@ IsStill (what.Flushed n) = ⊥
 IsStill (what.Closed n) = ⊤
 IsStill what.Handed = ⊤
 
-still_by : (counts : List ℕ) (table : ℕ) (w : What) → IsStill w → durable_by counts table (said_of_note w) ≡ counts
+still_by : (counts : List ℕ) (table : ℕ) (w : What) → IsStill w → durable_by counts table w ≡ counts
 still_by counts table (what.Opened n) still = absurd still
 still_by counts table (what.Flushed n) still = absurd still
 still_by counts table w still = refl
 
-pub durable_still : (counts : List ℕ) (notes : List Note) → AllNotes IsStill notes → durable_after counts (noted_all notes) ≡ counts
+pub durable_still : (counts : List ℕ) (notes : List Note) → AllNotes IsStill notes → durable_after counts notes ≡ counts
 durable_still counts [] still = refl
 durable_still counts (n ∷ ns) still =
-    ap (λ (cs : List ℕ). durable_after cs (noted_all ns)) (still_by counts n.table n.what still.0) ∙ durable_still counts ns still.1
+    ap (λ (cs : List ℕ). durable_after cs ns) (still_by counts n.table n.what still.0) ∙ durable_still counts ns still.1
 
 still_closed : (w : What) → IsClosedNote w → IsStill w
 still_closed (what.Closed n) h = tt

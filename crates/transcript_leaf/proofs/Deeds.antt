@@ -8,12 +8,11 @@ use Rattle.region_layout.specs.Names.{IsName}
 use Rattle.leaf_words.specs.declared.ways.Way.{Way}
 use Rattle.leaf_words.specs.declared.ways.Way.TheVariants.{Memory}
 use Rattle.leaf_opening.specs.Starts.{IsWayLeft, IsWayOf, way_after}
-use Rattle.printed_lines.specs.declared.line.Said.TheVariants as said
 use Rattle.printed_lines.specs.declared.line.Ending.{Ending}
 use Rattle.printed_lines.specs.declared.line.Ending.TheVariants as ending
 use Rattle.crash_moments.specs.Left.{NamedStates}
-use Rattle.leaf_steward.specs.declared.notes.Note.{Note}
-use Rattle.leaf_steward.specs.declared.notes.What.TheVariants as what
+use Rattle.leaf_words.specs.declared.note.Note.{Note}
+use Rattle.leaf_words.specs.declared.note.What.TheVariants as what
 use Rattle.leaf_steward.specs.Seated.{Seated, AreFounded}
 use Rattle.leaf_steward.specs.Making.{EachNoted, IsClosedNote}
 use Rattle.leaf_machine.specs.declared.faults.StartFault.{StartFault}
@@ -28,7 +27,7 @@ use Rattle.printed_lines.specs.declared.line.Deed.TheVariants.{Start, Flush, Dra
 use Rattle.transcript.specs.Life.{Columns, Life, LifeMode, Down, Up, BeginsAt, Does, MayCome, NotesFrom, Owed, Progress, IsStartRefusal, claimed, durable_with, failed, first_open, on, way_refused}
 use Rattle.transcript.specs.Transcript.{Known}
 use Rattle.leaf_moves.specs.Stage.{Leaf, IsDown, IsUp, Carries, LeafStands, seated_of}
-use Rattle.leaf_moves.specs.Steps.{FlushMoves, IsTrueOf, KillMoves, Moves, RefusalTold, RegionRefused, StartMoves, StartsTold, ending_of, noted_all}
+use Rattle.leaf_moves.specs.Steps.{FlushMoves, IsTrueOf, KillMoves, Moves, RefusalTold, RegionRefused, StartMoves, StartsTold, ending_of}
 use Rattle.leaf_moves.specs.Steps as steps
 use Rattle.leaf_moves.specs.Modes.{mode_of, owed_of, progress_of}
 use Rattle.leaf_moves.proofs.Modes.{owed_none, owed_some}
@@ -52,9 +51,9 @@ record Opening (durable : Option (List ℕ)) (tables : ℕ) (notes : List Note) 
   counts : List ℕ
   claimed_are : IfSome durable (λ (cs : List ℕ). counts ≡ cs)
   size : length counts ≡ tables
-  told : NotesFrom 0 (map said.Opened counts) (noted_all notes)
+  told : NotesFrom 0 (map what.Opened counts) notes
 
-opening : (durable : Option (List ℕ)) (tables : ℕ) (notes : List Note) → IfSome durable (λ (cs : List ℕ). (length cs ≡ tables) × NotesFrom 0 (map said.Opened cs) (noted_all notes))
+opening : (durable : Option (List ℕ)) (tables : ℕ) (notes : List Note) → IfSome durable (λ (cs : List ℕ). (length cs ≡ tables) × NotesFrom 0 (map what.Opened cs) notes)
     → EachNoted IsOpenedNote 0 tables notes → Opening durable tables notes
 opening None tables notes is each =
     let c = opened_noted 0 tables notes each in
@@ -71,10 +70,10 @@ module _ (names : List (List ℕ)) (life : Life) (m m' : Meaning) (x : Seated) (
 
   -- what its counts are claimed to be
   counts_claimed : (known : Option Known) → Stood names known life (IsDown x) m → Told known
-      → IfSome life.durable (λ (cs : List ℕ). (length cs ≡ length x.tables) × NotesFrom 0 (map said.Opened cs) (noted_all notes))
-  counts_claimed None given told = subst (λ (d : Option (List ℕ)). IfSome d (λ (cs : List ℕ). (length cs ≡ length x.tables) × NotesFrom 0 (map said.Opened cs) (noted_all notes))) (sym given.next.1) tt
+      → IfSome life.durable (λ (cs : List ℕ). (length cs ≡ length x.tables) × NotesFrom 0 (map what.Opened cs) notes)
+  counts_claimed None given told = subst (λ (d : Option (List ℕ)). IfSome d (λ (cs : List ℕ). (length cs ≡ length x.tables) × NotesFrom 0 (map what.Opened cs) notes)) (sym given.next.1) tt
   counts_claimed (Some k) given told =
-      some_weaken life.durable (λ (cs : List ℕ). IsDurable k.base cs (IsDown x) m) (λ (cs : List ℕ). (length cs ≡ length x.tables) × NotesFrom 0 (map said.Opened cs) (noted_all notes))
+      some_weaken life.durable (λ (cs : List ℕ). IsDurable k.base cs (IsDown x) m) (λ (cs : List ℕ). (length cs ≡ length x.tables) × NotesFrom 0 (map what.Opened cs) notes)
       (λ cs durable. opened_counts names k cs m m' x s notes way given.in_place given.known_base given.stands durable told) given.next.1
 
   way_opens : (known : Option Known) → Stood names known life (IsDown x) m → Told known → IfSome life.way (λ (v : Way). way ≡ v)
@@ -96,13 +95,13 @@ module _ (names : List (List ℕ)) (life : Life) (m m' : Meaning) (x : Seated) (
 
   -- what it counts is flushed
   counts_durable : (known : Option Known) (counts : List ℕ) → Stood names known life (IsDown x) m → Carries (IsDown x) (IsUp s) notes m m' → s.owing.log.owed ≡ None → Told known
-      → NotesFrom 0 (map said.Opened counts) (noted_all notes) → length counts ≡ length x.tables → IfSome known (λ (k : Known). IsDurable k.base counts (IsUp s) m')
+      → NotesFrom 0 (map what.Opened counts) notes → length counts ≡ length x.tables → IfSome known (λ (k : Known). IsDurable k.base counts (IsUp s) m')
   counts_durable None counts given carries none told noted size = tt
   counts_durable (Some k) counts given carries none told noted size =
       opened_durable names k counts m m' x s notes way given.in_place given.known_base given.stewards given.stands carries none told noted size
 
   start_opened : (known : Option Known) → Stood names known life (IsDown x) m → Carries (IsDown x) (IsUp s) notes m m' → s.owing.log.owed ≡ None
-      → EachNoted IsOpenedNote 0 (length x.tables) notes → Told known → Lived known (length names) Start life (noted_all notes) (ending.Started way) (IsUp s) m'
+      → EachNoted IsOpenedNote 0 (length x.tables) notes → Told known → Lived known (length names) Start life notes (ending.Started way) (IsUp s) m'
   start_opened known given carries none each told =
       let o = opening life.durable (length x.tables) notes (counts_claimed known given told) each in record {
         next = opened_life (is_some known) o.counts;
@@ -204,7 +203,7 @@ module _ (names : List (List ℕ)) (life : Life) (m m' : Meaning) (x : Seated) (
 -- ---- any deed
 
 module _ (names : List (List ℕ)) (known : Option Known) (life : Life) (m m' : Meaning) (leaf : Leaf) (given : Stood names known life leaf m) where
-  start_lives : (notes : List Note) (ends : Ending) (leaf' : Leaf) → Carries leaf leaf' notes m m' → StartMoves m m' leaf notes ends leaf' → Lived known (length names) Start life (noted_all notes) ends leaf' m'
+  start_lives : (notes : List Note) (ends : Ending) (leaf' : Leaf) → Carries leaf leaf' notes m m' → StartMoves m m' leaf notes ends leaf' → Lived known (length names) Start life notes ends leaf' m'
   start_lives notes ends leaf' carries (steps.opened x s way is none each told ends_are now) =
       rw (ends_are, now) (start_opened names life m m' x s notes way known (stood_as names known life leaf (IsDown x) m is given)
       (subst (λ (l : Leaf). Carries (IsDown x) l notes m m') now (subst (λ (l : Leaf). Carries l leaf' notes m m') is carries)) none each
@@ -226,23 +225,23 @@ module _ (names : List (List ℕ)) (known : Option Known) (life : Life) (m m' : 
 
   module _ (table : ℕ) (s s' : Serving) (notes : List Note) (up : life.mode ≡ Up (owed_of s.owing)) (same : IfSome known (λ (k : Known). m'.held.region ≡ m.held.region)) where
     abbrev Flushed : Ending → Type 0
-    Flushed ends = Lived known (length names) (Flush table) life (noted_all notes) ends (IsUp s') m'
+    Flushed ends = Lived known (length names) (Flush table) life notes ends (IsUp s') m'
 
     -- nothing is owed then
     flush_ends : (ends : Ending) → s'.owing.log.owed ≡ None → loses_counts (Flush table) ends ≡ false
-        → ((columns : Columns) → Does (is_some known) (length names) columns (Flush table) life (noted_all notes) ends (on life (Up None) life.way (noted_all notes))) → Flushed ends
+        → ((columns : Columns) → Does (is_some known) (length names) columns (Flush table) life notes ends (on life (Up None) life.way notes)) → Flushed ends
     flush_ends ends none calm does = record {
-      next = on life (Up None) life.way (noted_all notes);
+      next = on life (Up None) life.way notes;
       hands = hands_nothing (IsUp s');
       does = λ columns few more. does columns;
       counts = acting.keeps calm refl;
       mode = sym (ap (λ (o : Option Owed). Up o) (owed_none s'.owing none));
-      way = way_stays known life (on life (Up None) life.way (noted_all notes)) leaf m m' refl given.next same;
+      way = way_stays known life (on life (Up None) life.way notes) leaf m m' refl given.next same;
     }
 
     -- the disk fails, and this is owed
     flush_fails : (owed : Owed) → owed_of s'.owing ≡ Some owed
-        → ((columns : Columns) → Does (is_some known) (length names) columns (Flush table) life (noted_all notes) ending.FaultDisk (failed life (Up (Some owed)))) → Flushed ending.FaultDisk
+        → ((columns : Columns) → Does (is_some known) (length names) columns (Flush table) life notes ending.FaultDisk (failed life (Up (Some owed)))) → Flushed ending.FaultDisk
     flush_fails owed is does = record {
       next = failed life (Up (Some owed));
       hands = hands_nothing (IsUp s');
@@ -254,18 +253,18 @@ module _ (names : List (List ℕ)) (known : Option Known) (life : Life) (m m' : 
 
     flushed : (r : FlushReply) → flushing.Flushes table s s' notes r → Flushed (steps.ending_of_flush r)
     flushed r (flushing.done first taking flushing n noted fresh notes_are reply_is none) = rw reply_is (flush_ends ending.Done none refl (λ columns.
-        (owed_of s.owing, n, up, tells s.owing notes first (taken_and_flushed table taking flushing n) table (said.Took n ∷ said.Flushed n ∷ []) noted notes_are refl, refl)))
+        (owed_of s.owing, n, up, tells s.owing notes first (taken_and_flushed table taking flushing n) table (what.Took n ∷ what.Flushed n ∷ []) noted notes_are refl, refl)))
     flushed r (flushing.half first taking n noted fresh notes_are reply_is some owner_is count_is) =
         rw reply_is (flush_fails (record { table = table; count = n }) (owed_some s'.owing table n some owner_is count_is) (λ columns.
-        inl (owed_of s.owing, n, up, tells s.owing notes first (taken table taking n) table (said.Took n ∷ []) noted notes_are refl, refl)))
+        inl (owed_of s.owing, n, up, tells s.owing notes first (taken table taking n) table (what.Took n ∷ []) noted notes_are refl, refl)))
     flushed r (flushing.worn first noted notes_are reply_is worn none) = rw reply_is (flush_ends ending.Worn none refl (λ columns.
         (owed_of s.owing, up, tells_owed s.owing notes table (subst (λ (ns : List Note). OwedNotes s.owing.log.owed s.owing ns) (sym notes_are) noted), refl)))
     flushed r (flushing.stuck notes_are reply_is some seated owed_is owner_is count_is) =
         let told : Owed = record { table = s.owing.owner; count = s.owing.count } in
         rw reply_is (flush_fails told (owed_some s'.owing s.owing.owner s.owing.count (subst (λ (r : Option LogRecord). IsSome r) (sym owed_is) some) owner_is count_is) (λ columns.
-        inr (told, up ∙ ap (λ (o : Option Owed). Up o) (owed_some s.owing s.owing.owner s.owing.count some refl refl), ap noted_all notes_are, refl)))
+        inr (told, up ∙ ap (λ (o : Option Owed). Up o) (owed_some s.owing s.owing.owner s.owing.count some refl refl), notes_are, refl)))
 
-  flush_lives : (table : ℕ) (notes : List Note) (ends : Ending) (leaf' : Leaf) → FlushMoves table m m' leaf notes ends leaf' → Lived known (length names) (Flush table) life (noted_all notes) ends leaf' m'
+  flush_lives : (table : ℕ) (notes : List Note) (ends : Ending) (leaf' : Leaf) → FlushMoves table m m' leaf notes ends leaf' → Lived known (length names) (Flush table) life notes ends leaf' m'
   flush_lives table notes ends leaf' (steps.flushed s s' r is flushes region ends_are now) =
       rw (ends_are, now) (flushed table s s' notes (given.mode ∙ ap mode_of is) (where_known known leaf m (m'.held.region ≡ m.held.region) given.stands region) r flushes)
   flush_lives table notes ends leaf' (steps.not_up not none same ends_are now) =
@@ -274,13 +273,13 @@ module _ (names : List (List ℕ)) (known : Option Known) (life : Life) (m m' : 
   -- ---- kills
 
   -- closing a table changes none of the counts
-  counts_closed : (counts : Option (List ℕ)) (place count : ℕ) (notes : List Note) → EachNoted IsClosedNote place count notes → durable_with counts [] ≡ durable_with counts (noted_all notes)
+  counts_closed : (counts : Option (List ℕ)) (place count : ℕ) (notes : List Note) → EachNoted IsClosedNote place count notes → durable_with counts [] ≡ durable_with counts notes
   counts_closed None place count notes h = refl
   counts_closed (Some cs) place count notes h = ap (λ (ds : List ℕ). Some ds) (sym (durable_still cs notes (all_closed place count notes h)))
 
   -- each table that is open is closed
   killed : (p : Progress) (count : ℕ) (notes : List Note) (y : Seated) → BeginsAt life.mode p → first_open p + count ≡ length names → EachNoted IsClosedNote (first_open p) count notes
-      → m'.held ≡ m.held → Lived known (length names) Kill life (noted_all notes) ending.Done (IsDown y) m'
+      → m'.held ≡ m.held → Lived known (length names) Kill life notes ending.Done (IsDown y) m'
   killed p count notes y begins size each same =
       let c = closed_noted (first_open p) count notes each in record {
         next = on life Down life.way [];
@@ -291,7 +290,7 @@ module _ (names : List (List ℕ)) (known : Option Known) (life : Life) (m m' : 
         way = way_stays known life (on life Down life.way []) leaf m m' refl given.next (same_held known leaf m m' given.stands same);
       }
 
-  kill_lives : (notes : List Note) (ends : Ending) (leaf' : Leaf) → KillMoves m m' leaf notes ends leaf' → Lived known (length names) Kill life (noted_all notes) ends leaf' m'
+  kill_lives : (notes : List Note) (ends : Ending) (leaf' : Leaf) → KillMoves m m' leaf notes ends leaf' → Lived known (length names) Kill life notes ends leaf' m'
   kill_lives notes ends leaf' (steps.up s y is each same ends_are now) =
       let size : length s.seated.tables ≡ length names = ap (λ (l : Leaf). length (seated_of l).tables) (sym is) ∙ as_many names (seated_of leaf).tables given.in_place.named in
       rw (ends_are, now) (killed (record { owed = owed_of s.owing; treated = 0; waits = false }) (length s.seated.tables) notes y
@@ -303,7 +302,7 @@ module _ (names : List (List ℕ)) (known : Option Known) (life : Life) (m m' : 
       rw (none, ends_are, now) (left_lives names known life m m' leaf given Kill ending.NotUp same refl (λ columns. (given.mode ∙ resting_mode leaf down, refl, refl)))
 
   pub deed_lives : (deed : Deed) (notes : List Note) (ends : Ending) (leaf' : Leaf) → Carries leaf leaf' notes m m' → Moves deed m m' leaf notes ends leaf'
-      → Lived known (length names) deed life (noted_all notes) ends leaf' m'
+      → Lived known (length names) deed life notes ends leaf' m'
   deed_lives Start notes ends leaf' carries moves = start_lives notes ends leaf' carries moves
   deed_lives (Flush table) notes ends leaf' carries moves = flush_lives table notes ends leaf' moves
   deed_lives (Drain stop) notes ends leaf' carries moves = drain_lives names known stop life m m' leaf notes leaf' given ends moves

@@ -8,12 +8,12 @@ use Rattle.leaf_words.specs.declared.ways.WhyDisk.TheVariants as why
 use Rattle.leaf_words.specs.declared.ways.Way.{Way}
 use Rattle.leaf_words.specs.declared.ways.Way.TheVariants.{Memory, Disk}
 use Rattle.leaf_opening.specs.Starts.{IsWayLeft, IsWayOf}
-use Rattle.printed_lines.specs.declared.line.Said.TheVariants as said
 use Rattle.printed_lines.specs.declared.line.Ending.{Ending}
 use Rattle.printed_lines.specs.declared.line.Ending.TheVariants as ending
 use Rattle.leaf_table.specs.Turns.{Shared, is_founded}
 use Rattle.leaf_table.specs.Calls.{base_seen}
-use Rattle.leaf_steward.specs.declared.notes.Note.{Note}
+use Rattle.leaf_words.specs.declared.note.Note.{Note}
+use Rattle.leaf_words.specs.declared.note.What.TheVariants as what
 use Rattle.leaf_steward.specs.Seated.{Seated, AreFounded}
 use Rattle.leaf_steward.proofs.WatchMakes.{makes_tables}
 use Rattle.leaf_machine.specs.States.{bulk_added, columns_added, columns_seen}
@@ -24,8 +24,8 @@ use Rattle.transcript.specs.Life.{Columns, Life, LifeMode, Does, Down, Preparing
 use Rattle.transcript.specs.Life as life
 use Rattle.leaf_moves.specs.Stage.{Leaf, seated_of}
 use Rattle.leaf_moves.specs.Modes.{mode_of}
-use Rattle.leaf_moves.specs.Steps.{DrainMoves, HasCopyLength, MakesNoted, Reaches, RegionStopped, Stops, WhereStands, noted_all}
-use Rattle.leaf_moves.proofs.NoteLines.{closed_noted, handed_noted, noted_none, noted_split}
+use Rattle.leaf_moves.specs.Steps.{DrainMoves, HasCopyLength, MakesNoted, Reaches, RegionStopped, Stops, WhereStands}
+use Rattle.leaf_moves.proofs.NoteLines.{closed_noted, handed_noted}
 use Rattle.transcript_leaf.specs.Session.{HaveKnownBase, FitsNext, StandsKnown}
 use Rattle.transcript_leaf.specs.Acting.{FitsWay, Hands, Lived, loses_counts}
 use Rattle.transcript_leaf.specs.Acting as acting
@@ -68,9 +68,9 @@ stopped_way (Some k) old leaf m m' s fits holds next is =
     subst (λ (c : Option Way × Bool). IfSome c.0 (IsWayLeft c.1 m'.held.region)) (sym is) (claim_stopped old m m' s fits.0 holds)
 
 -- entries that leave the counts
-still_with : (known : Option (List ℕ)) (xs ys : List Note) → AllNotes IsStill ys → durable_with known (noted_all xs) ≡ durable_with known (noted_all (xs ++ ys))
+still_with : (known : Option (List ℕ)) (xs ys : List Note) → AllNotes IsStill ys → durable_with known xs ≡ durable_with known (xs ++ ys)
 still_with None xs ys still = refl
-still_with (Some counts) xs ys still = ap (λ (c : List ℕ). Some c) (sym (durable_append counts xs ys ∙ durable_still (durable_after counts (noted_all xs)) ys still))
+still_with (Some counts) xs ys still = ap (λ (c : List ℕ). Some c) (sym (durable_append counts xs ys ∙ durable_still (durable_after counts xs) ys still))
 
 -- tables are founded still
 part_founded : (x : Seated) (notes : List Note) (y : Seated) → MakesNoted x notes y → AreFounded x → AreFounded y
@@ -105,7 +105,7 @@ module _ (names : List (List ℕ)) (known : Option Known) (stop : Option ℕ) (o
   tables = length names
 
   abbrev LivedSo : Ending → Type 0
-  LivedSo ends = Lived known tables (Drain stop) old (noted_all notes) ends leaf' m'
+  LivedSo ends = Lived known tables (Drain stop) old notes ends leaf' m'
 
   size : length (seated_of leaf).tables ≡ tables
   size = as_many names (seated_of leaf).tables given.in_place.named
@@ -120,19 +120,16 @@ module _ (names : List (List ℕ)) (known : Option Known) (stop : Option ℕ) (o
 
   -- how far its life came
   module _ (copy : ℕ) (s : StageOfDrain) (r : Reaches leaf leaf' notes copy s) where
-    comes : DrainComes tables copy r.made old.mode (noted_all r.treating) s
-    comes = subst (λ (a : LifeMode). DrainComes tables copy r.made a (noted_all r.treating) s) (sym given.mode) (subst (λ (n : ℕ). DrainComes n copy r.made (mode_of leaf) (noted_all r.treating) s) size r.comes)
+    comes : DrainComes tables copy r.made old.mode r.treating s
+    comes = subst (λ (a : LifeMode). DrainComes tables copy r.made a r.treating s) (sym given.mode) (subst (λ (n : ℕ). DrainComes n copy r.made (mode_of leaf) r.treating s) size r.comes)
 
-    split : noted_all notes ≡ noted_all r.treating ++ noted_all r.last
-    split = noted_split notes r.treating r.last r.notes_are
-
-    comes_all : r.last ≡ [] → DrainComes tables copy r.made old.mode (noted_all notes) s
+    comes_all : r.last ≡ [] → DrainComes tables copy r.made old.mode notes s
     comes_all none =
         let just : r.treating ≡ notes = sym (r.notes_are ∙ (ap (λ (ns : List Note). r.treating ++ ns) none ∙ append-nil r.treating)) in
-        subst (λ (ns : List Note). DrainComes tables copy r.made old.mode (noted_all ns) s) just comes
+        subst (λ (ns : List Note). DrainComes tables copy r.made old.mode ns s) just comes
 
-    still : AllNotes IsStill r.last → durable_with old.durable (noted_all r.treating) ≡ durable_with old.durable (noted_all notes)
-    still all = still_with old.durable r.treating r.last all ∙ ap (λ (ns : List Note). durable_with old.durable (noted_all ns)) (sym r.notes_are)
+    still : AllNotes IsStill r.last → durable_with old.durable r.treating ≡ durable_with old.durable notes
+    still all = still_with old.durable r.treating r.last all ∙ ap (λ (ns : List Note). durable_with old.durable ns) (sym r.notes_are)
 
     founded : based ≡ true → AreFounded (seated_of leaf')
     founded is = part_founded r.between r.last (seated_of leaf') r.ends (part_founded (seated_of leaf) r.treating r.between r.treats (founded_where names known (seated_of leaf) given.in_place given.known_base is))
@@ -148,11 +145,11 @@ module _ (names : List (List ℕ)) (known : Option Known) (stop : Option ℕ) (o
   done h =
       let r = h.1 in
       let at = life.Copying h.0 in
-      let hand : life.NotesFrom 0 (replicate tables said.Handed) (noted_all r.last) =
-      subst (λ (n : ℕ). life.NotesFrom 0 (replicate n said.Handed) (noted_all r.last)) size (handed_noted 0 (length (seated_of leaf).tables) r.last h.4) in
-      let next : Life = on old Down (claimed based Memory) (noted_all r.treating) in
+      let hand : life.NotesFrom 0 (replicate tables what.Handed) r.last =
+      subst (λ (n : ℕ). life.NotesFrom 0 (replicate n what.Handed) r.last) size (handed_noted 0 (length (seated_of leaf).tables) r.last h.4) in
+      let next : Life = on old Down (claimed based Memory) r.treating in
       let hands : Hands leaf' = record {
-        handed = noted_all r.last;
+        handed = r.last;
         columns = columns_seen r.between.tables r.between.seats;
         most = 0;
         bulk = 0;
@@ -160,17 +157,17 @@ module _ (names : List (List ℕ)) (known : Option Known) (stop : Option ℕ) (o
             (makes_stewards r.treats.from r.treats.to (seated_of leaf) r.treating r.between r.treats.made given.stewards);
         few = λ base_states histories notes on noted. (omega arith, omega arith);
       } in
-      let does : (columns : Columns) → columns.least hands.handed ≤ hands.columns → OfDrain based tables columns stop old (noted_all notes) ending.Done next =
+      let does : (columns : Columns) → columns.least hands.handed ≤ hands.columns → OfDrain based tables columns stop old notes ending.Done next =
       λ columns few. (
         r.made,
         h.0,
-        noted_all r.treating,
-        noted_all r.last,
+        r.treating,
+        r.last,
         comes (suc h.0) at r,
         h.2,
         (let long = h.3.0 in omega (arith, few, long)),
         hand,
-        split (suc h.0) at r,
+        r.notes_are,
         refl,
       ) in record {
         next = next;
@@ -186,8 +183,8 @@ module _ (names : List (List ℕ)) (known : Option Known) (stop : Option ℕ) (o
   region_failed h =
       let r = h.2 in
       let at = life.Copying h.1 in
-      let next : Life = on old Down None (noted_all notes) in
-      let does : (columns : Columns) → (based ≡ true → columns_added (seated_of leaf').tables (seated_of leaf').seats ≤ columns.most) → OfDrain based tables columns stop old (noted_all notes) ending.FaultRegion next =
+      let next : Life = on old Down None notes in
+      let does : (columns : Columns) → (based ≡ true → columns_added (seated_of leaf').tables (seated_of leaf').seats ≤ columns.most) → OfDrain based tables columns stop old notes ending.FaultRegion next =
       λ columns more. (h.0, r.made, h.1, within h.0 at r h.4 columns.most more, comes_all h.0 at r h.5, h.3, refl) in record {
         next = next;
         hands = hands_most leaf' h.4.2;
@@ -202,8 +199,8 @@ module _ (names : List (List ℕ)) (known : Option Known) (stop : Option ℕ) (o
   roomless h =
       let r = h.1 in
       let at = life.Shutting h.0 in
-      let next : Life = on old (Preparing h.0) old.way (noted_all notes) in
-      let does : (columns : Columns) → (based ≡ true → bulk_added (seated_of leaf').tables (seated_of leaf').seats ≤ columns.bulk) → OfDrain based tables columns stop old (noted_all notes) ending.FaultRoom next =
+      let next : Life = on old (Preparing h.0) old.way notes in
+      let does : (columns : Columns) → (based ≡ true → bulk_added (seated_of leaf').tables (seated_of leaf').seats ≤ columns.bulk) → OfDrain based tables columns stop old notes ending.FaultRoom next =
       λ columns more. (
         r.made,
         h.0,
@@ -226,10 +223,10 @@ module _ (names : List (List ℕ)) (known : Option Known) (stop : Option ℕ) (o
   starved h =
       let r = h.2 in
       let at = life.Shutting h.0 in
-      let next : Life = on old (Preparing h.1) old.way (noted_all notes) in
-      let starves : Starves tables h.0 (noted_all r.last) h.1 = subst (λ (n : ℕ). Starves n h.0 (noted_all r.last) h.1) size h.4 in
-      let does : (columns : Columns) → OfDrain based tables columns stop old (noted_all notes) ending.FaultMemory next =
-      λ columns. (r.made, h.0, h.1, noted_all r.treating, noted_all r.last, comes 0 at r, h.3, starves, split 0 at r, refl) in record {
+      let next : Life = on old (Preparing h.1) old.way notes in
+      let starves : Starves tables h.0 r.last h.1 = subst (λ (n : ℕ). Starves n h.0 r.last h.1) size h.4 in
+      let does : (columns : Columns) → OfDrain based tables columns stop old notes ending.FaultMemory next =
+      λ columns. (r.made, h.0, h.1, r.treating, r.last, comes 0 at r, h.3, starves, r.notes_are, refl) in record {
         next = next;
         hands = hands_nothing leaf';
         does = λ columns few more. does columns;
@@ -245,8 +242,8 @@ module _ (names : List (List ℕ)) (known : Option Known) (stop : Option ℕ) (o
       let at = life.Shutting h.0 in
       let next : Life = failed old (Preparing h.1) in
       let few = h.4 in
-      let does : (columns : Columns) → OfDrain based tables columns stop old (noted_all notes) ending.FaultDisk next =
-      λ columns. (r.made, h.0, h.1, noted_all r.treating, noted_all r.last, comes 0 at r, h.3, omega (arith, few, size), h.5, split 0 at r, refl) in record {
+      let does : (columns : Columns) → OfDrain based tables columns stop old notes ending.FaultDisk next =
+      λ columns. (r.made, h.0, h.1, r.treating, r.last, comes 0 at r, h.3, omega (arith, few, size), h.5, r.notes_are, refl) in record {
         next = next;
         hands = hands_nothing leaf';
         does = λ columns few more. does columns;
@@ -258,11 +255,11 @@ module _ (names : List (List ℕ)) (known : Option Known) (stop : Option ℕ) (o
   -- it is stopped at a stage, and the leaf is killed
   stopped_at : (copy : ℕ) (s : StageOfDrain) (r : Reaches leaf leaf' notes copy s) (hands : Hands leaf') → stop ≡ Some r.made → mode_of leaf' ≡ Down
       → ((columns : Columns) → (based ≡ true → hands.most ≤ columns.most) → IsCopyWithin based columns.most copy)
-      → ClosesRest tables s (noted_all r.last) → AllNotes IsStill r.last → IfSome known (λ (k : Known). RegionStopped s m m') → LivedSo ending.Stopped
+      → ClosesRest tables s r.last → AllNotes IsStill r.last → IfSome known (λ (k : Known). RegionStopped s m m') → LivedSo ending.Stopped
   stopped_at copy s r hands stops down long closes all region =
-      let next : Life = on old Down (way_stopped s old.way) (noted_all r.treating) in
-      let does : (columns : Columns) → (based ≡ true → hands.most ≤ columns.most) → OfDrain based tables columns stop old (noted_all notes) ending.Stopped next =
-      λ columns more. (copy, r.made, s, noted_all r.treating, noted_all r.last, long columns more, comes copy s r, stops, closes, split copy s r, refl) in record {
+      let next : Life = on old Down (way_stopped s old.way) r.treating in
+      let does : (columns : Columns) → (based ≡ true → hands.most ≤ columns.most) → OfDrain based tables columns stop old notes ending.Stopped next =
+      λ columns more. (copy, r.made, s, r.treating, r.last, long columns more, comes copy s r, stops, closes, r.notes_are, refl) in record {
         next = next;
         hands = hands;
         does = λ columns few more. does columns (λ is. (more is).0);
@@ -276,12 +273,11 @@ module _ (names : List (List ℕ)) (known : Option Known) (stop : Option ℕ) (o
   stopped copy (life.Shutting p) r stops h down =
       let shut = closed_noted (life.first_open p) h.0 r.last h.3 in
       let none = h.1 in
-      let closes : ClosesRest tables (life.Shutting p) (noted_all r.last) = (shut.0, ap (λ (n : ℕ). life.first_open p + n) shut.1 ∙ (h.2 ∙ size), shut.2) in
+      let closes : ClosesRest tables (life.Shutting p) r.last = (shut.0, ap (λ (n : ℕ). life.first_open p + n) shut.1 ∙ (h.2 ∙ size), shut.2) in
       stopped_at copy (life.Shutting p) r (hands_nothing leaf') stops down (λ columns more is. omega (arith, none)) closes (all_closed (life.first_open p) h.0 r.last h.3)
       (where_known known leaf m (m'.held.region ≡ m.held.region) given.stands h.4)
   stopped copy (life.Copying made) r stops h down =
-      let closes : ClosesRest tables (life.Copying made) (noted_all r.last) = noted_none r.last h.1 in
-      stopped_at copy (life.Copying made) r (hands_most leaf' h.0.2) stops down (λ columns more. within copy (life.Copying made) r h.0 columns.most more) closes
+      stopped_at copy (life.Copying made) r (hands_most leaf' h.0.2) stops down (λ columns more. within copy (life.Copying made) r h.0 columns.most more) h.1
       (subst (λ (ns : List Note). AllNotes IsStill ns) (sym h.1) tt)
       (promised (RegionStopped (life.Copying made) m m') h.2)
 

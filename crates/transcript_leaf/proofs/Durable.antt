@@ -7,7 +7,7 @@ use Rattle.leaf_history.specs.Laws.{CallersKeep}
 use Rattle.crash_moments.specs.Left.{NamedStates}
 use Rattle.leaf_table.specs.Turns.{Shared}
 use Rattle.leaf_table.specs.Calls.{SeatView, name_of}
-use Rattle.leaf_steward.specs.declared.notes.Note.{Note}
+use Rattle.leaf_words.specs.declared.note.Note.{Note}
 use Rattle.leaf_steward.specs.Seated.{Seated}
 use Rattle.printed_lines.specs.declared.line.Ending.{Ending}
 use Rattle.transcript.specs.Base.{LogHas}
@@ -16,7 +16,7 @@ use Rattle.printed_lines.specs.declared.line.Deed.TheVariants.{Start, Flush, Dra
 use Rattle.transcript.specs.Life.{durable_after}
 use Rattle.transcript.specs.Transcript.{Known}
 use Rattle.leaf_moves.specs.Stage.{Leaf, IsDown, IsUp, IsPreparing, seated_of, with_seats, ServingStands}
-use Rattle.leaf_moves.specs.Steps.{Moves, noted_all, FlushMoves, ending_of_flush, KillMoves}
+use Rattle.leaf_moves.specs.Steps.{Moves, FlushMoves, ending_of_flush, KillMoves}
 use Rattle.transcript_leaf.specs.Session.{AreInPlace, IsDurable, AtCounts, IsSettled}
 use Rattle.transcript_leaf.specs.Acting.{loses_counts}
 use Rattle.transcript_leaf.proofs.Lists.{element_at, get_map, length_mapped, same_some, within, clash_bool}
@@ -29,7 +29,7 @@ use Rattle.transcript_leaf.proofs.DurableDrain.{drain_moves}
 use Rattle.leaf_machine.specs.declared.up.FlushReply.{FlushReply}
 use Rattle.leaf_machine.specs.States.{Serving}
 use Rattle.leaf_machine.specs.Flushes.{Flushes}
-use Rattle.leaf_steward.specs.declared.notes.What.TheVariants as what
+use Rattle.leaf_words.specs.declared.note.What.TheVariants as what
 use Rattle.printed_lines.specs.declared.line.Ending.TheVariants as ending
 use Rattle.transcript.specs.Counts.{is_disk_fault}
 use Rattle.leaf_steward.specs.Making.{EachNoted, IsClosedNote}
@@ -106,11 +106,11 @@ module _ (names : List (List ℕ)) (k : Known) (counts : List ℕ) (m m' : Meani
   GivenOf leaf leaf' = Given names k counts m m' notes leaf leaf'
 
   abbrev Later : Leaf → Type 0
-  Later leaf' = IsDurable k.base (durable_after counts (noted_all notes)) leaf' m'
+  Later leaf' = IsDurable k.base (durable_after counts notes) leaf' m'
 
   module _ (table : ℕ) (s s' : Serving) (g : GivenOf (IsUp s) (IsUp s')) where
     -- all that was taken of each table is flushed, and counted
-    flushed_up : (now : List ℕ) → durable_after counts (noted_all notes) ≡ now → s'.owing.log.owed ≡ None → AtCounts (IsSettled k.base) s'.seated now → Later (IsUp s')
+    flushed_up : (now : List ℕ) → durable_after counts notes ≡ now → s'.owing.log.owed ≡ None → AtCounts (IsSettled k.base) s'.seated now → Later (IsUp s')
     flushed_up now same none settled = (
       count_behind names k counts m m' notes (IsUp s) (IsUp s') g,
       none,
@@ -125,7 +125,7 @@ module _ (names : List (List ℕ)) (k : Known) (counts : List ℕ) (m m' : Meani
         let just : notes ≡ takes ∷ flushes ∷ [] = all ∙ ap (λ (ns : List Note). ns ++ (takes ∷ flushes ∷ [])) before in
         let ready = ready_of names k counts m m' notes (IsUp s) (IsUp s') g in
         let two = makes_two m.clock m'.clock s.seated notes s'.seated takes flushes g.carries.made just in
-        let now : durable_after counts (noted_all notes) ≡ slice_set counts table n = ap (λ (ns : List Note). durable_after counts (noted_all ns)) just in
+        let now : durable_after counts notes ≡ slice_set counts table n = ap (λ (ns : List Note). durable_after counts ns) just in
         flushed_up (slice_set counts table n) now none (took_flushed k.base s.seated s'.seated table g.known.sound ready counts taking flushing n two g.durable.2)
     flushes_durable ends r (Flushes.half first taking n owes fresh all told some owner count) is calm = absurd (told_fault ends (is ∙ ap ending_of_flush told) calm)
     flushes_durable ends r (Flushes.worn first owes all told worn none) is calm =
@@ -149,7 +149,7 @@ module _ (names : List (List ℕ)) (k : Known) (counts : List ℕ) (m m' : Meani
       let there : AreLogged m.held.disk counts (seated_of leaf) = subst (λ (x : Seated). AreLogged m.held.disk counts x) (sym is) had in
       let same_tables : y.tables ≡ (seated_of leaf).tables = makes_tables m.clock m'.clock (seated_of leaf) notes y g.carries.made in
       let now : AreLogged m.held.disk counts y = logged_on m.held.disk counts (seated_of leaf) y same_tables (seat_there names (seated_of leaf) g.in_place) there in
-      let still : durable_after counts (noted_all notes) ≡ counts = durable_still counts notes (all_closed first count notes closes) in (
+      let still : durable_after counts notes ≡ counts = durable_still counts notes (all_closed first count notes closes) in (
         count_behind names k counts m m' notes leaf (IsDown y) g,
         subst (λ (cs : List ℕ). AreLogged m'.held.disk cs y) (sym still) (subst (λ (h : Pair). AreLogged h.disk counts y) (sym held) now),
       )
@@ -167,7 +167,7 @@ module _ (names : List (List ℕ)) (k : Known) (counts : List ℕ) (m m' : Meani
 
 pub durable_moves : (names : List (List ℕ)) (k : Known) (counts : List ℕ) (deed : Deed) (m m' : Meaning) (leaf : Leaf) (notes : List Note) (ends : Ending) (leaf' : Leaf)
     → Moves deed m m' leaf notes ends leaf' → loses_counts deed ends ≡ false → Given names k counts m m' notes leaf leaf'
-    → IsDurable k.base (durable_after counts (noted_all notes)) leaf' m'
+    → IsDurable k.base (durable_after counts notes) leaf' m'
 durable_moves names k counts Start m m' leaf notes ends leaf' moves calm g = start_moves names k counts m m' notes leaf ends leaf' moves g
 durable_moves names k counts (Flush table) m m' leaf notes ends leaf' moves calm g = flush_moves names k counts m m' notes table leaf ends leaf' moves calm g
 durable_moves names k counts (Drain stop) m m' leaf notes ends leaf' moves calm g = drain_moves names k counts m m' leaf notes leaf' g stop ends moves calm

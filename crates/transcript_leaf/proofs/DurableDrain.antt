@@ -4,30 +4,26 @@ use Rattle.std.specs.Prelude.{if◌then◌else◌, slice_get, slice_set}
 use Rattle.std.proofs.lemmas.List.{append-nil}
 use Rattle.std.proofs.lemmas.Option.{slice_get_within}
 use Rattle.berth_face.specs.Berth.{Meaning}
-use Rattle.printed_lines.specs.declared.line.Said.{Said}
-use Rattle.printed_lines.specs.declared.line.Said.TheVariants as said
 use Rattle.printed_lines.specs.declared.line.Ending.{Ending}
 use Rattle.printed_lines.specs.declared.line.Ending.TheVariants as ending
 use Rattle.crash_moments.specs.Left.{NamedStates}
 use Rattle.leaf_table.specs.Turns.{Shared}
 use Rattle.leaf_table.specs.Calls.{SeatView, name_of}
 use Rattle.leaf_machine.specs.States.{IsShutAndTaken}
-use Rattle.leaf_steward.specs.declared.notes.Note.{Note}
-use Rattle.leaf_steward.specs.declared.notes.What.{What}
-use Rattle.leaf_steward.specs.declared.notes.What.TheVariants as what
+use Rattle.leaf_words.specs.declared.note.Note.{Note}
+use Rattle.leaf_words.specs.declared.note.What.{What}
+use Rattle.leaf_words.specs.declared.note.What.TheVariants as what
 use Rattle.leaf_steward.specs.Seated.{Seated, AtEach}
 use Rattle.leaf_steward.specs.Making.{EachNoted, IsClosedNote, IsHandedNote, Makes}
 use Rattle.leaf_steward.proofs.WatchMakes.{makes_tables}
 use Rattle.transcript.specs.Base.{LogHas}
 use Rattle.transcript.specs.Counts.{is_disk_fault}
-use Rattle.transcript.specs.Pieces.{Noted}
-use Rattle.transcript.specs.Life.{BeginsAt, Copying, Down, NotesOf, Owed, Preparing, Progress, Shutting, StageOfDrain, Starves, StepOfDrain, StepsOfDrain, Treats, durable_after, first_open}
+use Rattle.transcript.specs.Life.{BeginsAt, Copying, Down, NotesOf, Owed, Preparing, Progress, Shutting, StageOfDrain, Starves, StepOfDrain, StepsOfDrain, Treats, durable_after, first_open, words_in}
 use Rattle.transcript.specs.Transcript.{Known}
 use Rattle.leaf_moves.specs.Stage.{Leaf, IsDown, IsUp, IsPreparing, AreHandedNothing, LeafStands, seated_of}
 use Rattle.leaf_moves.specs.Modes.{mode_of, progress_of}
-use Rattle.leaf_moves.specs.Steps.{DrainMoves, MakesNoted, Reaches, Stops, noted_all, said_of_note}
+use Rattle.leaf_moves.specs.Steps.{DrainMoves, MakesNoted, Reaches, Stops}
 use Rattle.leaf_moves.proofs.Modes.{none_owed, owed_none}
-use Rattle.leaf_moves.proofs.NoteLines.{words_in}
 use Rattle.transcript_leaf.specs.Session.{AtCounts, IsDurable, IsSettled}
 use Rattle.transcript_leaf.proofs.Lists.{clash_bool}
 use Rattle.transcript_leaf.proofs.Counting.{settled_handed, shut_handed, state_with}
@@ -43,35 +39,15 @@ heads x y xs ys e = cc
 tails : {A : Type 0} (x y : A) (xs ys : List A) → x ∷ xs ≡ y ∷ ys → xs ≡ ys
 tails x y xs ys e = cc
 
-no_notes : (notes : List Note) → noted_all notes ≡ [] → notes ≡ []
-no_notes [] e = refl
-no_notes (n ∷ ns) e = cc
-
 no_words : (notes : List Note) → words_in notes ≡ [] → notes ≡ []
 no_words [] e = refl
 no_words (n ∷ ns) e = cc
-
--- notes that are told in two parts
-noted_parts : (notes : List Note) (first others : List Noted) → noted_all notes ≡ first ++ others → (a b : List Note) × (notes ≡ a ++ b) × (noted_all a ≡ first) × (noted_all b ≡ others)
-noted_parts notes [] others e = ([], notes, refl, refl, e)
-noted_parts [] (f ∷ fs) others e = absurd cc
-noted_parts (n ∷ ns) (f ∷ fs) others e =
-    let rest = noted_parts ns fs others (tails _ _ _ _ e) in
-    (n ∷ rest.0, rest.1, ap (λ (l : List Note). n ∷ l) rest.2, ap₂ (λ (x : Noted) (xs : List Noted). x ∷ xs) (heads _ _ _ _ e) rest.3, rest.4)
-
-said_closed : (w : What) (n : ℕ) → said_of_note w ≡ said.Closed n → w ≡ what.Closed n
-said_closed (what.Closed k) n e = cc
-said_closed w n e = absurd cc
-
-said_flushed : (w : What) (n : ℕ) → said_of_note w ≡ said.Flushed n → w ≡ what.Flushed n
-said_flushed (what.Flushed k) n e = cc
-said_flushed w n e = absurd cc
 
 note_is : (n : Note) (table : ℕ) (w : What) → n.table ≡ table → n.what ≡ w → n ≡ record { table = table; number = n.number; what = w }
 note_is n table w at is = ap₂ (λ (t : ℕ) (v : What). let m : Note = record { table = t; number = n.number; what = v } in m) at is
 
 -- a table that is told as closed and flushed
-closed_words : (notes : List Note) (place n : ℕ) → words_in notes ≡ (place, said.Closed n) ∷ (place, said.Flushed n) ∷ []
+closed_words : (notes : List Note) (place n : ℕ) → words_in notes ≡ (place, what.Closed n) ∷ (place, what.Flushed n) ∷ []
     → (closing flushing : ℕ) × (notes ≡ record { table = place; number = closing; what = what.Closed n } ∷ record { table = place; number = flushing; what = what.Flushed n } ∷ [])
 closed_words [] place n e = absurd cc
 closed_words (a ∷ []) place n e = absurd cc
@@ -81,8 +57,8 @@ closed_words (a ∷ b ∷ []) place n e =
       a.number,
       b.number,
       ap₂ (λ (x y : Note). x ∷ y ∷ [])
-          (note_is a place (what.Closed n) (ap (λ (w : ℕ × Said). w.0) first) (said_closed a.what n (ap (λ (w : ℕ × Said). w.1) first)))
-          (note_is b place (what.Flushed n) (ap (λ (w : ℕ × Said). w.0) second) (said_flushed b.what n (ap (λ (w : ℕ × Said). w.1) second))),
+          (note_is a place (what.Closed n) (ap (λ (w : ℕ × What). w.0) first) (ap (λ (w : ℕ × What). w.1) first))
+          (note_is b place (what.Flushed n) (ap (λ (w : ℕ × What). w.0) second) (ap (λ (w : ℕ × What). w.1) second)),
     )
 closed_words (a ∷ b ∷ c ∷ ns) place n e = absurd cc
 
@@ -114,9 +90,9 @@ part_nothing : (x : Seated) (notes : List Note) (y : Seated) → MakesNoted x no
 part_nothing x notes y part none = makes_nothing part.from part.to x notes y part.made none
 
 -- where nothing is noted, what holds of counts and seats stays
-stays : (P : List ℕ → Seated → Type 0) (counts : List ℕ) (x : Seated) (notes : List Note) (y : Seated) → notes ≡ [] → MakesNoted x notes y → P counts x → P (durable_after counts (noted_all notes)) y
+stays : (P : List ℕ → Seated → Type 0) (counts : List ℕ) (x : Seated) (notes : List Note) (y : Seated) → notes ≡ [] → MakesNoted x notes y → P counts x → P (durable_after counts notes) y
 stays P counts x notes y none part holds =
-    subst (λ (ns : List Note). P (durable_after counts (noted_all ns)) y) (sym none) (subst (λ (s : Seated). P counts s) (sym (part_nothing x notes y part none)) holds)
+    subst (λ (ns : List Note). P (durable_after counts ns) y) (sym none) (subst (λ (s : Seated). P counts s) (sym (part_nothing x notes y part none)) holds)
 
 -- ---- a leaf that shuts its tables
 
@@ -148,26 +124,26 @@ clean_as base counts p q x none same clean = (none, clean.1, λ place t v at was
 
 module _ (base : NamedStates) (counts : List ℕ) (x : Seated) (notes : List Note) (y : Seated) (sound : AreHandedNothing base) (ready : AreReady base x) (part : MakesNoted x notes y) where
   -- nothing was owed, and no table more is shut
-  clean_same : (p q : Progress) → NotesOf p.owed p.treated [] (noted_all notes) → q.owed ≡ None → first_open q ≡ first_open p → IsClean base counts p x
-      → IsClean base (durable_after counts (noted_all notes)) q y
+  clean_same : (p q : Progress) → NotesOf p.owed p.treated [] notes → q.owed ≡ None → first_open q ≡ first_open p → IsClean base counts p x
+      → IsClean base (durable_after counts notes) q y
   clean_same p q words none same clean =
-      let nothing = no_words notes (subst (λ (o : Option Owed). NotesOf o p.treated [] (noted_all notes)) clean.0 words) in
+      let nothing = no_words notes (subst (λ (o : Option Owed). NotesOf o p.treated [] notes) clean.0 words) in
       stays (λ (c : List ℕ) (s : Seated). IsClean base c q s) counts x notes y nothing part (clean_as base counts p q x none same clean)
 
   -- one table more is closed, and its writes are flushed
-  clean_shuts : (p q : Progress) (n : ℕ) → first_open p ≡ p.treated → NotesOf p.owed p.treated (said.Closed n ∷ said.Flushed n ∷ []) (noted_all notes) → q.owed ≡ None → first_open q ≡ suc p.treated
-      → IsClean base counts p x → IsClean base (durable_after counts (noted_all notes)) q y
+  clean_shuts : (p q : Progress) (n : ℕ) → first_open p ≡ p.treated → NotesOf p.owed p.treated (what.Closed n ∷ what.Flushed n ∷ []) notes → q.owed ≡ None → first_open q ≡ suc p.treated
+      → IsClean base counts p x → IsClean base (durable_after counts notes) q y
   clean_shuts p q n from words none to clean =
       let place = p.treated in
-      let both = closed_words notes place n (subst (λ (o : Option Owed). NotesOf o place (said.Closed n ∷ said.Flushed n ∷ []) (noted_all notes)) clean.0 words) in
+      let both = closed_words notes place n (subst (λ (o : Option Owed). NotesOf o place (what.Closed n ∷ what.Flushed n ∷ []) notes) clean.0 words) in
       let two = makes_two part.from part.to x notes y _ _ part.made both.2 in
       let settled = closed_flushed base x y place sound ready counts both.0 both.1 n two clean.1 in
       let below = closed_shut base x y place sound ready both.0 both.1 n two (λ p t v at was few. clean.2 p t v at was (omega (arith, few, from))) in
       let now : IsClean base (slice_set counts place n) q y = (none, settled, λ p t v at was few. below p t v at was (omega (arith, few, to))) in
-      subst (λ (ns : List Note). IsClean base (durable_after counts (noted_all ns)) q y) (sym both.2) now
+      subst (λ (ns : List Note). IsClean base (durable_after counts ns) q y) (sym both.2) now
 
   -- one table more is treated
-  clean_treats : (p q : Progress) → Treats p (noted_all notes) q → IsClean base counts p x → IsClean base (durable_after counts (noted_all notes)) q y
+  clean_treats : (p q : Progress) → Treats p notes q → IsClean base counts p x → IsClean base (durable_after counts notes) q y
   clean_treats p q step clean = by p.waits refl
     where
       none : q.owed ≡ None
@@ -176,16 +152,16 @@ module _ (base : NamedStates) (counts : List ℕ) (x : Seated) (notes : List Not
       to : first_open q ≡ suc p.treated
       to = ap (λ (r : Progress). first_open r) step.1
 
-      by : (b : Bool) → p.waits ≡ b → IsClean base (durable_after counts (noted_all notes)) q y
+      by : (b : Bool) → p.waits ≡ b → IsClean base (durable_after counts notes) q y
       by true waits =
-          clean_same p q (subst (λ (c : Bool). NotesOf p.owed p.treated (if c then [] else said.Closed step.0.0 ∷ said.Flushed step.0.0 ∷ []) (noted_all notes)) waits step.0.1) none
+          clean_same p q (subst (λ (c : Bool). NotesOf p.owed p.treated (if c then [] else what.Closed step.0.0 ∷ what.Flushed step.0.0 ∷ []) notes) waits step.0.1) none
           (to ∙ sym (ap (λ (c : Bool). if c then suc p.treated else p.treated) waits)) clean
       by false waits =
           clean_shuts p q step.0.0 (ap (λ (c : Bool). if c then suc p.treated else p.treated) waits)
-          (subst (λ (c : Bool). NotesOf p.owed p.treated (if c then [] else said.Closed step.0.0 ∷ said.Flushed step.0.0 ∷ []) (noted_all notes)) waits step.0.1) none to clean
+          (subst (λ (c : Bool). NotesOf p.owed p.treated (if c then [] else what.Closed step.0.0 ∷ what.Flushed step.0.0 ∷ []) notes) waits step.0.1) none to clean
 
   -- there was no memory
-  clean_starves : (tables : ℕ) (p q : Progress) → Starves tables p (noted_all notes) q → IsClean base counts p x → IsClean base (durable_after counts (noted_all notes)) q y
+  clean_starves : (tables : ℕ) (p q : Progress) → Starves tables p notes q → IsClean base counts p x → IsClean base (durable_after counts notes) q y
   clean_starves tables p q (inl h) clean = clean_same p q h.0 (ap (λ (r : Progress). r.owed) h.1) (ap (λ (r : Progress). first_open r) h.1) clean
   clean_starves tables p q (inr h) clean =
       clean_shuts p q h.0 (ap (λ (c : Bool). if c then suc p.treated else p.treated) h.1) h.3 (ap (λ (r : Progress). r.owed) h.4) (ap (λ (r : Progress). first_open r) h.4) clean
@@ -199,30 +175,28 @@ module _ (base : NamedStates) (counts : List ℕ) (x : Seated) (notes : List Not
       no_more false = omega arith
 
   -- by one step
-  clean_step : (copy : ℕ) (s t : StageOfDrain) → StepOfDrain (length x.tables) copy s (noted_all notes) t → ComesTo base counts s x → ComesTo base (durable_after counts (noted_all notes)) t y
+  clean_step : (copy : ℕ) (s t : StageOfDrain) → StepOfDrain (length x.tables) copy s notes t → ComesTo base counts s x → ComesTo base (durable_after counts notes) t y
   clean_step copy (Shutting p) (Shutting q) step come = clean_treats p q step.1 come
   clean_step copy (Shutting p) (Copying made) step come =
-      stays (λ (c : List ℕ) (s : Seated). AreDone base c s) counts x notes y (no_notes notes step.1) part (all_done p step.0 come)
+      stays (λ (c : List ℕ) (s : Seated). AreDone base c s) counts x notes y step.1 part (all_done p step.0 come)
   clean_step copy (Copying made) (Shutting q) step come = absurd step
-  clean_step copy (Copying made) (Copying now) step come = stays (λ (c : List ℕ) (s : Seated). AreDone base c s) counts x notes y (no_notes notes step.1) part come
+  clean_step copy (Copying made) (Copying now) step come = stays (λ (c : List ℕ) (s : Seated). AreDone base c s) counts x notes y step.1 part come
 
 -- by all of them
 clean_steps : (base : NamedStates) (copy n : ℕ) (s : StageOfDrain) (notes : List Note) (t : StageOfDrain) (x y : Seated) (counts : List ℕ)
-    → AreHandedNothing base → AreReady base x → StepsOfDrain (length x.tables) copy n s (noted_all notes) t → MakesNoted x notes y → ComesTo base counts s x → ComesTo base (durable_after counts (noted_all notes)) t y
+    → AreHandedNothing base → AreReady base x → StepsOfDrain (length x.tables) copy n s notes t → MakesNoted x notes y → ComesTo base counts s x → ComesTo base (durable_after counts notes) t y
 clean_steps base copy zero s notes t x y counts sound ready steps part come =
-    stays (λ (c : List ℕ) (z : Seated). ComesTo base c t z) counts x notes y (no_notes notes steps.0) part (subst (λ (a : StageOfDrain). ComesTo base counts a x) (sym steps.1) come)
+    stays (λ (c : List ℕ) (z : Seated). ComesTo base c t z) counts x notes y steps.0 part (subst (λ (a : StageOfDrain). ComesTo base counts a x) (sym steps.1) come)
 clean_steps base copy (suc n) s notes t x y counts sound ready steps part come =
-    let told = noted_parts notes steps.0 steps.1 steps.5 in
-    let made = makes_parts part.from part.to x told.0 told.1 y (subst (λ (l : List Note). Makes part.from part.to x l y) told.2 part.made) in
-    let first : MakesNoted x told.0 made.between = record { from = part.from; to = made.clock; made = made.first } in
-    let second : MakesNoted made.between told.1 y = record { from = made.clock; to = part.to; made = made.second } in
-    let one = clean_step base counts x told.0 made.between sound ready first copy s steps.2 (subst (λ (ns : List Noted). StepOfDrain (length x.tables) copy s ns steps.2) (sym told.3) steps.3) come in
-    let rest : StepsOfDrain (length made.between.tables) copy n steps.2 (noted_all told.1) t =
-    subst (λ (k : ℕ). StepsOfDrain k copy n steps.2 (noted_all told.1) t) (sym (part_tables x told.0 made.between first))
-    (subst (λ (ns : List Noted). StepsOfDrain (length x.tables) copy n steps.2 ns t) (sym told.4) steps.4) in
-    subst (λ (l : List Note). ComesTo base (durable_after counts (noted_all l)) t y) (sym told.2)
-    (subst (λ (c : List ℕ). ComesTo base c t y) (sym (durable_append counts told.0 told.1))
-    (clean_steps base copy n steps.2 told.1 t made.between y (durable_after counts (noted_all told.0)) sound (part_ready base x told.0 made.between first ready) rest second one))
+    let made = makes_parts part.from part.to x steps.0 steps.1 y (subst (λ (l : List Note). Makes part.from part.to x l y) steps.5 part.made) in
+    let first : MakesNoted x steps.0 made.between = record { from = part.from; to = made.clock; made = made.first } in
+    let second : MakesNoted made.between steps.1 y = record { from = made.clock; to = part.to; made = made.second } in
+    let one = clean_step base counts x steps.0 made.between sound ready first copy s steps.2 steps.3 come in
+    let rest : StepsOfDrain (length made.between.tables) copy n steps.2 steps.1 t =
+    subst (λ (k : ℕ). StepsOfDrain k copy n steps.2 steps.1 t) (sym (part_tables x steps.0 made.between first)) steps.4 in
+    subst (λ (l : List Note). ComesTo base (durable_after counts l) t y) (sym steps.5)
+    (subst (λ (c : List ℕ). ComesTo base c t y) (sym (durable_append counts steps.0 steps.1))
+    (clean_steps base copy n steps.2 steps.1 t made.between y (durable_after counts steps.0) sound (part_ready base x steps.0 made.between first ready) rest second one))
 
 -- handed over, they are as they were
 handed_done : (base : NamedStates) (counts : List ℕ) (x : Seated) (count : ℕ) (notes : List Note) (y : Seated) → AreHandedNothing base → AreReady base x
@@ -264,7 +238,7 @@ module _ (names : List (List ℕ)) (k : Known) (counts : List ℕ) (m m' : Meani
     (g : Given names k counts m m' notes leaf leaf') where
   -- how many writes of each table are durable behind these notes
   abbrev By : List Note → List ℕ
-  By ns = durable_after counts (noted_all ns)
+  By ns = durable_after counts ns
 
   abbrev Later : Type 0
   Later = IsDurable k.base (By notes) leaf' m'

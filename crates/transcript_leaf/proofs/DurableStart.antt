@@ -26,22 +26,20 @@ use Rattle.crash_moments.specs.Watched.{Watched}
 use Rattle.crash_states.specs.Standing.{Rests, states_of_tables}
 use Rattle.leaf_table.specs.Turns.{Shared}
 use Rattle.leaf_table.specs.Calls.{base_seen, name_of}
-use Rattle.leaf_steward.specs.declared.notes.Note.{Note}
-use Rattle.leaf_steward.specs.declared.notes.What.{What}
-use Rattle.leaf_steward.specs.declared.notes.What.TheVariants as what
+use Rattle.leaf_words.specs.declared.note.Note.{Note}
+use Rattle.leaf_words.specs.declared.note.What.{What}
+use Rattle.leaf_words.specs.declared.note.What.TheVariants as what
 use Rattle.leaf_steward.specs.Seated.{Seated, watched_by}
 use Rattle.leaf_steward.specs.Making.{MadeAs, OpenedNotes}
 use Rattle.leaf_steward.proofs.Keeping.{makes_tables}
 use Rattle.leaf_steward.proofs.WatchMakes.{MadeAt, NotedAs, Went, makes_went}
 use Rattle.leaf_machine.specs.States.{Serving}
 use Rattle.printed_lines.specs.declared.line.Ending.{Ending}
-use Rattle.printed_lines.specs.declared.line.Said.TheVariants as said
 use Rattle.transcript.specs.Base.{LogHas}
-use Rattle.transcript.specs.Pieces.{Noted}
 use Rattle.transcript.specs.Life.{NotesFrom, durable_after, durable_by}
 use Rattle.transcript.specs.Transcript.{Known}
 use Rattle.leaf_moves.specs.Stage.{Leaf, IsDown, IsUp, Carries}
-use Rattle.leaf_moves.specs.Steps.{StartMoves, StartsTold, noted_all, said_of_note}
+use Rattle.leaf_moves.specs.Steps.{StartMoves, StartsTold}
 use Rattle.transcript_leaf.specs.Session.{HaveKnownBase, AreInPlace, AtCounts, IsDurable, IsSettled, StandsKnown}
 use Rattle.transcript_leaf.proofs.Lists.{clash_bool, element_at, get_map, length_mapped, same_some, within}
 use Rattle.transcript_leaf.proofs.Counting.{IsOf, settled_opened}
@@ -100,24 +98,20 @@ has_after (Disk why) disk name a has = has_begun disk name a has
 
 notes_opened : (place : ℕ) (counts : List ℕ) (ts : List Table) (notes : List Note) → length counts ≡ length ts
     → ((i n : ℕ) (u : Table) → slice_get counts i ≡ Some n → slice_get ts i ≡ Some u → n ≡ u.writes)
-    → OpenedNotes place ts notes → NotesFrom place (map said.Opened counts) (noted_all notes)
-notes_opened place [] [] notes count each h = subst (λ (ns : List Note). NotesFrom place [] (noted_all ns)) (sym h) tt
+    → OpenedNotes place ts notes → NotesFrom place (map what.Opened counts) notes
+notes_opened place [] [] notes count each h = subst (λ (ns : List Note). NotesFrom place [] ns) (sym h) tt
 notes_opened place [] (t ∷ ts) notes count each h = absurd (omega (arith, count))
 notes_opened place (n ∷ ns) [] notes count each h = absurd (omega (arith, count))
 notes_opened place (n ∷ ns) (t ∷ ts) [] count each h = absurd h
 notes_opened place (n ∷ ns) (t ∷ ts) (note ∷ notes) count each h = (
   h.0,
-  ap (λ (w : What). said_of_note w) h.1 ∙ ap (λ (k : ℕ). said.Opened k) (sym (each zero n t refl refl)),
+  h.1 ∙ ap (λ (k : ℕ). what.Opened k) (sym (each zero n t refl refl)),
   notes_opened (suc place) ns ts notes (omega (arith, count)) (λ i k u at is. each (suc i) k u at is) h.2,
 )
 
 -- opened with as many writes as are counted in that place
 abbrev IsOpenedWith : List ℕ → ℕ → What → Type 0
 IsOpenedWith counts place w = (n : ℕ) × (slice_get counts place ≡ Some n) × (w ≡ what.Opened n)
-
-opened_what : (w : What) (n : ℕ) → said_of_note w ≡ said.Opened n → w ≡ what.Opened n
-opened_what (what.Opened k) n e = cc
-opened_what w n e = cc
 
 none_before : (i : ℕ) → i ≡ 0 + i
 none_before i = omega arith
@@ -141,7 +135,7 @@ part_rest all place n ns part = λ i k at. subst (λ (j : ℕ). slice_get all j 
 part_all : (all : List ℕ) → IsPart all 0 all
 part_all all = λ i n at. subst (λ (k : ℕ). slice_get all k ≡ Some n) (none_before i) at
 
-noted_as : (all : List ℕ) (place : ℕ) (counts : List ℕ) (notes : List Note) → IsPart all place counts → NotesFrom place (map said.Opened counts) (noted_all notes)
+noted_as : (all : List ℕ) (place : ℕ) (counts : List ℕ) (notes : List Note) → IsPart all place counts → NotesFrom place (map what.Opened counts) notes
     → NotedAs (IsOpenedWith all) place (length counts) notes
 noted_as all place [] [] part h = refl
 noted_as all place [] (note ∷ notes) part h = absurd h
@@ -150,19 +144,19 @@ noted_as all place (n ∷ ns) (note ∷ notes) part h = (
   length ns,
   refl,
   h.0,
-  (n, part_first all place n ns part, opened_what note.what n h.1),
+  (n, part_first all place n ns part, h.1),
   noted_as all (suc place) ns notes (part_rest all place n ns part) h.2,
 )
 
 -- what is opened with its count keeps it
-opened_still : (all : List ℕ) (place : ℕ) (counts : List ℕ) (notes : List Noted) → IsPart all place counts → NotesFrom place (map said.Opened counts) notes → durable_after all notes ≡ all
+opened_still : (all : List ℕ) (place : ℕ) (counts : List ℕ) (notes : List Note) → IsPart all place counts → NotesFrom place (map what.Opened counts) notes → durable_after all notes ≡ all
 opened_still all place [] [] part h = refl
 opened_still all place [] (note ∷ notes) part h = absurd h
 opened_still all place (n ∷ ns) [] part h = absurd h
 opened_still all place (n ∷ ns) (note ∷ notes) part h =
-    let by_place : durable_by all note.table note.said ≡ durable_by all place note.said = ap (λ (p : ℕ). durable_by all p note.said) h.0 in
-    let by_said : durable_by all place note.said ≡ durable_by all place (said.Opened n) = ap (λ s. durable_by all place s) h.1 in
-    let step : durable_by all note.table note.said ≡ all = by_place ∙ (by_said ∙ set_same all place n (part_first all place n ns part)) in
+    let by_place : durable_by all note.table note.what ≡ durable_by all place note.what = ap (λ (p : ℕ). durable_by all p note.what) h.0 in
+    let by_what : durable_by all place note.what ≡ durable_by all place (what.Opened n) = ap (λ s. durable_by all place s) h.1 in
+    let step : durable_by all note.table note.what ≡ all = by_place ∙ (by_what ∙ set_same all place n (part_first all place n ns part)) in
     ap (λ (cs : List ℕ). durable_after cs notes) step ∙ opened_still all (suc place) ns notes (part_rest all place n ns part) h.2
 
 -- ---- a start
@@ -170,7 +164,7 @@ opened_still all place (n ∷ ns) (note ∷ notes) part h =
 -- it opens each table with just the writes that are counted
 pub opened_counts : (names : List (List ℕ)) (k : Known) (counts : List ℕ) (m m' : Meaning) (x : Seated) (s : Serving) (notes : List Note) (way : Way)
     → AreInPlace names x → HaveKnownBase (Some k) x → StandsKnown k (IsDown x) m → IsDurable k.base counts (IsDown x) m → StartsTold x m m' s notes way
-    → (length counts ≡ length x.tables) × NotesFrom 0 (map said.Opened counts) (noted_all notes)
+    → (length counts ≡ length x.tables) × NotesFrom 0 (map what.Opened counts) notes
 opened_counts names k counts m m' x s notes way in_place known_base known durable told =
     (durable.0, notes_opened 0 counts served.tables notes count each told.came.noted)
   where
@@ -199,7 +193,7 @@ opened_counts names k counts m m' x s notes way in_place known_base known durabl
 -- and these are flushed then
 pub opened_durable : (names : List (List ℕ)) (k : Known) (counts : List ℕ) (m m' : Meaning) (x : Seated) (s : Serving) (notes : List Note) (way : Way)
     → AreInPlace names x → HaveKnownBase (Some k) x → AreStewards x → StandsKnown k (IsDown x) m → Carries (IsDown x) (IsUp s) notes m m' → s.owing.log.owed ≡ None
-    → StartsTold x m m' s notes way → NotesFrom 0 (map said.Opened counts) (noted_all notes) → length counts ≡ length x.tables
+    → StartsTold x m m' s notes way → NotesFrom 0 (map what.Opened counts) notes → length counts ≡ length x.tables
     → IsDurable k.base counts (IsUp s) m'
 opened_durable names k counts m m' x s notes way in_place known_base stewards known carries none told noted count =
     (count ∙ sym (ap (λ (ts : List Shared). length ts) same_tables), none, settled)
@@ -222,14 +216,14 @@ opened_durable names k counts m m' x s notes way in_place known_base stewards kn
 
 module _ (names : List (List ℕ)) (k : Known) (counts : List ℕ) (m m' : Meaning) (notes : List Note) where
   abbrev Later : Leaf → Type 0
-  Later leaf' = IsDurable k.base (durable_after counts (noted_all notes)) leaf' m'
+  Later leaf' = IsDurable k.base (durable_after counts notes) leaf' m'
 
   -- a start that opens the tables
   start_opened : (x : Seated) (s : Serving) (way : Way) → s.owing.log.owed ≡ None → StartsTold x m m' s notes way → Given names k counts m m' notes (IsDown x) (IsUp s)
       → Later (IsUp s)
   start_opened x s way none told g =
       let noted = opened_counts names k counts m m' x s notes way g.in_place g.known_base g.known g.durable told in
-      let same : durable_after counts (noted_all notes) ≡ counts = opened_still counts 0 counts (noted_all notes) (part_all counts) noted.1 in
+      let same : durable_after counts notes ≡ counts = opened_still counts 0 counts notes (part_all counts) noted.1 in
       subst (λ (cs : List ℕ). IsDurable k.base cs (IsUp s) m') (sym same)
       (opened_durable names k counts m m' x s notes way g.in_place g.known_base g.stewards g.known g.carries none told noted.1 noted.0)
 

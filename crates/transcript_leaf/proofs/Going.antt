@@ -3,17 +3,17 @@ use Rattle.std.proofs.Common.{◌≡◌, ◌≤◌, ℕ, true, List, [], ◌∷�
 use Rattle.std.specs.Prelude.{IfSome, is_some}
 use Rattle.berth_face.specs.Berth.{Meaning}
 use Rattle.leaf_history.specs.History.{Entry}
-use Rattle.leaf_steward.specs.declared.notes.Note.{Note}
+use Rattle.leaf_words.specs.declared.note.Note.{Note}
 use Rattle.leaf_steward.specs.Seated.{AtEach}
 use Rattle.printed_lines.specs.declared.line.Ending.{Ending}
 use Rattle.printed_lines.specs.declared.line.Deed.{Deed}
-use Rattle.transcript.specs.Pieces.{Acted, Did, Noted, Piece, deeds}
+use Rattle.transcript.specs.Pieces.{Acted, Did, Piece, deeds}
 use Rattle.transcript.specs.Histories.{BaseState}
 use Rattle.transcript.specs.Answers.{columns_of}
 use Rattle.transcript.specs.Life.{Lives}
 use Rattle.transcript.specs.Transcript.{Known, first_life}
 use Rattle.leaf_moves.specs.Stage.{Leaf, Carries, seated_of}
-use Rattle.leaf_moves.specs.Steps.{Moves, noted_all}
+use Rattle.leaf_moves.specs.Steps.{Moves}
 use Rattle.transcript_leaf.specs.Session.{HaveKnownBase, AreInPlace, AreToldOn, IsNoted, IsOwn, KnownLeaf, LeafHeld, StandsKnown}
 use Rattle.transcript_leaf.specs.Acting.{Lived}
 use Rattle.transcript_leaf.proofs.CountingNotes.{AreStewards, as_many}
@@ -38,7 +38,7 @@ module _ (number : ℕ) (names : List (List ℕ)) (known : Option Known) (old : 
   given = record { in_place = s.in_place; known_base = s.known_base; stewards = stewards; stands = stands; own = own; mode = s.mode; next = s.next }
 
   -- the life of the leaf behind the deed
-  lived : Lived known (length names) deed s.life (noted_all notes) ends moved m'
+  lived : Lived known (length names) deed s.life notes ends moved m'
   lived = deed_lives names known s.life m m' met given deed notes ends moved carries moves
 
   moved_place : AreInPlace names (seated_of moved)
@@ -48,8 +48,8 @@ module _ (number : ℕ) (names : List (List ℕ)) (known : Option Known) (old : 
   moved_known_base = known_base_moved names met moved notes m m' s.in_place carries known s.known_base
 
   -- the entries that are told of it by then
-  abbrev all_notes : List Noted
-  all_notes = notes_told number pieces ++ noted_all notes
+  abbrev all_notes : List Note
+  all_notes = notes_told number pieces ++ notes
 
   moved_noted : AtEach (IsNoted all_notes) (seated_of moved)
   moved_noted = noted_made (notes_told number pieces) m.clock m'.clock (seated_of met) notes (seated_of moved) carries.made s.noted
@@ -61,20 +61,20 @@ module _ (number : ℕ) (names : List (List ℕ)) (known : Option Known) (old : 
       subst (λ (n : ℕ). (lived.hands.most ≤ (columns_of base_states histories n all_notes).most) × (lived.hands.bulk ≤ (columns_of base_states histories n all_notes).bulk)) (as_many names (seated_of moved).tables moved_place.named)
       (lived.hands.few base_states histories all_notes told moved_noted)
 
-  pub held_acts : LeafHeld number names known old (pieces ++ Acted number deed (noted_all notes) ends ∷ []) moved m'
+  pub held_acts : LeafHeld number names known old (pieces ++ Acted number deed notes ends ∷ []) moved m'
   held_acts = record {
     life = lived.next;
     lives = λ base_states histories told.
-        subst (λ (ds : List Did). Lives (is_some known) (length names) (columns_of base_states histories (length names)) [] (first_life known names) ds lived.next) (sym (deeds_act number pieces deed (noted_all notes) ends))
-        (lives_act (is_some known) (length names) (columns_of base_states histories (length names)) [] (first_life known names) s.life lived.next (deeds number pieces) (did deed (noted_all notes) ends)
+        subst (λ (ds : List Did). Lives (is_some known) (length names) (columns_of base_states histories (length names)) [] (first_life known names) ds lived.next) (sym (deeds_act number pieces deed notes ends))
+        (lives_act (is_some known) (length names) (columns_of base_states histories (length names)) [] (first_life known names) s.life lived.next (deeds number pieces) (did deed notes ends)
         (s.lives base_states histories (told_made base_states histories m.clock m'.clock (seated_of met) notes (seated_of moved) carries.made stewards told))
         (lived.does (columns_of base_states histories (length names) all_notes) (lived.hands.told base_states histories told) (λ is. few_columns base_states histories told)));
     moments = λ base_states histories told.
-        subst (λ (ns : List Noted). MomentsRise histories old.clock ns m'.clock) (sym (told_act number pieces deed (noted_all notes) ends))
-        (rise_on histories old.clock m.clock m'.clock (notes_told number pieces) (noted_all notes)
+        subst (λ (ns : List Note). MomentsRise histories old.clock ns m'.clock) (sym (told_act number pieces deed notes ends))
+        (rise_on histories old.clock m.clock m'.clock (notes_told number pieces) notes
         (s.moments base_states histories (told_made base_states histories m.clock m'.clock (seated_of met) notes (seated_of moved) carries.made stewards told))
         (makes_rise base_states histories m.clock m'.clock (seated_of met) notes (seated_of moved) carries.made stewards told));
-    noted = subst (λ (ns : List Noted). AtEach (IsNoted ns) (seated_of moved)) (sym (told_act number pieces deed (noted_all notes) ends)) moved_noted;
+    noted = subst (λ (ns : List Note). AtEach (IsNoted ns) (seated_of moved)) (sym (told_act number pieces deed notes ends)) moved_noted;
     in_place = moved_place;
     known_base = moved_known_base;
     mode = lived.mode;

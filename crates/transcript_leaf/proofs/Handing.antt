@@ -12,9 +12,9 @@ use Rattle.leaf_history.proofs.Histories.{LegalFrom-back, LegalFrom-front, after
 use Rattle.leaf_table.specs.Turns.{Shared, is_founded, start_of}
 use Rattle.leaf_table.specs.Calls.{SeatView, Made, base_seen, entry_seen, seen_of, state_seen, SeesShut, state_of}
 use Rattle.leaf_table.proofs.Knowing.{callers_of}
-use Rattle.leaf_steward.specs.declared.notes.Note.{Note}
-use Rattle.leaf_steward.specs.declared.notes.What.{What}
-use Rattle.leaf_steward.specs.declared.notes.What.TheVariants as what
+use Rattle.leaf_words.specs.declared.note.Note.{Note}
+use Rattle.leaf_words.specs.declared.note.What.{What}
+use Rattle.leaf_words.specs.declared.note.What.TheVariants as what
 use Rattle.leaf_steward.specs.Seated.{Seated, AtEach}
 use Rattle.leaf_steward.specs.Making.{EachNoted, IsHandedNote, MadeAs, Makes}
 use Rattle.leaf_steward.proofs.WatchMakes.{makes_tables}
@@ -23,7 +23,7 @@ use Rattle.table_state.specs.Tables.{least_columns, added_count}
 use Rattle.transcript.specs.Histories.{BaseState, rows_before}
 use Rattle.transcript.specs.Answers.{columns_handed, columns_of, last_of, writes_then}
 use Rattle.leaf_moves.specs.Stage.{Leaf, seated_of}
-use Rattle.leaf_moves.specs.Steps.{noted_all, AreShut}
+use Rattle.leaf_moves.specs.Steps.{AreShut}
 use Rattle.transcript_leaf.specs.Session.{AreToldOn, IsStewards, base_state_of_table, IsNoted}
 use Rattle.transcript_leaf.specs.Acting.{Hands}
 use Rattle.transcript_leaf.proofs.Lists.{get_set_other, get_set_same, same_some}
@@ -32,7 +32,6 @@ use Rattle.transcript_leaf.proofs.Wearing.{seen_length}
 use Rattle.std.specs.List.{range_with_len}
 use Rattle.std.proofs.lemmas.List.Sums.{sum_by-cons}
 use Rattle.leaf_model.specs.declared.writes.Write.{Write}
-use Rattle.transcript.specs.Pieces.{Noted}
 
 -- ---- a table that is handed over
 
@@ -99,10 +98,10 @@ from_first j = omega arith
 module _ (g : ℕ → BaseState) (h : ℕ → List Entry) (z : Seated) (told : AreToldOn g h z) where
   columns_are : (from to : ℕ) (x : Seated) (notes : List Note) (ts : List Shared) (vs : List SeatView) (place count : ℕ) → Makes from to x notes z → EachNoted IsHandedNote place count notes
       → AreStewards x → ((j : ℕ) → slice_get x.tables (place + j) ≡ slice_get ts j) → ((j : ℕ) → slice_get x.seats (place + j) ≡ slice_get vs j)
-      → columns_handed g h (noted_all notes) ≤ columns_seen ts vs
-  columns_are from to x notes ts vs place count (Makes.none f u a ns b order none same) each are tables seats = omega (arith, ap (λ (xs : List Note). columns_handed g h (noted_all xs)) none)
+      → columns_handed g h notes ≤ columns_seen ts vs
+  columns_are from to x notes ts vs place count (Makes.none f u a ns b order none same) each are tables seats = omega (arith, ap (λ (xs : List Note). columns_handed g h xs) none)
   columns_are from to x notes ts vs place count (Makes.more f u a ns b clock note rest between order one makes is) each are tables seats =
-      let sum : columns_handed g h (noted_all notes) ≡ columns_handed g h (noted_all (note ∷ rest)) = ap (λ (xs : List Note). columns_handed g h (noted_all xs)) is in
+      let sum : columns_handed g h notes ≡ columns_handed g h (note ∷ rest) = ap (λ (xs : List Note). columns_handed g h xs) is in
       omega (arith, sum, by ts vs tables seats (λ us ws tables_are seats_are. columns_are clock to between rest us ws (suc place) all.0 makes all.4 stewards tables_are seats_are))
     where
       all : EachNoted IsHandedNote place count (note ∷ rest)
@@ -155,8 +154,8 @@ module _ (g : ℕ → BaseState) (h : ℕ → List Entry) (z : Seated) (told : A
 
       by : (us : List Shared) (ws : List SeatView) → ((j : ℕ) → slice_get x.tables (place + j) ≡ slice_get us j) → ((j : ℕ) → slice_get x.seats (place + j) ≡ slice_get ws j)
           → ((us' : List Shared) (ws' : List SeatView) → ((j : ℕ) → slice_get between.tables (suc place + j) ≡ slice_get us' j) → ((j : ℕ) → slice_get between.seats (suc place + j) ≡ slice_get ws' j)
-          → columns_handed g h (noted_all rest) ≤ columns_seen us' ws')
-          → columns_handed g h (noted_all (note ∷ rest)) ≤ columns_seen us ws
+          → columns_handed g h rest ≤ columns_seen us' ws')
+          → columns_handed g h (note ∷ rest) ≤ columns_seen us ws
       by [] ws tables_are seats_are further_are = absurd (none_there (sym at ∙ tables_are 0))
         where
           none_there : Some one.table ≡ None → ⊥
@@ -177,7 +176,7 @@ module _ (g : ℕ → BaseState) (h : ℕ → List Entry) (z : Seated) (told : A
 
   -- all of a leaf's
   pub handed_columns : (from to : ℕ) (x : Seated) (notes : List Note) (count : ℕ) → Makes from to x notes z → EachNoted IsHandedNote 0 count notes → AreStewards x
-      → columns_handed g h (noted_all notes) ≤ columns_seen x.tables x.seats
+      → columns_handed g h notes ≤ columns_seen x.tables x.seats
   handed_columns from to x notes count makes each are =
       columns_are from to x notes x.tables x.seats 0 count makes each are
       (λ j. ap (λ (k : ℕ). slice_get x.tables k) (from_first j)) (λ j. ap (λ (k : ℕ). slice_get x.seats k) (from_first j))
@@ -186,7 +185,7 @@ module _ (g : ℕ → BaseState) (h : ℕ → List Entry) (z : Seated) (told : A
 pub hands_nothing : (leaf : Leaf) → Hands leaf
 hands_nothing leaf = record { handed = []; columns = 0; most = 0; bulk = 0; told = λ base_states histories on. omega arith; few = λ base_states histories notes on noted. (omega arith, omega arith) }
 
-module _ (g : ℕ → BaseState) (h : ℕ → List Entry) (notes : List Noted) where
+module _ (g : ℕ → BaseState) (h : ℕ → List Entry) (notes : List Note) where
   -- the writes of a table, as its seat has seen them
   writes_seen : (place : ℕ) (t : Shared) (v : SeatView) (more : List Entry) → g place ≡ base_state_of_table t → h place ≡ seen_of v ++ more → IsNoted notes place t v → SeesShut t v
       → writes_then g h notes place ≡ (state_seen (base_seen t) v).writes

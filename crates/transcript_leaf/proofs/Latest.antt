@@ -11,16 +11,14 @@ use Rattle.leaf_history.specs.Laws.{CallersKeep}
 use Rattle.leaf_history.proofs.Histories.{LegalFrom-back, after-append, others_keep}
 use Rattle.leaf_table.specs.Turns.{Shared, is_founded, start_of}
 use Rattle.leaf_table.specs.Calls.{SeatView, SeesShut, base_seen, name_of, seen_of, state_of, state_seen}
-use Rattle.leaf_steward.specs.declared.notes.Note.{Note}
+use Rattle.leaf_words.specs.declared.note.Note.{Note}
 use Rattle.leaf_steward.specs.Seated.{Seated, AtEach}
 use Rattle.leaf_steward.specs.Making.{Makes, OneEntry}
 use Rattle.leaf_steward.proofs.Keeping.{entry_each}
-use Rattle.transcript.specs.Pieces.{Noted}
 use Rattle.transcript.specs.Histories.{BaseState}
 use Rattle.transcript.specs.Answers.{last_of}
 use Rattle.transcript.specs.Transcript.{Known, base_state_of}
 use Rattle.leaf_moves.specs.Stage.{Leaf, seated_of, seated_with}
-use Rattle.leaf_moves.specs.Steps.{noted, noted_all}
 use Rattle.transcript_leaf.specs.Session.{HaveKnownBase, IsNoted}
 use Rattle.transcript_leaf.proofs.Lists.{element_at, within}
 use Rattle.transcript_leaf.proofs.Standing.{LeafMeets, seats_become}
@@ -37,20 +35,20 @@ noted_unused place t v unused = subst (λ (s : SeatView). IsNoted [] place t s) 
 chosen : (b c : Bool) (one other : ℕ) → b ≡ c → (if b then one else other) ≡ (if c then one else other)
 chosen b c one other e = ap (λ (x : Bool). if x then one else other) e
 
-last_own : (table : ℕ) (notes : List Noted) (n : Noted) → n.table ≡ table → last_of table (notes ++ n ∷ []) ≡ n.number
-last_own table notes n own = fold_push (λ (last : ℕ) (m : Noted). if m.table == table then m.number else last) 0 notes n ∙ chosen (n.table == table) true n.number (last_of table notes) (eq-eqb n.table table own)
+last_own : (table : ℕ) (notes : List Note) (n : Note) → n.table ≡ table → last_of table (notes ++ n ∷ []) ≡ n.number
+last_own table notes n own = fold_push (λ (last : ℕ) (m : Note). if m.table == table then m.number else last) 0 notes n ∙ chosen (n.table == table) true n.number (last_of table notes) (eq-eqb n.table table own)
 
-last_other : (table : ℕ) (notes : List Noted) (n : Noted) → (n.table == table) ≡ false → last_of table (notes ++ n ∷ []) ≡ last_of table notes
-last_other table notes n other = fold_push (λ (last : ℕ) (m : Noted). if m.table == table then m.number else last) 0 notes n ∙ chosen (n.table == table) false n.number (last_of table notes) other
+last_other : (table : ℕ) (notes : List Note) (n : Note) → (n.table == table) ≡ false → last_of table (notes ++ n ∷ []) ≡ last_of table notes
+last_other table notes n other = fold_push (λ (last : ℕ) (m : Note). if m.table == table then m.number else last) 0 notes n ∙ chosen (n.table == table) false n.number (last_of table notes) other
 
 -- where that is all that the seat has seen
-noted_whole : (notes : List Noted) (place : ℕ) (t : Shared) (v : SeatView) → last_of place notes ≡ length (seen_of v) → IsNoted notes place t v
+noted_whole : (notes : List Note) (place : ℕ) (t : Shared) (v : SeatView) → last_of place notes ≡ length (seen_of v) → IsNoted notes place t v
 noted_whole notes place t v whole = (
   omega (arith, whole),
   λ shut. ap (λ (es : List Entry). (state_of (base_seen t) es).writes) (take_all (last_of place notes) (seen_of v) (omega (arith, whole))),
 )
 
-noted_same : (notes more : List Noted) (place : ℕ) (t : Shared) (v : SeatView) → last_of place more ≡ last_of place notes → IsNoted notes place t v → IsNoted more place t v
+noted_same : (notes more : List Note) (place : ℕ) (t : Shared) (v : SeatView) → last_of place more ≡ last_of place notes → IsNoted notes place t v → IsNoted more place t v
 noted_same notes more place t v same h =
     subst (λ (n : ℕ). (n ≤ length (seen_of v)) × (SeesShut t v → (state_of (base_seen t) (take n (seen_of v))).writes ≡ (state_seen (base_seen t) v).writes)) (sym same) h
 
@@ -61,25 +59,25 @@ apart_eqb a b apart = by (a == b) refl
     by true e = absurd (apart (sym (eqb-true a b e)))
     by false e = e
 
-entry_noted : (notes : List Noted) (clock : ℕ) (x : Seated) (note : Note) (y : Seated) → OneEntry clock x note y → AtEach (IsNoted notes) x → AtEach (IsNoted (notes ++ noted note ∷ [])) y
+entry_noted : (notes : List Note) (clock : ℕ) (x : Seated) (note : Note) (y : Seated) → OneEntry clock x note y → AtEach (IsNoted notes) x → AtEach (IsNoted (notes ++ note ∷ [])) y
 entry_noted notes clock x note y one each =
-    entry_each (IsNoted notes) (IsNoted (notes ++ noted note ∷ [])) clock x note y one
-    (λ place t v apart h. noted_same notes (notes ++ noted note ∷ []) place t v (last_other place notes (noted note) (apart_eqb note.table place apart)) h)
-    (noted_whole (notes ++ noted note ∷ []) note.table one.table one.after (last_own note.table notes (noted note) refl ∙ (one.number ∙ sym (seen_length one.after))))
+    entry_each (IsNoted notes) (IsNoted (notes ++ note ∷ [])) clock x note y one
+    (λ place t v apart h. noted_same notes (notes ++ note ∷ []) place t v (last_other place notes note (apart_eqb note.table place apart)) h)
+    (noted_whole (notes ++ note ∷ []) note.table one.table one.after (last_own note.table notes note refl ∙ (one.number ∙ sym (seen_length one.after))))
     each
 
 -- all entries of a deed
-pub noted_made : (notes : List Noted) (from to : ℕ) (x : Seated) (made : List Note) (y : Seated) → Makes from to x made y → AtEach (IsNoted notes) x → AtEach (IsNoted (notes ++ noted_all made)) y
+pub noted_made : (notes : List Note) (from to : ℕ) (x : Seated) (made : List Note) (y : Seated) → Makes from to x made y → AtEach (IsNoted notes) x → AtEach (IsNoted (notes ++ made)) y
 noted_made notes from to x made y (Makes.none f u a ns b le is same) each =
-    subst (λ (l : List Noted). AtEach (IsNoted l) y) (sym (ap (λ (l : List Note). notes ++ noted_all l) is ∙ append-nil notes)) (subst (AtEach (IsNoted notes)) (sym same) each)
+    subst (λ (l : List Note). AtEach (IsNoted l) y) (sym (ap (λ (l : List Note). notes ++ l) is ∙ append-nil notes)) (subst (AtEach (IsNoted notes)) (sym same) each)
 noted_made notes from to x made y (Makes.more f u a ns b clock first rest between le one makes is) each =
-    let on = noted_made (notes ++ noted first ∷ []) clock to between rest y makes (entry_noted notes clock x first between one each) in
-    subst (λ (l : List Noted). AtEach (IsNoted l) y) (append_assoc notes (noted first ∷ []) (noted_all rest) ∙ ap (λ (l : List Note). notes ++ noted_all l) (sym is)) on
+    let on = noted_made (notes ++ first ∷ []) clock to between rest y makes (entry_noted notes clock x first between one each) in
+    subst (λ (l : List Note). AtEach (IsNoted l) y) (append_assoc notes (first ∷ []) rest ∙ ap (λ (l : List Note). notes ++ l) (sym is)) on
 
 -- ---- a meeting
 
 -- callers write nothing to a shut table
-noted_learned : (notes : List Noted) (place : ℕ) (t : Shared) (v w : SeatView) (g : BaseState) → is_founded (base_seen t) ≡ g.founded → start_of (base_seen t) ≡ g.base → HasLearned g v w
+noted_learned : (notes : List Note) (place : ℕ) (t : Shared) (v w : SeatView) (g : BaseState) → is_founded (base_seen t) ≡ g.founded → start_of (base_seen t) ≡ g.base → HasLearned g v w
     → IsNoted notes place t v → IsNoted notes place t w
 noted_learned notes place t v w g founded base has h = (
   omega (arith, h.0, ap (λ (es : List Entry). length es) has.seen, length-append (seen_of v) has.more),
@@ -100,7 +98,7 @@ noted_learned notes place t v w g founded base has h = (
     now : state_seen (base_seen t) w ≡ after (is_founded (base_seen t)) (state_seen (base_seen t) v) has.more
     now = ap (λ (es : List Entry). state_of (base_seen t) es) has.seen ∙ after-append (is_founded (base_seen t)) (start_of (base_seen t)) (seen_of v) has.more
 
-pub noted_met : (notes : List Noted) (known : Option Known) (leaf leaf' : Leaf) (m : Meaning) → HaveKnownBase known (seated_of leaf) → LeafMeets known leaf leaf' m
+pub noted_met : (notes : List Note) (known : Option Known) (leaf leaf' : Leaf) (m : Meaning) → HaveKnownBase known (seated_of leaf) → LeafMeets known leaf leaf' m
     → AtEach (IsNoted notes) (seated_of leaf) → AtEach (IsNoted notes) (seated_of leaf')
 noted_met notes known leaf leaf' m known_base met each = subst (AtEach (IsNoted notes)) (sym (ap seated_of met.leaf_is ∙ seats_become leaf met.seats)) later
   where

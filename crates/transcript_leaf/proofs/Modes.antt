@@ -8,7 +8,7 @@ use Rattle.leaf_table.specs.Calls.{SeatView}
 use Rattle.leaf_machine.specs.declared.faults.StartFault.{StartFault}
 use Rattle.leaf_machine.specs.declared.faults.StartFault.TheVariants as fault
 use Rattle.leaf_steward.specs.Seated.{Seated, AreFounded}
-use Rattle.transcript.specs.Pieces.{Noted}
+use Rattle.leaf_words.specs.declared.note.Note.{Note}
 use Rattle.transcript.specs.Life.{Life, Down, Up, Owed, IsStartRefusal, OfStart, on, way_refused}
 use Rattle.transcript.specs.Transcript.{Known}
 use Rattle.leaf_moves.specs.Stage.{Leaf, IsDown, IsUp, IsPreparing, seated_of, with_seats}
@@ -82,7 +82,7 @@ module _ (told : Bool) (tables : ℕ) (life : Life) where
   told_refused fault.RegionFault down refusal = (down, refusal, refl, refl)
   told_refused f down refusal = (down, refusal, refl, refl)
 
-  pub refused_told : (notes : List Noted) (f : StartFault) (next : Life) → OfStart told tables life notes (ending_of f) next → next ≡ refused_life life f
+  pub refused_told : (notes : List Note) (f : StartFault) (next : Life) → OfStart told tables life notes (ending_of f) next → next ≡ refused_life life f
   refused_told notes fault.RegionFault next does = does.3
   refused_told notes f next does = does.3
 

@@ -4,16 +4,16 @@ use Rattle.std.specs.Prelude.{IsTrue, IfSome, slice_get}
 use Rattle.berth_face.specs.Berth.{Meaning}
 use Rattle.leaf_table.specs.Turns.{Shared}
 use Rattle.leaf_table.specs.Calls.{name_of}
-use Rattle.leaf_steward.specs.declared.notes.Note.{Note}
+use Rattle.leaf_words.specs.declared.note.Note.{Note}
 use Rattle.leaf_steward.proofs.Keeping.{makes_tables}
 use Rattle.leaf_machine.proofs.StartMakes.{makes_names}
 use Rattle.printed_lines.specs.declared.line.Ending.{Ending}
 use Rattle.printed_lines.specs.declared.line.Deed.{Deed}
-use Rattle.transcript.specs.Pieces.{Acted, Noted, Piece}
+use Rattle.transcript.specs.Pieces.{Acted, Piece}
 use Rattle.transcript.specs.Life.{Columns, Life, durable_with}
 use Rattle.transcript.specs.Transcript.{Known}
 use Rattle.leaf_moves.specs.Stage.{Carries, Leaf, seated_of}
-use Rattle.leaf_moves.specs.Steps.{Moves, noted_all}
+use Rattle.leaf_moves.specs.Steps.{Moves}
 use Rattle.transcript_leaf.specs.Session.{HaveKnownBase, AreInPlace, FitsNext, IsDurable, KnownLeaf}
 use Rattle.transcript_leaf.specs.Acting.{CountsGo, Lived, loses_counts}
 use Rattle.transcript_leaf.proofs.CountingNotes.{are_founded, makes_seats, seat_there}
@@ -50,7 +50,7 @@ module _ (names : List (List ℕ)) (met moved : Leaf) (notes : List Note) (m m' 
 -- ---- what the next start opens
 
 -- nothing is claimed of a berth of which nothing is known
-none_durable : (deed : Deed) (life next : Life) (notes : List Noted) (ends : Ending) (moved : Leaf) (m' : Meaning) → CountsGo None deed life notes ends next moved m' → life.durable ≡ None → next.durable ≡ None
+none_durable : (deed : Deed) (life next : Life) (notes : List Note) (ends : Ending) (moved : Leaf) (m' : Meaning) → CountsGo None deed life notes ends next moved m' → life.durable ≡ None → next.durable ≡ None
 none_durable deed life next notes ends moved m' (CountsGo.keeps calm e) none = e ∙ ap (λ (d : Option (List ℕ)). durable_with d notes) none
 none_durable deed life next notes ends moved m' (CountsGo.lost e) none = e
 none_durable deed life next notes ends moved m' (CountsGo.opened counts e are) none = e
@@ -60,20 +60,20 @@ module _ (names : List (List ℕ)) (k : Known) (deed : Deed) (life next : Life) 
   abbrev AreDurable : Option (List ℕ) → Type 0
   AreDurable durable = IfSome durable (λ counts. IsDurable k.base counts moved m')
 
-  counts_kept : (durable : Option (List ℕ)) → loses_counts deed ends ≡ false → IfSome durable (λ counts. IsDurable k.base counts met m) → AreDurable (durable_with durable (noted_all notes))
+  counts_kept : (durable : Option (List ℕ)) → loses_counts deed ends ≡ false → IfSome durable (λ counts. IsDurable k.base counts met m) → AreDurable (durable_with durable notes)
   counts_kept None calm h = tt
   counts_kept (Some counts) calm h = durable_moves names k counts deed m m' met notes ends moved moves calm
       (record { in_place = given.in_place; known_base = given.known_base; stewards = given.stewards; known = given.stands; carries = carries; durable = h })
 
-  counts_on : CountsGo (Some k) deed life (noted_all notes) ends next moved m' → AreDurable next.durable
+  counts_on : CountsGo (Some k) deed life notes ends next moved m' → AreDurable next.durable
   counts_on (CountsGo.keeps calm e) = subst AreDurable (sym e) (counts_kept life.durable calm given.next.1)
   counts_on (CountsGo.lost e) = subst AreDurable (sym e) tt
   counts_on (CountsGo.opened counts e are) = subst AreDurable (sym e) are
 
 pub next_moved : (names : List (List ℕ)) (kn : Option Known) (deed : Deed) (life : Life) (m m' : Meaning) (met : Leaf) (notes : List Note) (ends : Ending) (moved : Leaf)
     → Stood names kn life met m → Carries met moved notes m m' → Moves deed m m' met notes ends moved
-    → (lived : Lived kn (length names) deed life (noted_all notes) ends moved m') → FitsNext kn lived.next moved m'
-next_moved names None deed life m m' met notes ends moved given carries moves lived = (lived.way, none_durable deed life lived.next (noted_all notes) ends moved m' lived.counts given.next.1)
+    → (lived : Lived kn (length names) deed life notes ends moved m') → FitsNext kn lived.next moved m'
+next_moved names None deed life m m' met notes ends moved given carries moves lived = (lived.way, none_durable deed life lived.next notes ends moved m' lived.counts given.next.1)
 next_moved names (Some k) deed life m m' met notes ends moved given carries moves lived =
     (lived.way, counts_on names k deed life lived.next m m' met notes ends moved given carries moves lived.counts)
 
@@ -81,9 +81,9 @@ next_moved names (Some k) deed life m m' met notes ends moved given carries move
 
 pub known_moved : (number : ℕ) (names : List (List ℕ)) (kn : Option Known) (old : Meaning) (deed : Deed) (life : Life) (pieces : List Piece) (m m' : Meaning) (met : Leaf) (notes : List Note) (ends : Ending) (moved : Leaf)
     → Stood names kn life met m → Moves deed m m' met notes ends moved → Carries met moved notes m m'
-    → (lived : Lived kn (length names) deed life (noted_all notes) ends moved m')
+    → (lived : Lived kn (length names) deed life notes ends moved m')
     → IfSome kn (KnownLeaf number names old life pieces met m)
-    → IfSome kn (KnownLeaf number names old lived.next (pieces ++ Acted number deed (noted_all notes) ends ∷ []) moved m')
+    → IfSome kn (KnownLeaf number names old lived.next (pieces ++ Acted number deed notes ends ∷ []) moved m')
 known_moved number names None old deed life pieces m m' met notes ends moved given moves carries lived s = tt
 known_moved number names (Some k) old deed life pieces m m' met notes ends moved given moves carries lived s =
     let on = stands_carried names k.base met moved notes m m' s.now.tells given.in_place given.known_base s.now.sound s.now.stands carries in
@@ -95,5 +95,5 @@ known_moved number names (Some k) old deed life pieces m m' met notes ends moved
       named = named_act number names columns k.held life pieces deed m m' met notes ends moved lived.next s.now.tells given.mode given.in_place.same_names moves does s.named;
       own = λ begun.
           owned names k.base m m' met moved notes ends given.in_place s.now.tells (are_founded names (seated_of met) given.in_place k.base given.known_base) s.now.stands on life lived.next s.own begun
-          true (length names) columns deed (noted_all notes) moves does;
+          true (length names) columns deed moves does;
     }

@@ -11,7 +11,7 @@ use Rattle.leaf_opening.specs.declared.ways.OpenFault.TheVariants as opening
 use Rattle.leaf_opening.specs.Answers.{IsAnswer}
 use Rattle.leaf_opening.proofs.OneAnswer.{one_answer}
 use Rattle.leaf_opening.proofs.Regions.{broken_same, left_closed}
-use Rattle.leaf_steward.specs.declared.notes.Note.{Note}
+use Rattle.leaf_words.specs.declared.note.Note.{Note}
 use Rattle.leaf_machine.specs.declared.faults.StartFault.{StartFault}
 use Rattle.leaf_machine.specs.declared.faults.StartFault.TheVariants as fault
 use Rattle.leaf_machine.specs.States.{Serving}
@@ -20,12 +20,12 @@ use Rattle.printed_lines.specs.declared.line.Ending.{Ending}
 use Rattle.printed_lines.specs.declared.line.Ending.TheVariants as ending
 use Rattle.printed_lines.specs.declared.line.Deed.{Deed}
 use Rattle.printed_lines.specs.declared.line.Deed.TheVariants.{Start, Flush, Drain, Kill}
-use Rattle.transcript.specs.Pieces.{Piece, Acted, Did, Noted, deeds}
+use Rattle.transcript.specs.Pieces.{Piece, Acted, Did, deeds}
 use Rattle.transcript.specs.Life.{Columns, Life, LifeMode, Down, Up, Owed, Does, OfStart, OfFlush, OfDrain, OfKill, BeginsAt, Progress, StageOfDrain}
 use Rattle.transcript.specs.Strangers.{Behind, FitsStrangers, StrangersIn}
 use Rattle.transcript.specs.Transcript.{Known, first_life}
 use Rattle.leaf_moves.specs.Stage.{Leaf, IsUp, seated_of}
-use Rattle.leaf_moves.specs.Steps.{Moves, StartMoves, FlushMoves, DrainMoves, KillMoves, IsDownLeaf, Reaches, RegionRefused, ending_of, noted_all}
+use Rattle.leaf_moves.specs.Steps.{Moves, StartMoves, FlushMoves, DrainMoves, KillMoves, IsDownLeaf, Reaches, RegionRefused, ending_of}
 use Rattle.leaf_moves.specs.Modes as moves
 use Rattle.transcript_leaf.specs.Session.{AreNamed}
 use Rattle.transcript_leaf.proofs.Modes.{down_leaf, refused_told, resting_mode}
@@ -43,13 +43,13 @@ mode_of : (next life : Life) → next ≡ life → next.mode ≡ life.mode
 mode_of next life now = ap (λ (l : Life). l.mode) now
 
 start_begun : (told : Bool) (tables : ℕ) (life next : Life) (m m' : Meaning) (leaf : Leaf) (notes : List Note) (ends : Ending) (leaf' : Leaf) → StartMoves m m' leaf notes ends leaf'
-    → OfStart told tables life (noted_all notes) ends next → life.begun ≡ true → next.begun ≡ true
+    → OfStart told tables life notes ends next → life.begun ≡ true → next.begun ≡ true
 start_begun told tables life next m m' leaf notes ends leaf' (StartMoves.opened x s way is owed each came ended now) does begun =
-    let h = subst (λ (e : Ending). OfStart told tables life (noted_all notes) e next) ended does in begun_of next _ h.7
+    let h = subst (λ (e : Ending). OfStart told tables life notes e next) ended does in begun_of next _ h.7
 start_begun told tables life next m m' leaf notes ends leaf' (StartMoves.refused x f is worn undamaged why none ended same) does begun =
-    begun_of next _ (refused_told told tables life (noted_all notes) f next (subst (λ (e : Ending). OfStart told tables life (noted_all notes) e next) ended does)) ∙ begun
+    begun_of next _ (refused_told told tables life notes f next (subst (λ (e : Ending). OfStart told tables life notes e next) ended does)) ∙ begun
 start_begun told tables life next m m' leaf notes ends leaf' (StartMoves.not_down up none still ended same) does begun =
-    let h = subst (λ (e : Ending). OfStart told tables life (noted_all notes) e next) ended does in begun_of next life h.2 ∙ begun
+    let h = subst (λ (e : Ending). OfStart told tables life notes e next) ended does in begun_of next life h.2 ∙ begun
 
 -- ---- no deed but a start begins a life, or does anything of a leaf that is down
 
@@ -79,7 +79,7 @@ stays_so life ends next then p begins now begun = record { begun = begun_of next
 stays_still : (life next : Life) → next ≡ life → Stays life ending.NotUp next
 stays_still life next now = record { begun = begun_of next life now; rests = λ down. record { now = now; ended = refl } }
 
-pub flush_stays : (table : ℕ) (life : Life) (notes : List Noted) (ends : Ending) (next : Life) → OfFlush table life notes ends next → Stays life ends next
+pub flush_stays : (table : ℕ) (life : Life) (notes : List Note) (ends : Ending) (next : Life) → OfFlush table life notes ends next → Stays life ends next
 flush_stays table life notes ending.Done next h = stays_up life ending.Done next _ h.0 h.2 h.4 refl
 flush_stays table life notes ending.FaultDisk next (inl h) = stays_up life ending.FaultDisk next _ h.0 h.2 h.4 refl
 flush_stays table life notes ending.FaultDisk next (inr h) = stays_up life ending.FaultDisk next _ (Some h.0) h.1 h.3 refl
@@ -87,7 +87,7 @@ flush_stays table life notes ending.Worn next h = stays_up life ending.Worn next
 flush_stays table life notes ending.NotUp next h = stays_still life next h.2
 flush_stays table life notes ends next h = absurd h
 
-pub drain_stays : (told : Bool) (tables : ℕ) (columns : Columns) (stop : Option ℕ) (life : Life) (notes : List Noted) (ends : Ending) (next : Life) → OfDrain told tables columns stop life notes ends next
+pub drain_stays : (told : Bool) (tables : ℕ) (columns : Columns) (stop : Option ℕ) (life : Life) (notes : List Note) (ends : Ending) (next : Life) → OfDrain told tables columns stop life notes ends next
     → Stays life ends next
 drain_stays told tables columns stop life notes ending.Done next h = stays_so life ending.Done next _ h.4.0 h.4.1 h.9 refl
 drain_stays told tables columns stop life notes ending.FaultRegion next h = stays_so life ending.FaultRegion next _ h.4.0 h.4.1 h.6 refl
@@ -98,17 +98,17 @@ drain_stays told tables columns stop life notes ending.Stopped next h = stays_so
 drain_stays told tables columns stop life notes ending.NotUp next h = stays_still life next h.2
 drain_stays told tables columns stop life notes ends next h = absurd h
 
-pub kill_stays : (tables : ℕ) (life : Life) (notes : List Noted) (ends : Ending) (next : Life) → OfKill tables life notes ends next → Stays life ends next
+pub kill_stays : (tables : ℕ) (life : Life) (notes : List Note) (ends : Ending) (next : Life) → OfKill tables life notes ends next → Stays life ends next
 kill_stays tables life notes ending.Done next h = stays_so life ending.Done next _ h.0 h.1 h.3 refl
 kill_stays tables life notes ending.NotUp next h = stays_still life next h.2
 kill_stays tables life notes ends next h = absurd h
 
 does_begun : (told : Bool) (tables : ℕ) (columns : Columns) (deed : Deed) (life next : Life) (m m' : Meaning) (leaf : Leaf) (notes : List Note) (ends : Ending) (leaf' : Leaf)
-    → Moves deed m m' leaf notes ends leaf' → Does told tables columns deed life (noted_all notes) ends next → life.begun ≡ true → next.begun ≡ true
+    → Moves deed m m' leaf notes ends leaf' → Does told tables columns deed life notes ends next → life.begun ≡ true → next.begun ≡ true
 does_begun told tables columns Start life next m m' leaf notes ends leaf' moves does begun = start_begun told tables life next m m' leaf notes ends leaf' moves does begun
-does_begun told tables columns (Flush table) life next m m' leaf notes ends leaf' moves does begun = (flush_stays table life (noted_all notes) ends next does).begun ∙ begun
-does_begun told tables columns (Drain stop) life next m m' leaf notes ends leaf' moves does begun = (drain_stays told tables columns stop life (noted_all notes) ends next does).begun ∙ begun
-does_begun told tables columns Kill life next m m' leaf notes ends leaf' moves does begun = (kill_stays tables life (noted_all notes) ends next does).begun ∙ begun
+does_begun told tables columns (Flush table) life next m m' leaf notes ends leaf' moves does begun = (flush_stays table life notes ends next does).begun ∙ begun
+does_begun told tables columns (Drain stop) life next m m' leaf notes ends leaf' moves does begun = (drain_stays told tables columns stop life notes ends next does).begun ∙ begun
+does_begun told tables columns Kill life next m m' leaf notes ends leaf' moves does begun = (kill_stays tables life notes ends next does).begun ∙ begun
 
 -- nor touches anything
 never_up : (leaf : Leaf) (s : Serving) → IsDownLeaf leaf → leaf ≡ IsUp s → ⊥
@@ -207,7 +207,7 @@ module _ (number : ℕ) (names : List (List ℕ)) (held : Pair) where
     rest : next.begun ≡ false → (next.mode ≡ Down) × IsRead m'
     on : life.begun ≡ false → (more : List Did) → (next.begun ≡ false → On more m'.held.region) → Says m ends more
 
-  goes_named : (life : Life) (pieces : List Piece) (deed : Deed) (m m' : Meaning) (notes : List Noted) (ends : Ending) (next : Life) → Goes life ends next m m' → AreNamed number names held life pieces m
+  goes_named : (life : Life) (pieces : List Piece) (deed : Deed) (m m' : Meaning) (notes : List Note) (ends : Ending) (next : Life) → Goes life ends next m m' → AreNamed number names held life pieces m
       → AreNamed number names held next (pieces ++ Acted number deed notes ends ∷ []) m'
   goes_named life pieces deed m m' notes ends next goes named = record {
     rest = goes.rest;
@@ -230,11 +230,11 @@ module _ (number : ℕ) (names : List (List ℕ)) (held : Pair) where
   }
 
   start_goes : (tables : ℕ) (life : Life) (m m' : Meaning) (leaf : Leaf) (notes : List Note) (ends : Ending) (leaf' : Leaf) (next : Life) → IsTrue m.tells → IsDownLeaf leaf → (seated_of leaf).names ≡ names
-      → life.mode ≡ Down → IsRead m → StartMoves m m' leaf notes ends leaf' → OfStart true tables life (noted_all notes) ends next → Goes life ends next m m'
+      → life.mode ≡ Down → IsRead m → StartMoves m m' leaf notes ends leaf' → OfStart true tables life notes ends next → Goes life ends next m m'
   start_goes tables life m m' leaf notes ends leaf' next tells down same_names mode read (StartMoves.opened x s way is owed each told ended now) does =
       let own : x.names ≡ names = sym (ap (λ (l : Leaf). (seated_of l).names) is) ∙ same_names in
       let exact : IsAnswer names m.held.region m.held.disk (came way) = subst (λ (ns : List (List ℕ)). IsAnswer ns m.held.region m.held.disk (came way)) own (told tells).exact in
-      let h = subst (λ (e : Ending). OfStart true tables life (noted_all notes) e next) ended does in
+      let h = subst (λ (e : Ending). OfStart true tables life notes e next) ended does in
       record {
         rest = λ fresh. absurd (clash_bool next.begun (begun_of next _ h.7) fresh);
         on = λ fresh more all. subst (λ (e : Ending). Says m e more) (sym ended) (came_fits m way read exact, tt);
@@ -242,7 +242,7 @@ module _ (number : ℕ) (names : List (List ℕ)) (held : Pair) where
   start_goes tables life m m' leaf notes ends leaf' next tells down same_names mode read (StartMoves.refused x f is worn undamaged told none ended same) does =
       let own : x.names ≡ names = sym (ap (λ (l : Leaf). (seated_of l).names) is) ∙ same_names in
       let exact : IsExactRefusal names m.held f = subst (λ (ns : List (List ℕ)). IsExactRefusal ns m.held f) own (told tells).exact in
-      let now = refused_told true tables life (noted_all notes) f next (subst (λ (e : Ending). OfStart true tables life (noted_all notes) e next) ended does) in
+      let now = refused_told true tables life notes f next (subst (λ (e : Ending). OfStart true tables life notes e next) ended does) in
       record {
         rest = λ fresh. (mode_of next _ now, scan_on held.disk m.held.disk m'.held.disk read (told tells).disk);
         on = λ fresh more all.
@@ -252,15 +252,15 @@ module _ (number : ℕ) (names : List (List ℕ)) (held : Pair) where
 
   -- a deed of a leaf that was never up
   fresh_goes : (tables : ℕ) (columns : Columns) (deed : Deed) (life : Life) (m m' : Meaning) (leaf : Leaf) (notes : List Note) (ends : Ending) (leaf' : Leaf) (next : Life) → IsTrue m.tells → IsDownLeaf leaf
-      → (seated_of leaf).names ≡ names → life.mode ≡ Down → IsRead m → Moves deed m m' leaf notes ends leaf' → Does true tables columns deed life (noted_all notes) ends next → Goes life ends next m m'
+      → (seated_of leaf).names ≡ names → life.mode ≡ Down → IsRead m → Moves deed m m' leaf notes ends leaf' → Does true tables columns deed life notes ends next → Goes life ends next m m'
   fresh_goes tables columns Start life m m' leaf notes ends leaf' next tells down same_names mode read moves does =
       start_goes tables life m m' leaf notes ends leaf' next tells down same_names mode read moves does
   fresh_goes tables columns (Flush table) life m m' leaf notes ends leaf' next tells down same_names mode read moves does =
-      rests_goes life ends next m m' mode read ((flush_stays table life (noted_all notes) ends next does).rests mode) (flush_held table m m' leaf notes ends leaf' down moves)
+      rests_goes life ends next m m' mode read ((flush_stays table life notes ends next does).rests mode) (flush_held table m m' leaf notes ends leaf' down moves)
   fresh_goes tables columns (Drain stop) life m m' leaf notes ends leaf' next tells down same_names mode read moves does =
-      rests_goes life ends next m m' mode read ((drain_stays true tables columns stop life (noted_all notes) ends next does).rests mode) (drain_held stop m m' leaf notes ends leaf' down moves)
+      rests_goes life ends next m m' mode read ((drain_stays true tables columns stop life notes ends next does).rests mode) (drain_held stop m m' leaf notes ends leaf' down moves)
   fresh_goes tables columns Kill life m m' leaf notes ends leaf' next tells down same_names mode read moves does =
-      rests_goes life ends next m m' mode read ((kill_stays tables life (noted_all notes) ends next does).rests mode) (kill_held m m' leaf notes ends leaf' down moves)
+      rests_goes life ends next m m' mode read ((kill_stays tables life notes ends next does).rests mode) (kill_held m m' leaf notes ends leaf' down moves)
 
 -- ---- a run
 
@@ -271,10 +271,10 @@ named_first number names k m same = record {
 }
 
 pub named_act : (number : ℕ) (names : List (List ℕ)) (columns : Columns) (held : Pair) (life : Life) (pieces : List Piece) (deed : Deed) (m m' : Meaning) (leaf : Leaf) (notes : List Note) (ends : Ending) (leaf' : Leaf) (next : Life)
-    → IsTrue m.tells → life.mode ≡ moves.mode_of leaf → (seated_of leaf).names ≡ names → Moves deed m m' leaf notes ends leaf' → Does true (length names) columns deed life (noted_all notes) ends next
-    → AreNamed number names held life pieces m → AreNamed number names held next (pieces ++ Acted number deed (noted_all notes) ends ∷ []) m'
+    → IsTrue m.tells → life.mode ≡ moves.mode_of leaf → (seated_of leaf).names ≡ names → Moves deed m m' leaf notes ends leaf' → Does true (length names) columns deed life notes ends next
+    → AreNamed number names held life pieces m → AreNamed number names held next (pieces ++ Acted number deed notes ends ∷ []) m'
 named_act number names columns held life pieces deed m m' leaf notes ends leaf' next tells fits same_names moves does named =
-    goes_named number names held life pieces deed m m' (noted_all notes) ends next (by life.begun refl) named
+    goes_named number names held life pieces deed m m' notes ends next (by life.begun refl) named
   where
     by : (b : Bool) → life.begun ≡ b → Goes number names held life ends next m m'
     by true begun = begun_goes number names held life ends next m m' begun (does_begun true (length names) columns deed life next m m' leaf notes ends leaf' moves does begun)

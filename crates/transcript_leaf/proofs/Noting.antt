@@ -12,15 +12,14 @@ use Rattle.printed_lines.specs.declared.line.Ending.{Ending}
 use Rattle.leaf_table.specs.declared.base.TableBase.{TableBase}
 use Rattle.leaf_table.specs.Turns.{Shared, told, is_founded, start_of}
 use Rattle.leaf_table.specs.Calls.{SeatView, Made, base_seen, entry_seen, seen_of}
-use Rattle.leaf_steward.specs.declared.notes.Note.{Note}
-use Rattle.leaf_steward.specs.declared.notes.What.{What}
-use Rattle.leaf_steward.specs.declared.notes.What.TheVariants as what
+use Rattle.leaf_words.specs.declared.note.Note.{Note}
+use Rattle.leaf_words.specs.declared.note.What.{What}
+use Rattle.leaf_words.specs.declared.note.What.TheVariants as what
 use Rattle.leaf_steward.specs.Seated.{Seated}
 use Rattle.leaf_steward.specs.Making.{Makes, MadeAs, OneEntry}
 use Rattle.printed_lines.specs.declared.line.Deed.{Deed}
-use Rattle.transcript.specs.Pieces.{Acted}
+use Rattle.transcript.specs.Pieces.{Acted, said_of_note}
 use Rattle.transcript.specs.Histories.{Shown, ShowsEntry, shown, shown_notes}
-use Rattle.leaf_moves.specs.Steps.{noted_all, said_of_note}
 use Rattle.transcript_leaf.specs.Session.{IsStewards, OwnedBy, TellsOf}
 use Rattle.transcript_leaf.proofs.Lists.{same_some, get_set_same, get_set_other}
 use Rattle.transcript_leaf.proofs.Ids.{SameIds, own_first, owns_same, same_back, same_here, same_made, same_on, stewards_still}
@@ -30,7 +29,7 @@ use Rattle.transcript_leaf.proofs.Merging.{tells_past, tells_same}
 pub record NotesAt (place : ℕ) (notes : List Note) (v w : SeatView) : Type 0 where
   pub entries : List Entry
   pub seen : seen_of w ≡ seen_of v ++ entries
-  pub tells : TellsOf (OwnedBy (Some v)) (suc (length (seen_of v))) (shown_notes place (noted_all notes)) entries
+  pub tells : TellsOf (OwnedBy (Some v)) (suc (length (seen_of v))) (shown_notes place notes) entries
   pub ids : SameIds v w
 
 -- ---- one note
@@ -53,11 +52,11 @@ made_legal base clock v w kind m = m.legal
 
 -- what a note shows of a table: one line of its own, or nothing
 shows_here : (place : ℕ) (note : Note) (notes : List Note) → (note.table == place) ≡ true
-    → shown_notes place (noted_all (note ∷ notes)) ≡ record { number = note.number; call = None; said = said_of_note note.what } ∷ shown_notes place (noted_all notes)
+    → shown_notes place (note ∷ notes) ≡ record { number = note.number; call = None; said = said_of_note note.what } ∷ shown_notes place notes
 shows_here place note notes here = rw here refl
 
 shows_elsewhere : (place : ℕ) (note : Note) (notes : List Note) → (note.table == place) ≡ false
-    → shown_notes place (noted_all (note ∷ notes)) ≡ shown_notes place (noted_all notes)
+    → shown_notes place (note ∷ notes) ≡ shown_notes place notes
 shows_elsewhere place note notes apart = rw apart refl
 
 no_notes : (place : ℕ) (v w : SeatView) → w ≡ v → NotesAt place [] v w
@@ -77,7 +76,7 @@ note_here place note notes base clock v u w sits here number made more =
     let m : Made base clock v one.0 one.1 u = one.2 in
     let e : Entry = entry_seen v.id clock one.0 one.1 in
     let line : Shown = record { number = note.number; call = None; said = said_of_note note.what } in
-    let lines : List Shown = shown_notes place (noted_all notes) in
+    let lines : List Shown = shown_notes place notes in
     let same : SameIds v u = same_made base clock v u one.0 one.1 m in
     let size : length (seen_of u) ≡ length u.seen = length-map u.seen told in
     let count : length (seen_of u) ≡ length (seen_of v) + length m.between + 1 = ap (λ (es : List Entry). length es) m.seen
@@ -172,5 +171,5 @@ legal_at from to x notes y place t v w (Makes.more f u a ns b clock note others 
 
 -- a deed of the leaf's steward shows the lines of its notes
 pub acted_here : (number place : ℕ) (deed : Deed) (ends : Ending) (notes : List Note)
-    → shown number place (Acted number deed (noted_all notes) ends ∷ []) ≡ shown_notes place (noted_all notes)
-acted_here number place deed ends notes = rw (eq-eqb number number refl) (append-nil (shown_notes place (noted_all notes)))
+    → shown number place (Acted number deed notes ends ∷ []) ≡ shown_notes place notes
+acted_here number place deed ends notes = rw (eq-eqb number number refl) (append-nil (shown_notes place notes))

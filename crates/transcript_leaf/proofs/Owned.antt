@@ -12,7 +12,7 @@ use Rattle.leaf_table.specs.Calls.{SeatView, name_of}
 use Rattle.crash_moments.specs.Left.{NamedStates}
 use Rattle.crash_moments.specs.Watched.{Watched, was_opened, by_name, is_watched, now_of, others_then}
 use Rattle.crash_moments.proofs.Telling.{opened_more}
-use Rattle.leaf_steward.specs.declared.notes.Note.{Note}
+use Rattle.leaf_words.specs.declared.note.Note.{Note}
 use Rattle.leaf_steward.specs.Seated.{Seated, AreFounded, watch, watched_by}
 use Rattle.leaf_machine.specs.declared.faults.StartFault.{StartFault}
 use Rattle.leaf_machine.specs.declared.faults.StartFault.TheVariants as fault
@@ -22,7 +22,6 @@ use Rattle.printed_lines.specs.declared.line.Ending.{Ending}
 use Rattle.printed_lines.specs.declared.line.Ending.TheVariants as ending
 use Rattle.printed_lines.specs.declared.line.Deed.{Deed}
 use Rattle.printed_lines.specs.declared.line.Deed.TheVariants.{Start, Flush, Drain, Kill}
-use Rattle.transcript.specs.Pieces.{Noted}
 use Rattle.transcript.specs.Life.{Columns, Copying, Does, Life, OfStart, Shutting, StageOfDrain}
 use Rattle.leaf_moves.specs.Stage.{IsDown, IsUp, Leaf, LeafStands, StandsOn, seated_of}
 use Rattle.leaf_moves.specs.Steps.{DrainMoves, FlushMoves, KillMoves, Moves, Reaches, RefusalTold, RegionStopped, StartMoves, Stops}
@@ -206,21 +205,21 @@ module _ (names : List (List ℕ)) (base : NamedStates) (m m' : Meaning) (met mo
           region = region;
         }
 
-    start_owned : (told : Bool) (tables : ℕ) (noted : List Noted) → StartMoves m m' met notes ends moved → OfStart told tables life noted ends next → IsOwn names (seated_of moved) m'
-    start_owned told tables noted (StartMoves.opened x s way is owed each came ended now) does =
+    start_owned : (told : Bool) (tables : ℕ) → StartMoves m m' met notes ends moved → OfStart told tables life notes ends next → IsOwn names (seated_of moved) m'
+    start_owned told tables (StartMoves.opened x s way is owed each came ended now) does =
         comes s now (closed_own names m'.held.region (left_closed m.held.region m'.held.region (came tells).came.started.region))
-    start_owned told tables noted (StartMoves.refused x f is worn damaged why none ended same) does =
+    start_owned told tables (StartMoves.refused x f is worn damaged why none ended same) does =
         stays (start_region (StartMoves.refused x f is worn damaged why none ended same))
-        (begun_of next _ (refused_told told tables life noted f next (subst (λ (e : Ending). OfStart told tables life noted e next) ended does)))
-    start_owned told tables noted (StartMoves.not_down up none held ended same) does =
-        let h = subst (λ (e : Ending). OfStart told tables life noted e next) ended does in stays (held_own names m m' held) (begun_of next life h.2)
+        (begun_of next _ (refused_told told tables life notes f next (subst (λ (e : Ending). OfStart told tables life notes e next) ended does)))
+    start_owned told tables (StartMoves.not_down up none held ended same) does =
+        let h = subst (λ (e : Ending). OfStart told tables life notes e next) ended does in stays (held_own names m m' held) (begun_of next life h.2)
 
-    pub owned : (told : Bool) (tables : ℕ) (columns : Columns) (deed : Deed) (noted : List Noted) → Moves deed m m' met notes ends moved → Does told tables columns deed life noted ends next
+    pub owned : (told : Bool) (tables : ℕ) (columns : Columns) (deed : Deed) → Moves deed m m' met notes ends moved → Does told tables columns deed life notes ends next
         → IsOwn names (seated_of moved) m'
-    owned told tables columns Start noted moves does = start_owned told tables noted moves does
-    owned told tables columns (Flush table) noted moves does = stays (flush_region table moves) (flush_stays table life noted ends next does).begun
-    owned told tables columns (Drain stop) noted moves does = stays (drain_region stop ends moves) (drain_stays told tables columns stop life noted ends next does).begun
-    owned told tables columns Kill noted moves does = stays (kill_region moves) (kill_stays tables life noted ends next does).begun
+    owned told tables columns Start moves does = start_owned told tables moves does
+    owned told tables columns (Flush table) moves does = stays (flush_region table moves) (flush_stays table life notes ends next does).begun
+    owned told tables columns (Drain stop) moves does = stays (drain_region stop ends moves) (drain_stays told tables columns stop life notes ends next does).begun
+    owned told tables columns Kill moves does = stays (kill_region moves) (kill_stays tables life notes ends next does).begun
 
 -- ---- a meeting
 

@@ -6,17 +6,16 @@ use Rattle.std.proofs.lemmas.Grind.{flat_map-append}
 use Rattle.leaf_history.specs.History.{Entry}
 use Rattle.leaf_table.specs.declared.base.TableBase.{TableBase}
 use Rattle.leaf_table.specs.Calls.{SeatView, base_seen, entry_seen, seen_of}
-use Rattle.leaf_steward.specs.declared.notes.Note.{Note}
-use Rattle.leaf_steward.specs.declared.notes.What.{What}
-use Rattle.leaf_steward.specs.declared.notes.What.TheVariants as what
+use Rattle.leaf_words.specs.declared.note.Note.{Note}
+use Rattle.leaf_words.specs.declared.note.What.{What}
+use Rattle.leaf_words.specs.declared.note.What.TheVariants as what
 use Rattle.leaf_steward.specs.Seated.{Seated}
 use Rattle.leaf_steward.specs.Making.{MadeAs, Makes, OneEntry}
 use Rattle.printed_lines.specs.declared.line.Ending.{Ending}
 use Rattle.printed_lines.specs.declared.line.Deed.{Deed}
-use Rattle.transcript.specs.Pieces.{Acted, Did, Noted, Piece, deeds}
+use Rattle.transcript.specs.Pieces.{Acted, Did, Piece, deeds}
 use Rattle.transcript.specs.Histories.{BaseState}
 use Rattle.transcript.specs.Moments.{MomentsRise, notes_told}
-use Rattle.leaf_moves.specs.Steps.{noted_all}
 use Rattle.transcript_leaf.specs.Session.{AreToldOn, HasNoDeed}
 use Rattle.transcript_leaf.proofs.Lists.{get_set_same}
 use Rattle.transcript_leaf.proofs.Lives.{deeds_act, deeds_between, did, notes_of}
@@ -26,10 +25,10 @@ use Rattle.transcript_leaf.proofs.Wearing.{seen_length}
 
 -- ---- moments one behind another
 
-pub rise_on : (histories : ℕ → List Entry) (from mid to : ℕ) (ns ms : List Noted) → MomentsRise histories from ns mid → MomentsRise histories mid ms to → MomentsRise histories from (ns ++ ms) to
+pub rise_on : (histories : ℕ → List Entry) (from mid to : ℕ) (ns ms : List Note) → MomentsRise histories from ns mid → MomentsRise histories mid ms to → MomentsRise histories from (ns ++ ms) to
 rise_on histories from mid to [] ms first next = sooner ms first next
   where
-    sooner : (ms : List Noted) → from ≤ mid → MomentsRise histories mid ms to → MomentsRise histories from ms to
+    sooner : (ms : List Note) → from ≤ mid → MomentsRise histories mid ms to → MomentsRise histories from ms to
     sooner [] low high = omega (arith, low, high)
     sooner (n ∷ ms) low rise = (rise.0, rise.1, omega (arith, low, rise.2), rise.3)
 rise_on histories from mid to (n ∷ ns) ms first next = (first.0, first.1, first.2, rise_on histories first.0 mid to ns ms first.3 next)
@@ -63,20 +62,20 @@ module _ (base_states : ℕ → BaseState) (histories : ℕ → List Entry) wher
       ap (λ (o : Option Entry). option_map (λ (e : Entry). e.clock) o) here ∙ ap (λ n. Some n) last.3
 
   -- the entries of a deed
-  pub makes_rise : (from to : ℕ) (x : Seated) (notes : List Note) (y : Seated) → Makes from to x notes y → AreStewards x → AreToldOn base_states histories y → MomentsRise histories from (noted_all notes) to
-  makes_rise from to x notes y (Makes.none f u a ns b le is same) are told = subst (λ (ks : List Note). MomentsRise histories from (noted_all ks) to) (sym is) le
+  pub makes_rise : (from to : ℕ) (x : Seated) (notes : List Note) (y : Seated) → Makes from to x notes y → AreStewards x → AreToldOn base_states histories y → MomentsRise histories from notes to
+  makes_rise from to x notes y (Makes.none f u a ns b le is same) are told = subst (λ (ks : List Note). MomentsRise histories from ks to) (sym is) le
   makes_rise from to x notes y (Makes.more f u a ns b clock first rest between le one makes is) are told =
       let stewards = entry_stewards clock x first between one are in
       let later = told_made base_states histories clock to between rest y makes stewards told in
-      subst (λ (ks : List Note). MomentsRise histories from (noted_all ks) to) (sym is)
+      subst (λ (ks : List Note). MomentsRise histories from ks to) (sym is)
       (clock, moment_is clock x first between one later, le, makes_rise clock to between rest y makes stewards told)
 
 -- ---- of pieces
 
-pub told_act : (leaf : ℕ) (ps : List Piece) (deed : Deed) (notes : List Noted) (ends : Ending) → notes_told leaf (ps ++ Acted leaf deed notes ends ∷ []) ≡ notes_told leaf ps ++ notes
+pub told_act : (leaf : ℕ) (ps : List Piece) (deed : Deed) (notes : List Note) (ends : Ending) → notes_told leaf (ps ++ Acted leaf deed notes ends ∷ []) ≡ notes_told leaf ps ++ notes
 told_act leaf ps deed notes ends =
     ap notes_of (deeds_act leaf ps deed notes ends)
-    ∙ (flat_map-append (λ (d : Did). d.notes) (deeds leaf ps) (did deed notes ends ∷ []) ∙ ap (λ (ns : List Noted). notes_told leaf ps ++ ns) (append-nil notes))
+    ∙ (flat_map-append (λ (d : Did). d.notes) (deeds leaf ps) (did deed notes ends ∷ []) ∙ ap (λ (ns : List Note). notes_told leaf ps ++ ns) (append-nil notes))
 
 pub notes_between : (leaf : ℕ) (before none more : List Piece) → HasNoDeed leaf none → notes_told leaf (before ++ (none ++ more)) ≡ notes_told leaf (before ++ more)
 notes_between leaf before none more apart = ap notes_of (deeds_between leaf before none more apart)

@@ -18,7 +18,7 @@ use Rattle.crash_states.proofs.Meeting.{callers_between}
 use Rattle.crash_states.specs.Standing.{states_of_tables}
 use Rattle.leaf_table.specs.Turns.{Shared, start_of}
 use Rattle.leaf_table.specs.Calls.{SeatView, base_seen, name_of, seen_of}
-use Rattle.leaf_steward.specs.declared.notes.Note.{Note}
+use Rattle.leaf_words.specs.declared.note.Note.{Note}
 use Rattle.leaf_steward.specs.Seated.{Seated, AreFounded, AtEach, watch, watched_by}
 use Rattle.leaf_machine.specs.Leaving.{LeavesBegin}
 use Rattle.crash_states.specs.Beginning.{BeginsAgain}

@@ -8,14 +8,13 @@ use Rattle.turnstile.proofs.Prefixes.{prefix_whole}
 use Rattle.leaf_history.specs.History.{Entry, LegalFrom}
 use Rattle.leaf_table.specs.Turns.{told, history}
 use Rattle.leaf_table.specs.Calls.{SeatView, seen_of}
-use Rattle.leaf_steward.specs.declared.notes.Note.{Note}
+use Rattle.leaf_words.specs.declared.note.Note.{Note}
 use Rattle.printed_lines.specs.declared.line.Ending.{Ending}
 use Rattle.script_text.specs.declared.command.Command.{Command}
 use Rattle.printed_lines.specs.declared.line.Deed.{Deed}
 use Rattle.transcript.specs.Pieces.{Acted, Piece, PlayedItem, all_pieces}
 use Rattle.transcript.specs.Histories.{BaseState, Rises, Shown, shown, shown_notes}
 use Rattle.leaf_moves.specs.Stage.{Meets, MeetsIf}
-use Rattle.leaf_moves.specs.Steps.{noted_all}
 use Rattle.transcript_leaf.specs.Session.{IsCallers, IsStewards, OneOf, OwnedBy, TableSession, TellsOf}
 use Rattle.transcript_leaf.proofs.Terms.{with_pieces}
 use Rattle.transcript_leaf.proofs.Ids.{SameIds, callers_still, meets_same, one_same, owns_same, same_on, same_told, stewards_alone, stewards_still}
@@ -45,10 +44,10 @@ one_out n k = omega arith
 
 module _ (g : BaseState) (start : List Entry) (number place : ℕ) (items : List PlayedItem) (c0 : Command) (ps : List Piece) (deed : Deed) (ends : Ending) (notes : List Note) (v w : SeatView) where
   abbrev act : Piece
-  act = Acted number deed (noted_all notes) ends
+  act = Acted number deed notes ends
 
   abbrev lines_of : List Shown
-  lines_of = shown_notes place (noted_all notes)
+  lines_of = shown_notes place notes
 
   -- these entries behind the last meeting, of which the lines tell, and the seats that have seen them
   behind : (c : Option SeatView) (v' : SeatView) (c' : Option SeatView) (es : List Entry) → (t : TableSession g start number place (with_pieces items c0 ps) (Some v) c) → t.since ≡ []
@@ -156,7 +155,7 @@ module _ (g : BaseState) (start : List Entry) (number place : ℕ) (items : List
         ids = one_same (Some v) (Some w) None None (owns_same v w made.ids) (all_refl (OwnedBy None))
 
     pub table_acts : (c : Option SeatView) (v' : SeatView) (c' : Option SeatView) → TableSession g start number place (with_pieces items c0 ps) (Some v) c → IfSome c (λ s. seen_of v ≡ seen_of s)
-        → MeetsIf w c v' c' → TableSession g start number place (with_pieces items c0 (ps ++ Acted number deed (noted_all notes) ends ∷ [])) (Some v') c'
+        → MeetsIf w c v' c' → TableSession g start number place (with_pieces items c0 (ps ++ Acted number deed notes ends ∷ [])) (Some v') c'
     table_acts (Some c) v' (Some c') t same meets = with_callers_seat v' c c' t same meets
     table_acts None v' None t same now = by_itself v' t now
     table_acts c v' c' t same meets = absurd meets

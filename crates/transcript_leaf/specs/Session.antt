@@ -5,6 +5,7 @@ use Rattle.std.specs.List.{AllByRecursion}
 use Rattle.berth_face.specs.Berth.{Meaning, Pair}
 use Rattle.leaf_history.specs.History.{Entry, LegalFrom, after}
 use Rattle.row_model.specs.Names.{AreDistinct}
+use Rattle.leaf_words.specs.declared.note.Note.{Note}
 use Rattle.adopt.specs.Adopting.{HasNoStranger}
 use Rattle.disk_backup.specs.Scanning.{BeginsScan}
 use Rattle.leaf_opening.specs.Starts.{IsWayLeft}
@@ -19,7 +20,7 @@ use Rattle.leaf_steward.specs.Seated.{Seated, AtEach, watched_by}
 use Rattle.leaf_machine.specs.States.{IsShutAndTaken}
 use Rattle.crash_states.specs.Beginning.{MayBegin}
 use Rattle.transcript.specs.Base.{LogHas, watched_from}
-use Rattle.transcript.specs.Pieces.{Piece, Called, Worn, Acted, Says, Did, Noted, PlayedItem, all_pieces, deeds}
+use Rattle.transcript.specs.Pieces.{Piece, Called, Worn, Acted, Says, Did, PlayedItem, all_pieces, deeds}
 use Rattle.transcript.specs.Life.{Life, Down, Lives, first_open}
 use Rattle.transcript.specs.Histories.{BaseState, InOrder, Shown, ShowsEntry, shown}
 use Rattle.transcript.specs.Strangers.{StrangersIn}
@@ -156,7 +157,7 @@ pub record AreToldOn (base_states : ℕ → BaseState) (histories : ℕ → List
 
 -- The seat has seen the last entry of the table in these notes. While the table is shut, nothing was written after that
 -- entry.
-abbrev pub IsNoted : List Noted → ℕ → Shared → SeatView → Type 0
+abbrev pub IsNoted : List Note → ℕ → Shared → SeatView → Type 0
 IsNoted notes place t v = (last_of place notes ≤ length (seen_of v)) × (SeesShut t v → (state_of (base_seen t) (take (last_of place notes) (seen_of v))).writes ≡ (state_seen (base_seen t) v).writes)
 
 -- A leaf that is held, after these pieces of the run. Its berth meant `old` when the run began, and means `m` now. Its

@@ -7,6 +7,9 @@ use Rattle.std.proofs.lemmas.List.{append-nil, map-append}
 use Rattle.std.proofs.lemmas.Option.{none-some}
 use Rattle.row_model.specs.declared.rows.Row.{Row}
 use Rattle.leaf_model.specs.declared.queries.Query.{Query}
+use Rattle.leaf_words.specs.declared.note.Note.{Note}
+use Rattle.leaf_words.specs.declared.note.What.{What}
+use Rattle.leaf_words.specs.declared.note.What.TheVariants as what
 use Rattle.leaf_history.specs.Calls.{Call}
 use Rattle.leaf_history.specs.Calls as call
 use Rattle.script_text.specs.declared.command.Command.{Command}
@@ -23,7 +26,7 @@ use Rattle.standing_feed.specs.declared.meant.Meant.{Meant}
 use Rattle.standing_feed.specs.declared.meant.Meant.TheVariants as meant
 use Rattle.standing_feed.specs.declared.heard.Heard.{Heard}
 use Rattle.standing_feed.specs.Hearing.{CallsLeft, TablePlace, fed_by, fed_by_call, fed_called, heard_from, is_at, left_by, left_called, no_call_yet, some_when}
-use Rattle.transcript.specs.Pieces.{Piece, Called, Worn, Acted, Says, Noted, PlayedItem, One, Burst, lines_in, noted_line, piece_lines}
+use Rattle.transcript.specs.Pieces.{Piece, Called, Worn, Acted, Says, PlayedItem, One, Burst, lines_in, noted_line, piece_lines, said_of_note}
 use Rattle.transcript.specs.Shapes.{CallPiece}
 use Rattle.transcript.specs.Histories.{Shown, shown, shown_if, shown_in, shown_notes}
 use Rattle.transcript_standing.proofs.Lists.{All-both}
@@ -122,20 +125,18 @@ by_caller calls next c Handed is takes = absurd (none-some c (sym is))
 by_caller calls next c _ is takes = takes is
 
 -- a steward's entry is of no call
-by_steward : (calls : CallsLeft) (told : Said) → IsSaidOf None told → (fed_by calls told ≡ fed_of None told) × (left_by calls told ≡ calls)
-by_steward calls (Opened writes) is = (refl, refl)
-by_steward calls (Closed writes) is = (refl, refl)
-by_steward calls (Took writes) is = (refl, refl)
-by_steward calls (Flushed writes) is = (refl, refl)
-by_steward calls Handed is = (refl, refl)
-by_steward calls (Added kept late) is = absurd (none-some (call.Add is.0) is.1)
-by_steward calls _ is = absurd (none-some is.0 is.1)
+by_steward : (calls : CallsLeft) (w : What) → (fed_by calls (said_of_note w) ≡ fed_of None (said_of_note w)) × (left_by calls (said_of_note w) ≡ calls)
+by_steward calls (what.Opened writes) = (refl, refl)
+by_steward calls (what.Closed writes) = (refl, refl)
+by_steward calls (what.Took writes) = (refl, refl)
+by_steward calls (what.Flushed writes) = (refl, refl)
+by_steward calls what.Handed = (refl, refl)
 
 abbrev called_shown : ℕ → Call → Said → Shown
 called_shown number c told = record { number = number; call = Some c; said = told }
 
-abbrev note_shown : Noted → Shown
-note_shown n = record { number = n.number; call = None; said = n.said }
+abbrev note_shown : Note → Shown
+note_shown n = record { number = n.number; call = None; said = said_of_note n.what }
 
 -- deeds of stewards, and lines that no call prints
 abbrev pub IsCalm : Piece → Type 0
@@ -155,33 +156,32 @@ module _ (p : TablePlace) where
 
   -- ---- the notes of a deed
 
-  notes_here : (leaf : ℕ) → (leaf == p.leaf) ≡ true → (calls : CallsLeft) (notes : List Noted) → AllByRecursion IsProper (shown_notes p.table notes) → (more : List Line)
+  notes_here : (leaf : ℕ) → (leaf == p.leaf) ≡ true → (calls : CallsLeft) (notes : List Note) (more : List Line)
       → heard_from p calls (map (noted_line leaf) notes ++ more) ≡ map heard_of (shown_notes p.table notes) ++ heard_from p calls more
-  notes_here leaf is calls [] proper more = refl
-  notes_here leaf is calls (n ∷ notes) proper more =
+  notes_here leaf is calls [] more = refl
+  notes_here leaf is calls (n ∷ notes) more =
       subst (λ (b : Bool).
-      option_to_list (some_when (b && (n.table == p.table)) (heard_as n.number (fed_by calls n.said)))
-      ++ heard_from p (if (b && (n.table == p.table)) then left_by calls n.said else calls) (map (noted_line leaf) notes ++ more)
+      option_to_list (some_when (b && (n.table == p.table)) (heard_as n.number (fed_by calls (said_of_note n.what))))
+      ++ heard_from p (if (b && (n.table == p.table)) then left_by calls (said_of_note n.what) else calls) (map (noted_line leaf) notes ++ more)
       ≡ map heard_of (shown_notes p.table (n ∷ notes)) ++ heard_from p calls more)
-      (sym is) (by (n.table == p.table) proper (λ others. notes_here leaf is calls notes others more))
+      (sym is) (by (n.table == p.table) (notes_here leaf is calls notes more))
     where
-      by : (b : Bool) → AllByRecursion IsProper (shown_if b (note_shown n) ++ shown_notes p.table notes)
-          → (AllByRecursion IsProper (shown_notes p.table notes) → heard_from p calls (map (noted_line leaf) notes ++ more) ≡ map heard_of (shown_notes p.table notes) ++ heard_from p calls more)
-          → option_to_list (some_when b (heard_as n.number (fed_by calls n.said))) ++ heard_from p (if b then left_by calls n.said else calls) (map (noted_line leaf) notes ++ more)
+      by : (b : Bool) → heard_from p calls (map (noted_line leaf) notes ++ more) ≡ map heard_of (shown_notes p.table notes) ++ heard_from p calls more
+          → option_to_list (some_when b (heard_as n.number (fed_by calls (said_of_note n.what)))) ++ heard_from p (if b then left_by calls (said_of_note n.what) else calls) (map (noted_line leaf) notes ++ more)
           ≡ map heard_of (shown_if b (note_shown n) ++ shown_notes p.table notes) ++ heard_from p calls more
-      by true proper further =
-          let both = by_steward calls n.said proper.0 in
+      by true further =
+          let both = by_steward calls n.what in
           ap₂ (λ (f : Fed) (k : CallsLeft). heard_as n.number f ∷ heard_from p k (map (noted_line leaf) notes ++ more)) both.0 both.1
-          ∙ ap (λ (hs : List Heard). heard_as n.number (fed_of None n.said) ∷ hs) (further proper.1)
-      by false proper further = further proper
+          ∙ ap (λ (hs : List Heard). heard_as n.number (fed_of None (said_of_note n.what)) ∷ hs) further
+      by false further = further
 
-  notes_there : (leaf : ℕ) → (leaf == p.leaf) ≡ false → (calls : CallsLeft) (notes : List Noted) (more : List Line)
+  notes_there : (leaf : ℕ) → (leaf == p.leaf) ≡ false → (calls : CallsLeft) (notes : List Note) (more : List Line)
       → heard_from p calls (map (noted_line leaf) notes ++ more) ≡ heard_from p calls more
   notes_there leaf is calls [] more = refl
   notes_there leaf is calls (n ∷ notes) more =
       subst (λ (b : Bool).
-      option_to_list (some_when (b && (n.table == p.table)) (heard_as n.number (fed_by calls n.said)))
-      ++ heard_from p (if (b && (n.table == p.table)) then left_by calls n.said else calls) (map (noted_line leaf) notes ++ more)
+      option_to_list (some_when (b && (n.table == p.table)) (heard_as n.number (fed_by calls (said_of_note n.what))))
+      ++ heard_from p (if (b && (n.table == p.table)) then left_by calls (said_of_note n.what) else calls) (map (noted_line leaf) notes ++ more)
       ≡ heard_from p calls more)
       (sym is) (notes_there leaf is calls notes more)
 
@@ -271,20 +271,20 @@ module _ {p : TablePlace} where
   says_hears (line.Tailed leaf) quiet = absurd quiet
   says_hears _ quiet = record { hears = λ proper more. refl }
 
-  acted_hears : (calls : CallsLeft) (leaf : ℕ) (deed : Deed) (notes : List Noted) (ending : Ending) → Hears p calls (Acted leaf deed notes ending ∷ []) calls
+  acted_hears : (calls : CallsLeft) (leaf : ℕ) (deed : Deed) (notes : List Note) (ending : Ending) → Hears p calls (Acted leaf deed notes ending ∷ []) calls
   acted_hears calls leaf deed notes ending = record {
     hears = λ proper more.
         ap (λ (ls : List Line). heard_from p calls (ls ++ more)) (append-nil (map (noted_line leaf) notes ++ line.Ended deed leaf ending ∷ []))
         ∙ ap (λ (ls : List Line). heard_from p calls ls) (append_assoc (map (noted_line leaf) notes) (line.Ended deed leaf ending ∷ []) more)
-        ∙ by more (leaf == p.leaf) refl proper;
+        ∙ by more (leaf == p.leaf) refl;
   }
     where
-      by : (more : List Line) (b : Bool) → (leaf == p.leaf) ≡ b → AllByRecursion IsProper ((if b then shown_notes p.table notes else []) ++ [])
+      by : (more : List Line) (b : Bool) → (leaf == p.leaf) ≡ b
           → heard_from p calls (map (noted_line leaf) notes ++ line.Ended deed leaf ending ∷ more) ≡ map heard_of ((if b then shown_notes p.table notes else []) ++ []) ++ heard_from p calls more
-      by more true is proper =
-          notes_here p leaf is calls notes (subst (λ (ss : List Shown). AllByRecursion IsProper ss) (append-nil (shown_notes p.table notes)) proper) (line.Ended deed leaf ending ∷ more)
+      by more true is =
+          notes_here p leaf is calls notes (line.Ended deed leaf ending ∷ more)
           ∙ ap (λ (ss : List Shown). map heard_of ss ++ heard_from p calls more) (sym (append-nil (shown_notes p.table notes)))
-      by more false is proper = notes_there p leaf is calls notes (line.Ended deed leaf ending ∷ more)
+      by more false is = notes_there p leaf is calls notes (line.Ended deed leaf ending ∷ more)
 
   pub calm_hears : {calls : CallsLeft} (ps : List Piece) → AllByRecursion IsCalm ps → Hears p calls ps calls
   calm_hears [] calm = hears_none

@@ -2,7 +2,7 @@ use Rattle.std.proofs.Common.{◌≡◌, ◌≤◌, ◌++◌, ◌∷◌, ℕ, fa
 use Rattle.std.specs.Prelude.{take}
 use Rattle.table_state.specs.Tables.{Table, bare}
 use Rattle.leaf_table.specs.Calls.{base_seen, state_seen}
-use Rattle.leaf_steward.specs.declared.notes.Note.{Note}
+use Rattle.leaf_words.specs.declared.note.Note.{Note}
 use Rattle.leaf_steward.specs.Seated.{Seated, AreSeated, AtPlace}
 use Rattle.leaf_steward.specs.Owing.{Owing, Brings}
 use Rattle.leaf_machine.specs.States.{Shutting, IsShutting, treated}

@@ -1,6 +1,6 @@
 use Rattle.std.proofs.Common.{◌≤◌, rules}
 use Rattle.leaf_table.specs.Calls.{base_seen, state_seen}
-use Rattle.leaf_steward.specs.declared.notes.What.TheVariants as what
+use Rattle.leaf_words.specs.declared.note.What.TheVariants as what
 use Rattle.leaf_steward.proofs.Seating.{sits_at, there, steward_at, seated_after, enters}
 use Rattle.leaf_steward.proofs.seats.Seats.flushed.Goals as goal
 

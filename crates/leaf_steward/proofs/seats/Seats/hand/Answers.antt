@@ -1,5 +1,5 @@
 use Rattle.std.proofs.Common.{rules}
-use Rattle.leaf_steward.specs.declared.notes.What.TheVariants as what
+use Rattle.leaf_words.specs.declared.note.What.TheVariants as what
 use Rattle.leaf_table.specs.Calls.{SeesShut}
 use Rattle.leaf_steward.proofs.Seating.{sits_at, there, there_now, steward_at, seated_after, enters}
 use Rattle.leaf_steward.proofs.seats.Seats.hand.Goals as goal

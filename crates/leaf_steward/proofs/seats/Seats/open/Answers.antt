@@ -1,7 +1,7 @@
 use Rattle.std.proofs.Common.{arith, rules}
 use Rattle.leaf_table.specs.Turns.{is_founded, MayHandIn}
 use Rattle.leaf_table.specs.Calls.{base_seen, state_seen, IsFresh, SeesOpen, SeesShut}
-use Rattle.leaf_steward.specs.declared.notes.What.TheVariants as what
+use Rattle.leaf_words.specs.declared.note.What.TheVariants as what
 use Rattle.leaf_steward.specs.Seated.{Spares}
 use Rattle.leaf_steward.proofs.Seating.{sits_at, there, there_now, fresh_at, seated_after, spares_after, enters}
 use Rattle.leaf_steward.proofs.seats.Seats.open.Goals as goal
