@@ -1,12 +1,12 @@
 // Plays items with their standing queries: declares them, tells them, and lets them follow the lines of each item.
-ghost use Rattle.std.specs.Prelude.{◌≡◌, ◌+◌, ◌<◌, ◌≤◌, ◌++◌, ◌∷◌, [], IfErr, IfOk, OnErr, OnOk, length, map, true, false};
+ghost use Rattle.std.specs.Prelude.{◌≡◌, ◌+◌, ◌<◌, ◌≤◌, ◌++◌, ◌∷◌, [], IfOk, OnOk, length, map, true, false};
 ghost use Rattle.std.specs.List.{AllByRecursion};
 ghost use Rattle.printed_lines.specs.Lines.{IsOf};
 ghost use Rattle.printed_lines.specs.declared.line.Line.TheVariants.{Declared};
 ghost use Rattle.script_text.specs.declared.command.Command.TheVariants.{Standing, Tell};
 ghost use Rattle.script_text.specs.Fits.{TellsDeclared, declared_by};
 ghost use Rattle.standing_query.specs.Spread.{spread};
-ghost use Rattle.standing_feed.specs.Following.{new_follower, table_place_of};
+ghost use Rattle.standing_feed.specs.Following.{StayInPlace, new_follower, table_place_of};
 ghost use Rattle.transcript.specs.Pieces.{place_among};
 ghost use Rattle.transcript_standing.specs.Followed.{AreFollowers, IsFollower, TellsState};
 ghost use Rattle.player.specs.Asked.{AreGroups, IfGroups};
@@ -87,7 +87,7 @@ fn play_any<'t, R: Wait + Threads + Sync, B: Berth, G: Gate>(
     ensures lines_fit { IfOk result (λ lines. AllByRecursion (IsOf crew.old.fleet.names) lines.items) }
     ensures followers { AreFollowers crew.old.fleet followers.new.list.items }
     ensures count { OnOk result (length followers.new.list.items ≡ length followers.old.list.items + declared_by item) }
-    ensures refused { OnErr result (length followers.new.list.items ≡ length followers.old.list.items) }
+    ensures places { StayInPlace followers.old.list.items followers.new.list.items }
 {
     match item {
         Item::One(command) => match command.split() {
@@ -117,7 +117,7 @@ fn declare<'t, B: Berth>(
         ++ new_follower leaf (place_among query.table crew.now.fleet.names) query ∷ []) }
     ensures followers { AreFollowers crew.now.fleet followers.new.list.items }
     ensures count { OnOk result (length followers.new.list.items ≡ length followers.old.list.items + 1) }
-    ensures refused { OnErr result (length followers.new.list.items ≡ length followers.old.list.items) }
+    ensures places { StayInPlace followers.old.list.items followers.new.list.items }
 {
     let mut lines = Vec::with_capacity(alloc, 1)?;
     let number = followers.count();
@@ -147,6 +147,7 @@ fn tell<'t, R: Wait + Threads + Sync, B: Berth, G: Gate>(
     ensures time { AllPass B.meaning crew.old.holds crew.new.holds }
     ensures followers { AreFollowers crew.old.fleet followers.new.list.items }
     ensures count { length followers.new.list.items ≡ length followers.old.list.items }
+    ensures places { StayInPlace followers.old.list.items followers.new.list.items }
 {
     let follower = &mut followers.list[standing as usize];
     if follower.standing.stale() {

@@ -1,2 +1,4 @@
 pub mod Heeding
+pub mod Kept
+pub mod Noted
 pub mod Followed

@@ -1,5 +1,5 @@
 -- What the state of a standing query comes to by the entries of its table that are heard.
-use Rattle.std.specs.Prelude.{◌≡◌, ℕ, ◌+◌, ◌<◌, ◌≤◌, ◌||◌, true, false, List, [], ◌∷◌, IsPermutation, MatchBool, if◌then◌else◌}
+use Rattle.std.specs.Prelude.{◌≡◌, ℕ, ◌+◌, ◌<◌, ◌≤◌, ◌||◌, true, false, List, [], ◌∷◌, IsPermutation, MatchBool, if◌then◌else◌, Option, None, Some, IfSome, ⊤}
 use Rattle.std.specs.List.Sorted.{IsNonDecreasingBy}
 use Rattle.row_model.specs.declared.rows.Row.{Row}
 use Rattle.standing_query.specs.States.{FedTo, Means, StandingState, is_end}
@@ -10,6 +10,7 @@ use Rattle.printed_lines.specs.declared.line.Line.{Line}
 use Rattle.standing_feed.specs.declared.heard.Heard.{Heard}
 use Rattle.standing_feed.specs.declared.meant.Meant.{Meant}
 use Rattle.standing_feed.specs.declared.follower.Follower.{Follower}
+use Rattle.standing_feed.specs.declared.place.TableAt.{TableAt}
 use Rattle.standing_feed.specs.Hearing.{TablePlace, heard, meant_in}
 
 -- the next entry was fed, and there was memory for it
@@ -63,6 +64,37 @@ table_place_of f = record { leaf = f.leaf; table = f.table; name = f.standing.qu
 -- what an item means to a follower's table; nothing if its state is stale
 abbrev pub meant_for : Item → Follower → List Meant
 meant_for x f = if f.standing.stale then [] else meant_in (table_place_of f) x
+
+-- the calls of an item at a table
+pub record CallsAt : Type 0 where
+  pub at : TableAt
+  pub calls : List Meant
+
+abbrev pub table_of : Follower → TableAt
+table_of f = record { leaf = f.leaf; table = f.table }
+
+-- the calls at a follower's table; none if its state is stale
+abbrev pub calls_for : Item → Follower → Option CallsAt
+calls_for x f = if f.standing.stale then None else Some (record { at = table_of f; calls = meant_in (table_place_of f) x })
+
+-- the calls that a follower noted, if it noted any
+abbrev pub calls_in : Option CallsAt → List Meant
+calls_in None = []
+calls_in (Some c) = c.calls
+
+-- what was noted is at the follower's table
+abbrev pub IsFor : Option CallsAt → Follower → Type 0
+IsFor noted f = IfSome noted (λ c. c.at ≡ table_of f)
+
+-- the same of the first followers, one after another
+abbrev pub AreFor : List (Option CallsAt) → List Follower → Type 0
+AreFor [] fs = ⊤
+AreFor (noted ∷ others) [] = ⊥
+AreFor (noted ∷ others) (f ∷ fs) = IsFor noted f × AreFor others fs
+
+-- what was noted of followers is at their tables still
+abbrev pub StayInPlace : List Follower → List Follower → Type 0
+StayInPlace olds news = (noted : List (Option CallsAt)) → AreFor noted olds → AreFor noted news
 
 -- the follower after the lines of an item that it took note of; a stale one hears nothing
 pub record Follows (calls : List Meant) (lines : List Line) (old new : Follower) : Type 0 where

@@ -18,6 +18,7 @@ use Rattle.printed_lines.specs.declared.line.Said.{Said}
 use Rattle.printed_lines.specs.declared.line.Said.TheVariants as said
 use Rattle.standing_query.specs.declared.fed.Fed.{Fed}
 use Rattle.standing_query.specs.declared.fed.Fed.TheVariants as fed
+use Rattle.standing_feed.specs.declared.place.TableAt.{TableAt}
 use Rattle.standing_feed.specs.declared.place.QueryPlace as lent
 use Rattle.standing_feed.specs.declared.meant.Meant.{Meant}
 use Rattle.standing_feed.specs.declared.meant.Meant.TheVariants as meant
@@ -31,8 +32,11 @@ pub record TablePlace : Type 0 where
   pub table : ℕ
   pub name : List ℕ
 
+abbrev pub named : TableAt → List ℕ → TablePlace
+named at name = record { leaf = at.leaf; table = at.table; name = name }
+
 abbrev pub place_in : lent.QueryPlace → TablePlace
-place_in p = record { leaf = p.leaf; table = p.table; name = p.name.now }
+place_in p = named p.at p.name.now
 
 abbrev pub is_at : TablePlace → ℕ → ℕ → Bool
 is_at p leaf table = (leaf == p.leaf) && (table == p.table)

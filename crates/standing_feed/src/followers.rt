@@ -1,15 +1,15 @@
 // The standing queries of a run.
-ghost use Rattle.std.specs.Prelude.{◌≡◌, ◌<◌, ◌≤◌, ◌^◌, ◌++◌, ◌∷◌, [], map, length, IfOk, OnErr, OnOk};
-ghost use Rattle.standing_feed.specs.Following.{FollowAll, new_follower, meant_for, table_place_of};
+ghost use Rattle.std.specs.Prelude.{◌≡◌, ◌<◌, ◌^◌, ◌++◌, ◌∷◌, [], map, length, IfOk, IfSome, OnErr, OnOk, slice_index_or};
+ghost use Rattle.standing_feed.specs.Following.{AreFor, FollowAll, calls_for, calls_in, meant_for, new_follower, table_place_of};
+ghost use Rattle.standing_feed.specs.Sharing.{IsLike};
 
+use crate::followed_calls::FollowedCalls;
 use crate::follower::Follower;
-use crate::meant::Meant;
 use crate::teller::Teller;
 use leaf_model::Query;
 use printed_lines::Line;
 use script_text::Item;
 use std::alloc::{AllocError, Global};
-use std::collections::VecDeque;
 
 /// The standing queries that were declared, in the order of their declarations.
 #[derive(Drop)]
@@ -56,16 +56,19 @@ impl Followers {
         Ok(())
     }
 
-    /// For each standing query what an item means to its table, as a list.
-    pub fn note(&self, alloc: Global, item: &Item) -> Result<Vec<Vec<Meant>>, AllocError>
-        ensures { IfOk result (λ notes. map (λ (calls : _). calls.items) notes.items
-            ≡ map (meant_for item.now) self.now.list.items) }
+    /// For each standing query the calls of an item at its table.
+    pub fn note(&self, alloc: Global, item: &Item) -> Result<FollowedCalls, AllocError>
+        ensures calls { IfOk result (λ noted. map calls_in noted ≡ map (meant_for item.now) self.now.list.items) }
+        ensures places { IfOk result (λ noted. AreFor noted self.now.list.items) }
     {
-        let mut notes = Vec::new(alloc);
-        for follower in self.list.as_slice() {
-            notes.push(follower.note(alloc, item)?)?;
+        let mut noted = FollowedCalls::new(alloc);
+        let list = self.list.as_slice();
+        let mut place: usize = 0;
+        while place < list.len() {
+            note_next(alloc, &list[..place], &list[place], item, &mut noted)?;
+            place += 1;
         }
-        Ok(notes)
+        Ok(noted)
     }
 
     /// Feeds each what the lines of the item tell of its table. Those that were declared after the notes were taken
@@ -73,20 +76,51 @@ impl Followers {
     pub fn follow(
         &mut self,
         alloc: Global,
-        notes: Vec<Vec<Meant>>,
+        noted: FollowedCalls,
         lines: &[Line],
     ) -> Result<(), AllocError>
-        requires as_many { length notes.items ≤ length self.old.list.items }
+        requires places { AreFor noted self.old.list.items }
         ensures places { map table_place_of self.new.list.items ≡ map table_place_of self.old.list.items }
-        ensures follow { OnOk result (FollowAll (map (λ calls. calls.items) notes.items) lines.now self.old.list.items
+        ensures follow { OnOk result (FollowAll (map calls_in noted) lines.now self.old.list.items
             self.new.list.items) }
     {
-        let mut rest = VecDeque::from_vec(notes);
+        let mut entries = noted.hear(alloc, lines)?;
         let mut place: usize = 0;
-        while let Some(calls) = rest.pop_front() {
-            self.list[place].follow(alloc, calls, lines)?;
+        while place < self.list.len() {
+            entries.feed_next(alloc, lines, &mut self.list[place])?;
             place += 1;
         }
         Ok(())
     }
+}
+
+// Notes one more, after those before it.
+fn note_next(
+    alloc: Global,
+    before: &[Follower],
+    follower: &Follower,
+    item: &Item,
+    noted: &mut FollowedCalls,
+) -> Result<(), AllocError>
+    requires { noted.old ≡ map (calls_for item.now) before.now }
+    ensures { OnOk result (noted.new ≡ noted.old ++ calls_for item.now follower.now ∷ []) }
+{
+    match first_like(before, follower) {
+        Some(place) => noted.share(place),
+        None => noted.keep(follower.note(alloc, item)?),
+    }
+}
+
+fn first_like(before: &[Follower], follower: &Follower) -> Option<usize>
+    ensures { IfSome result (λ place. (place < length before.now)
+        × IsLike (slice_index_or before.now place follower.now) follower.now) }
+{
+    let mut place: usize = 0;
+    for other in before {
+        if other.is_like(follower) {
+            return Some(place);
+        }
+        place += 1;
+    }
+    None
 }

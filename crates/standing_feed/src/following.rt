@@ -1,16 +1,18 @@
 // How a standing query follows its leaf's table.
-ghost use Rattle.std.specs.Prelude.{◌≡◌, ◌<◌, true, false, IfOk, OnOk};
+ghost use Rattle.std.specs.Prelude.{◌≡◌, ◌<◌, [], true, false, IfOk, OnOk};
+ghost use Rattle.std.specs.Option.{option_map};
 ghost use Rattle.standing_query.specs.States.{IsSpread};
 ghost use Rattle.standing_feed.specs.Answering.{IsAnswerOf};
 ghost use Rattle.standing_feed.specs.Hearing.{place_in};
-ghost use Rattle.standing_feed.specs.Following.{Follows, Heeds, HeedsAll, meant_for, table_place_of, settled};
+ghost use Rattle.standing_feed.specs.Following.{Follows, Heeds, HeedsAll, calls_for, settled, table_of, table_place_of};
+ghost use Rattle.standing_feed.specs.Sharing.{HeedsTable, IsLike, calls_at};
 
 use crate::follower::Follower;
 use crate::heard::Heard;
-use crate::hearing::{hear_all, in_order};
+use crate::hearing::hear_table;
 use crate::meaning::meant_in;
-use crate::meant::Meant;
-use crate::place::QueryPlace;
+use crate::place::{QueryPlace, TableAt};
+use crate::table_calls::TableCalls;
 use crate::teller::Teller;
 use leaf_model::{Groups, Texts};
 use printed_lines::Line;
@@ -20,43 +22,88 @@ use std::alloc::{AllocError, Global};
 use std::collections::VecDeque;
 
 impl Follower {
+    fn at(&self) -> TableAt
+        ensures { result ≡ table_of self.now }
+    {
+        TableAt {
+            leaf: self.leaf,
+            table: self.table,
+        }
+    }
+
     fn place(&self) -> QueryPlace
         ensures { place_in result ≡ table_place_of self.now }
     {
         QueryPlace {
-            leaf: self.leaf,
-            table: self.table,
+            at: self.at(),
             name: &self.standing.query().table,
         }
     }
 
-    /// What an item means to the table. The list is empty if the state is stale.
-    pub fn note(&self, alloc: Global, item: &Item) -> Result<Vec<Meant>, AllocError>
-        ensures { IfOk result (λ calls. calls.items ≡ meant_for item.now self.now) }
+    /// The calls of an item at the table, or nothing if the state is stale.
+    pub fn note(&self, alloc: Global, item: &Item) -> Result<Option<TableCalls>, AllocError>
+        ensures { IfOk result (λ calls. option_map calls_at calls ≡ calls_for item.now self.now) }
     {
         if self.standing.stale() {
-            Ok(Vec::new(alloc))
-        } else {
-            meant_in(alloc, &self.place(), item)
+            return Ok(None);
         }
+        let calls = meant_in(alloc, &self.place(), item)?;
+        Ok(Some(TableCalls {
+            at: self.at(),
+            calls,
+        }))
     }
 
-    /// Feeds the state the entries of the table that the lines of the item tell, in the order of their numbers. A stale
-    /// state hears nothing. After an `Err` it is still of the same table, and nothing else is claimed.
-    pub fn follow(
-        &mut self,
-        alloc: Global,
-        calls: Vec<Meant>,
-        lines: &[Line],
-    ) -> Result<(), AllocError>
+    /// Whether an item means the same to both.
+    pub fn is_like(&self, other: &Follower) -> bool
+        ensures { result ≡ true → IsLike self.now other.now }
+    {
+        self.leaf == other.leaf
+            && self.table == other.table
+            && self.standing.stale() == other.standing.stale()
+            && self.standing.query().table.as_str() == other.standing.query().table.as_str()
+    }
+
+    /// Feeds the state the entries of the table that the lines of the item tell. It was stale when the item was noted,
+    /// so the calls of the item are not known. After an `Err` it is still of the same table, and nothing else is
+    /// claimed.
+    pub fn follow_unnoted(&mut self, alloc: Global, lines: &[Line]) -> Result<(), AllocError>
         ensures place { table_place_of self.new ≡ table_place_of self.old }
-        ensures follows { OnOk result (Follows calls.items lines.now self.old self.new) }
+        ensures follows { OnOk result (Follows [] lines.now self.old self.new) }
     {
         if self.standing.stale() {
             return Ok(());
         }
-        let heard = in_order(hear_all(alloc, &self.place(), calls, lines)?)?;
+        let none = TableCalls {
+            at: self.at(),
+            calls: Vec::new(alloc),
+        };
+        let heard = hear_table(alloc, none, lines)?;
         heed_all(&mut self.standing, heard)
+    }
+
+    /// Feeds the state these entries, if it is fresh. After an `Err` it is still of the same table, and nothing else is
+    /// claimed.
+    pub fn heed(&mut self, heard: Vec<Heard>) -> Result<(), AllocError>
+        ensures place { table_place_of self.new ≡ table_place_of self.old }
+        ensures heeds { OnOk result (HeedsTable heard.items self.old self.new) }
+    {
+        if self.standing.stale() {
+            return Ok(());
+        }
+        heed_all(&mut self.standing, heard)
+    }
+
+    /// Feeds the state copies of these entries, if it is fresh. After an `Err` it is still of the same table, and
+    /// nothing else is claimed.
+    pub fn heed_copies(&mut self, heard: &[Heard]) -> Result<(), AllocError>
+        ensures place { table_place_of self.new ≡ table_place_of self.old }
+        ensures heeds { OnOk result (HeedsTable heard.now self.old self.new) }
+    {
+        if self.standing.stale() {
+            return Ok(());
+        }
+        heed_copies(&mut self.standing, heard)
     }
 
     /// Makes a stale state fresh, by the groups that the table answered in the entry of this number.
@@ -91,17 +138,47 @@ fn heed_all(standing: &mut Teller, heard: Vec<Heard>) -> Result<(), AllocError>
     Ok(())
 }
 
-// An entry that the state knows already changes nothing. A state that missed an entry is stale.
+// Copies of entries in the order of their numbers. One that the state knows already is not copied.
+fn heed_copies(standing: &mut Teller, heard: &[Heard]) -> Result<(), AllocError>
+    ensures query { standing.new.query ≡ standing.old.query }
+    ensures heeds { OnOk result (HeedsAll standing.old heard.now standing.new) }
+{
+    for entry in heard {
+        heed_copy(standing, entry)?;
+    }
+    Ok(())
+}
+
+fn heed_copy(standing: &mut Teller, heard: &Heard) -> Result<(), AllocError>
+    ensures query { standing.new.query ≡ standing.old.query }
+    ensures heeds { OnOk result (Heeds standing.old heard.now standing.new) }
+{
+    if heard.number <= standing.upto() {
+        return Ok(());
+    }
+    heed_later(standing, heard.copy()?)
+}
+
+// An entry that the state knows already changes nothing.
 fn heed(standing: &mut Teller, heard: Heard) -> Result<(), AllocError>
     ensures query { standing.new.query ≡ standing.old.query }
     ensures heeds { OnOk result (Heeds standing.old heard standing.new) }
 {
-    let upto = standing.upto();
-    if heard.number <= upto {
+    if heard.number <= standing.upto() {
         return Ok(());
     }
-    if heard.number == upto + 1 {
-        return standing.feed(heard.number, heard.fed);
+    heed_later(standing, heard)
+}
+
+// A state that missed an entry is stale.
+fn heed_later(standing: &mut Teller, heard: Heard) -> Result<(), AllocError>
+    requires { standing.old.upto < heard.number }
+    ensures query { standing.new.query ≡ standing.old.query }
+    ensures heeds { OnOk result (Heeds standing.old heard standing.new) }
+{
+    let next = standing.upto() + 1;
+    if heard.number == next {
+        return standing.feed(next, heard.fed);
     }
-    standing.feed(upto + 1, Fed::Opened)
+    standing.feed(next, Fed::Opened)
 }

@@ -2,6 +2,8 @@
 #![tactic(auto)]
 
 mod calls;
+mod followed_calls;
+mod followed_entries;
 mod follower;
 mod followers;
 mod following;
@@ -10,8 +12,10 @@ mod hearing;
 mod meaning;
 mod meant;
 mod place;
+mod table_calls;
 mod teller;
 
+pub use followed_calls::FollowedCalls;
 pub use follower::Follower;
 pub use followers::Followers;
 pub use heard::Heard;

@@ -1,7 +1,7 @@
 // What the commands of an item mean to a table.
 ghost use Rattle.std.specs.Prelude.{◌≡◌, ◌++◌, IfOk, OnOk, option_to_list};
 ghost use Rattle.std.specs.List.{flat_map};
-ghost use Rattle.standing_feed.specs.Hearing.{is_at, meant_by, meant_in, meant_lane, place_in, some_when};
+ghost use Rattle.standing_feed.specs.Hearing.{meant_by, meant_in, meant_lane, place_in, some_when};
 ghost use Rattle.standing_feed.specs.declared.meant.Meant.TheVariants.{Add};
 
 use crate::meant::Meant;
@@ -9,13 +9,6 @@ use crate::place::QueryPlace;
 use leaf_model::Rows;
 use script_text::{Command, Commands, Item};
 use std::alloc::{AllocError, Global};
-
-/// Whether the place is this leaf's table.
-pub fn is_at(place: &QueryPlace, leaf: u32, table: u32) -> bool
-    ensures { result ≡ is_at (place_in place.now) leaf table }
-{
-    leaf == place.leaf && table == place.table
-}
 
 /// The calls of callers by which an item will print lines of the table, lane by lane.
 pub fn meant_in(alloc: Global, place: &QueryPlace, item: &Item) -> Result<Vec<Meant>, AllocError>
@@ -69,21 +62,21 @@ fn meant_by(place: &QueryPlace, command: &Command) -> Result<Option<Meant>, Allo
     ensures { IfOk result (λ call. call ≡ meant_by (place_in place.now) command.now) }
 {
     match command {
-        Command::Add { leaf, table, rows } => add_meant(is_at(place, *leaf, *table), rows),
+        Command::Add { leaf, table, rows } => add_meant(place.at.is_at(*leaf, *table), rows),
         Command::Expire {
             leaf,
             table,
             horizon,
-        } => Ok(some_when(is_at(place, *leaf, *table), Meant::Expire(*horizon))),
+        } => Ok(some_when(place.at.is_at(*leaf, *table), Meant::Expire(*horizon))),
         Command::Keep { leaf, table, .. } => {
-            Ok(some_when(is_at(place, *leaf, *table), Meant::Keep))
+            Ok(some_when(place.at.is_at(*leaf, *table), Meant::Keep))
         }
         Command::Query(query) => Ok(some_when(
             query.table.as_str() == place.name.as_str(),
             Meant::Ask,
         )),
         Command::Tail { table, rows, .. } => {
-            Ok(Some(Meant::Tail(copy_when(*table == place.table, rows)?)))
+            Ok(Some(Meant::Tail(copy_when(*table == place.at.table, rows)?)))
         }
         Command::Fleet { .. }
         | Command::Flush { .. }

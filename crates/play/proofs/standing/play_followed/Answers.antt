@@ -1,13 +1,12 @@
 use Rattle.std.proofs.Common.{map, rules, subst}
-use Rattle.script_text.specs.Fits.{declared_by}
-use Rattle.standing_feed.specs.Following.{FollowAll, meant_for}
+use Rattle.standing_feed.specs.Following.{FollowAll, calls_in}
 use Rattle.play.proofs.OwnItems.{followed_lines, lost_as}
-use Rattle.play.proofs.OwnFollowers.{followers_stay, notes_within}
+use Rattle.play.proofs.OwnFollowers.{followers_stay}
 use Rattle.play.proofs.standing.play_followed.Goals as goal
 
 pub follow-requires : goal.follow-requires
 follow-requires g c = record {
-  as_many = notes_within (λ calls. calls.items) (meant_for c.args.item) c.in_ok-notes.notes.items c.args.followers.now.list.items _ (declared_by c.args.item) c.in_ok-notes.ensures c.in_ok-lines.ensures.count;
+  places = c.play_any.ensures.places c.in_ok-notes.notes c.in_ok-notes.ensures.places;
 }
 
 pub returns-in_err-follow-clause-did : goal.returns-in_err-follow-clause-did
@@ -21,8 +20,8 @@ returns-in_err-lines-clause-did g c =
 pub returns-clause-did : goal.returns-clause-did
 returns-clause-did g c =
     followed_lines g.B.Berth.meaning c.args.crew.now.fleet c.args.item c.args.followers.now.list.items c.play_any.new.followers.list.items c.follow.new.self.list.items c.args.crew.now.holds c.play_any.new.crew.holds _ _
-    c.in_ok-lines.lines.items (map (λ calls. calls.items) c.in_ok-notes.notes.items) c.in_ok-notes.ensures
-    (subst (λ lines. FollowAll (map (λ calls. calls.items) c.in_ok-notes.notes.items) lines c.play_any.new.followers.list.items c.follow.new.self.list.items) c.as_slice.ensures.value c.in_ok-follow.ensures.follow)
+    c.in_ok-lines.lines.items (map calls_in c.in_ok-notes.notes) c.in_ok-notes.ensures.calls
+    (subst (λ lines. FollowAll (map calls_in c.in_ok-notes.notes) lines c.play_any.new.followers.list.items c.follow.new.self.list.items) c.as_slice.ensures.value c.in_ok-follow.ensures.follow)
     c.in_ok-lines.ensures.did
 
 pub returns-in_err-follow-clause-followers : goal.returns-in_err-follow-clause-followers

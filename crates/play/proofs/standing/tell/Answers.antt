@@ -1,5 +1,8 @@
-use Rattle.std.proofs.Common.{length, refl, sym}
+use Rattle.std.proofs.Common.{length, refl, set, sym, ap, ◌∙◌}
+use Rattle.std.proofs.Math.Seq.{map-set_same}
 use Rattle.std.proofs.lemmas.Option.{slice_get_read}
+use Rattle.standing_feed.specs.Following.{table_place_of}
+use Rattle.play.proofs.OwnFollowers.{same_tables}
 use Rattle.play.proofs.OwnItems.{one_told, tells_fresh}
 use Rattle.play.proofs.standing.tell.Goals as goal
 
@@ -18,3 +21,17 @@ returns-else-stale-clause-plays g c =
     let now = c.tell_fresh.new.follower in
     one_told g.B.Berth.meaning c.args.crew.now.fleet c.args.standing olds _ f now c.args.crew.now.holds c.args.crew.now.holds c.tell_fresh.result at refl
     (tells_fresh g.B.Berth.meaning c.args.crew.now.fleet c.args.standing f now c.args.crew.now.holds c.tell_fresh.result (sym c.if-stale.ensures) c.tell_fresh.ensures.same c.tell_fresh.ensures.told)
+
+pub returns-then-stale-clause-places : goal.returns-then-stale-clause-places
+returns-then-stale-clause-places g c =
+    let olds = c.args.followers.now.list.items in
+    let f = c.index_mut-follower.result.now in
+    let now = c.tell_stale.new.follower in
+    same_tables olds (set olds c.args.standing now) (map-set_same table_place_of olds c.args.standing now f (c.tell_stale.ensures.place ∙ ap table_place_of c.index_mut-follower.ensures.value))
+
+pub returns-else-stale-clause-places : goal.returns-else-stale-clause-places
+returns-else-stale-clause-places g c =
+    let olds = c.args.followers.now.list.items in
+    let f = c.index_mut-follower.result.now in
+    let now = c.tell_fresh.new.follower in
+    same_tables olds (set olds c.args.standing now) (map-set_same table_place_of olds c.args.standing now f (ap table_place_of (c.tell_fresh.ensures.same ∙ c.index_mut-follower.ensures.value)))

@@ -1,17 +1,10 @@
-use Rattle.std.proofs.Common.{◌≡◌, ◌+◌, ◌≤◌, ◌++◌, List, map, length, take, drop}
-use Rattle.std.specs.VecDeque.{deque_len}
-use Rattle.standing_feed.specs.declared.follower.Follower.{Follower}
-use Rattle.standing_feed.specs.Following.{FollowAll, table_place_of}
+use Rattle.std.proofs.Common.{◌-◌, length}
+use Rattle.standing_feed.proofs.Followed.{FollowedSome}
 use Rattle.standing_feed.proofs.followers.Followers.follow.Given as goal
 
--- those in front have followed, and those behind stand as they did
-abbrev pub invariant-loop-calls : goal.invariant-loop-calls
-invariant-loop-calls l = record {
-  places : map table_place_of l.self.list.items ≡ map table_place_of l.initial.self.list.items;
-  room : l.place + length l.rest.items ≤ length l.self.list.items;
-  so_far : (news : List Follower) → FollowAll (map (λ calls. calls.items) l.rest.items) l.lines (drop l.place l.self.list.items) news
-      → FollowAll (map (λ calls. calls.items) l.fn.notes.items) l.lines l.initial.self.list.items (take l.place l.self.list.items ++ news);
-}
+-- those in front have followed, and the entries of the others are left
+abbrev pub invariant-loop-place : goal.invariant-loop-place
+invariant-loop-place l = FollowedSome l.lines l.fn.noted l.initial.self.list.items l.self.list.items l.place l.entries
 
-abbrev pub decreases-loop-calls : goal.decreases-loop-calls
-decreases-loop-calls l = deque_len l.rest
+abbrev pub decreases-loop-place : goal.decreases-loop-place
+decreases-loop-place l = length l.self.list.items - l.place
