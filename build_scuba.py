@@ -481,7 +481,7 @@ def main(name, *words):
         say(f"{error.crate.name} was not built (status {error.status}); the whole of what it printed is in {error.crate.log}")
         return 1
     except OtherWords as error:
-        say(f"{error}: rt run builds the program, one crate after another (from nothing it takes about 25 minutes)")
+        say(f"{error}: rt run builds the program, one crate after another (from nothing it takes some 40 minutes)")
         for it in held:
             os.close(it)
         has_built, status = True, by_rt(name, words, began)
